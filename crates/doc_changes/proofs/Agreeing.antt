@@ -3,7 +3,7 @@ use Rattle.std.proofs.Common.{◌≡◌, ℕ, inl, inr, List, [], ◌∷◌, ◌
 use Rattle.std.specs.Option.{option_and_then}
 use Rattle.doc_tree.specs.Doc.{Doc, null, boolean, int, text, list, object, Elements, Members, Place, name, index, child, get_element, get_member}
 use Rattle.doc_tree.specs.Place.{place_of}
-use Rattle.doc_tree.specs.View.{elements_view}
+use Rattle.doc_tree.specs.TreeView.{elements_view}
 use Rattle.doc_tree.specs.declared.tree.Step.{Step}
 use Rattle.doc_tree.specs.declared.tree.Tree.{Tree}
 use Rattle.doc_pointer.specs.Place.{child_named}

@@ -8,7 +8,7 @@ use Rattle.indexmap.specs.IndexMap.{insert_entry, shift_remove_entry}
 use Rattle.indexmap.specs.Layout.{set_value_at}
 use Rattle.indexmap.proofs.MapLemmas.{absent_from_lookup, insert_entry-absent, remove_entry-first, Found-position}
 use Rattle.doc_changes.specs.State.{Document, find, changed, without}
-use Rattle.doc_changes.specs.View.{document_of, named, IsStoredAt}
+use Rattle.doc_changes.specs.StateView.{document_of, named, IsStoredAt}
 use Rattle.doc_changes.specs.declared.stored.Stored.{Stored}
 
 abbrev pub Entry : Type 0

@@ -8,7 +8,7 @@ use Rattle.doc_changes.specs.Refusals.{first, refused_if}
 use Rattle.doc_changes.specs.declared.refusal.Refusal.{Refusal}
 use Rattle.doc_changes.proofs.Judgements.{judged_whole}
 use Rattle.doc_tree.specs.Doc.{Doc}
-use Rattle.doc_tree.specs.View.{view}
+use Rattle.doc_tree.specs.TreeView.{view}
 use Rattle.doc_tree.specs.declared.tree.Tree.{Tree}
 use Rattle.record_text.specs.Change.{Change, create, patch, set_schema, delete}
 use Rattle.doc_changes.specs.Judged.{IsJudged, IsJudgedIn, IsRead, IsReady, IsSoundChange, RefusesIn}

@@ -7,7 +7,7 @@ use Rattle.indexmap.specs.Layout.{set_value_at}
 use Rattle.doc_tree.specs.Doc.{Doc}
 use Rattle.doc_schema.specs.Judge.{Judges}
 use Rattle.doc_tree.specs.Sound.{IsSound}
-use Rattle.doc_tree.specs.View.{view}
+use Rattle.doc_tree.specs.TreeView.{view}
 use Rattle.doc_patch.specs.Measured.{Reverses, CanReverse, reversed}
 use Rattle.doc_edits.specs.Operation.{Operation}
 use Rattle.doc_patch.specs.Patch.{patch}
@@ -25,7 +25,7 @@ use Rattle.doc_changes.specs.State.{Document, Good, IsStorable, find, changed}
 use Rattle.doc_changes.specs.Schema.{is_valid}
 use Rattle.doc_changes.specs.Step.{refusal_at, name_refusal, absent_refusal, revision_refusal, patch_refusal, outcome_refusal, invalid_refusal}
 use Rattle.doc_changes.specs.Undo.{IsMade, IsMadeForGood, reversed_doc}
-use Rattle.doc_changes.specs.View.{document_of, kept_state, named}
+use Rattle.doc_changes.specs.StateView.{document_of, kept_state, named}
 use Rattle.doc_changes.specs.declared.stored.Stored.{Stored}
 use Rattle.doc_changes.specs.declared.judged.Judged.{Judged}
 use Rattle.doc_changes.specs.declared.undo.Undo.TheVariants as undo

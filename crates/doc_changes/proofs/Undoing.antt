@@ -10,7 +10,7 @@ use Rattle.indexmap.proofs.SetLemmas.{map-insert}
 use Rattle.indexmap.specs.IndexMap.{insert_entry, move_index}
 use Rattle.doc_changes.specs.State.{Document, AreDistinct, find, changed}
 use Rattle.doc_changes.specs.Undo.{with_rules, reversed_doc}
-use Rattle.doc_changes.specs.View.{document_of}
+use Rattle.doc_changes.specs.StateView.{document_of}
 use Rattle.doc_changes.specs.declared.stored.Stored.{Stored}
 use Rattle.std.specs.Prelude.{unwrap_or}
 use Rattle.doc_tree.specs.Doc.{Doc}

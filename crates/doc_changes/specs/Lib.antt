@@ -3,11 +3,11 @@ pub mod Names
 pub mod Refusals
 pub mod Schema
 pub mod State
-pub mod Coded
+pub mod CodedState
 pub mod Patched
 pub mod Step
 pub mod Reading
-pub mod View
+pub mod StateView
 pub mod Judged
 pub mod Undo
 pub mod Patching

@@ -1,6 +1,6 @@
 -- Changes that were made in memory and can be taken back.
 use Rattle.std.specs.Prelude.{◌≡◌, ℕ, ◌-◌, ◌<◌, ◌≤◌, true, List, Some, is_some, length, take, insert, string_bytes}
-use Rattle.doc_tree.specs.View.{view}
+use Rattle.doc_tree.specs.TreeView.{view}
 use Rattle.doc_patch.specs.Measured.{CanReverse, reversed}
 use Rattle.doc_patch.specs.declared.document.Reversal.{Reversal}
 use Rattle.doc_tree.specs.declared.tree.Tree.{Tree}
@@ -9,7 +9,7 @@ use Rattle.record_text.specs.Change.{Change}
 use Rattle.doc_changes.specs.Judged.{IsJudgedIn}
 use Rattle.doc_changes.specs.Step.{documents_after}
 use Rattle.doc_changes.specs.declared.judged.Judged.{Judged}
-use Rattle.doc_changes.specs.View.{named}
+use Rattle.doc_changes.specs.StateView.{named}
 use Rattle.doc_changes.specs.declared.undo.Undo.{Undo}
 use Rattle.doc_changes.specs.declared.undo.Undo.TheVariants.{Added, Patched, Ruled, Removed}
 

@@ -1,7 +1,7 @@
 //! Whether what a patch made of a valid document is valid.
 ghost use Rattle.std.specs.Prelude.{◌≡◌, Ok, true};
 ghost use Rattle.doc_tree.specs.Doc.{Doc};
-ghost use Rattle.doc_tree.specs.View.{view};
+ghost use Rattle.doc_tree.specs.TreeView.{view};
 ghost use Rattle.doc_patch.specs.Meaning.{operations};
 ghost use Rattle.doc_patch.specs.Patch.{patch};
 ghost use Rattle.doc_schema.specs.Judge.{Judges};

@@ -2,7 +2,7 @@
 ghost use Rattle.std.specs.Prelude.{◌≡◌, ◌<◌};
 ghost use Rattle.std.specs.Result.{result_err};
 ghost use Rattle.doc_tree.specs.Sound.{IsSound};
-ghost use Rattle.doc_tree.specs.View.{view};
+ghost use Rattle.doc_tree.specs.TreeView.{view};
 ghost use Rattle.doc_changes.specs.Step.{revision_refusal, name_refusal, exists_refusal, absent_refusal, room_refusal, depth_refusal, size_refusal, seq_refusal};
 ghost use Rattle.doc_changes.specs.declared.limits.TheConstants.{LAST_SEQ};
 

@@ -1,10 +1,10 @@
 //! Documents that are lent to read and to judge.
 ghost use Rattle.std.specs.Prelude.{◌≡◌, None, Ok, Err, is_some, map, MatchOption, MatchResult};
-ghost use Rattle.doc_tree.specs.View.{view};
+ghost use Rattle.doc_tree.specs.TreeView.{view};
 ghost use Rattle.doc_changes.specs.Reading.{document_at, names_of, revision_at, schema_at, value_at};
 ghost use Rattle.doc_changes.specs.Refusals.{plain};
 ghost use Rattle.doc_changes.specs.State.{Good, find};
-ghost use Rattle.doc_changes.specs.View.{IsStoredAt, kept_state, named};
+ghost use Rattle.doc_changes.specs.StateView.{IsStoredAt, kept_state, named};
 ghost use Rattle.refusals.specs.declared.numbers.TheConstants.{MEMORY};
 
 use crate::stored::Stored;
@@ -26,13 +26,13 @@ pub struct Documents<'m> {
 
 impl<'m> Model for Documents<'m> {
     ghost use Rattle.doc_changes.specs.State.{State, Good};
-    ghost use Rattle.doc_changes.specs.Coded.{coded_state};
+    ghost use Rattle.doc_changes.specs.CodedState.{coded_state};
 
     ghost Value = { State };
 
     ghost coded = { coded_state };
 
-    ghost use Rattle.doc_changes.specs.View.{seen_of};
+    ghost use Rattle.doc_changes.specs.StateView.{seen_of};
 
     ghost view = { seen_of };
 
@@ -104,11 +104,18 @@ impl<'m> Documents<'m> {
             (λ r. document_at self.now name.now ≡ Err r) }
         ensures good { Good self.now }
     {
-        let _ = &self.seq;
+        self.know();
         if !is_valid_name(name) {
             return Err(Refusal::plain(NAME));
         }
         self.stored(name).ok_or(Refusal::plain(NO_DOCUMENT))
+    }
+
+    // For the prover alone: who calls it knows from there on that the documents are good.
+    pub(crate) fn know(&self)
+        ensures { Good self.now }
+    {
+        let _ = &self.seq;
     }
 
     // Whether a document has that name.

@@ -1,7 +1,7 @@
 //! Why a change is refused: a judgement only reads.
 ghost use Rattle.std.specs.Prelude.{◌≡◌, ◌⊎◌, Ok, Err, IfOk, IfErr, MatchResult};
 ghost use Rattle.doc_tree.specs.Sound.{IsSound};
-ghost use Rattle.doc_tree.specs.View.{view};
+ghost use Rattle.doc_tree.specs.TreeView.{view};
 ghost use Rattle.refusals.specs.declared.numbers.TheConstants.{MEMORY};
 ghost use Rattle.record_text.specs.Change.{change_of, create, patch, set_schema, delete};
 ghost use Rattle.doc_changes.specs.Judged.{IsJudged, IsJudgedIn, IsReady, RefusesIn};
@@ -32,8 +32,7 @@ impl<'m> Documents<'m> {
         ensures own { IfErr result IsOwn }
         ensures good { Good self.now }
     {
-        // Opens the documents, so that their invariant is known where a judgement fails.
-        let _ = &self.seq;
+        self.know();
         let judged = self.judge_alone(command)?;
         self.check_seq()?;
         // A journal can hold what is accepted.

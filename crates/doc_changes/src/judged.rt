@@ -2,7 +2,7 @@
 use doc_schema::Schema;
 use doc_tree::Tree;
 
-/// What `Machine::judge` made of a change that it doesn't refuse.
+/// What `Documents::prepare` made of a change that it doesn't refuse. `judge` makes the patched document too.
 #[derive(Drop)]
 pub struct Judged {
     /// Of a patch, the document that it makes.

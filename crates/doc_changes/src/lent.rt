@@ -1,6 +1,6 @@
 //! Documents as they are kept, lent one by one in the order of their creation.
 ghost use Rattle.std.specs.Prelude.{◌≡◌, ◌<◌, Some, length, slice_get};
-ghost use Rattle.doc_changes.specs.View.{lent_of};
+ghost use Rattle.doc_changes.specs.StateView.{lent_of};
 ghost use Rattle.doc_changes.specs.State.{Good};
 
 use crate::documents::Documents;

@@ -7,7 +7,7 @@ ghost use Rattle.doc_changes.specs.Judged.{IsReady, RefusesIn};
 ghost use Rattle.doc_changes.specs.State.{AreDistinct, IsStorable, changed, find, without};
 ghost use Rattle.doc_changes.specs.Step.{documents_after};
 ghost use Rattle.doc_changes.specs.Undo.{documents_before, with_rules, IsMade, IsMadeForGood, IsThere, TakesBack};
-ghost use Rattle.doc_changes.specs.View.{document_of, named};
+ghost use Rattle.doc_changes.specs.StateView.{document_of, named};
 
 use crate::Refusal;
 use crate::judged::Judged;

@@ -7,7 +7,7 @@ ghost use Rattle.doc_schema.specs.Faults.{IsFaultless};
 ghost use Rattle.doc_schema.specs.Judge.{Judges};
 ghost use Rattle.doc_tree.specs.Doc.{Doc};
 ghost use Rattle.doc_tree.specs.Sound.{IsSound};
-ghost use Rattle.doc_tree.specs.View.{view};
+ghost use Rattle.doc_tree.specs.TreeView.{view};
 ghost use Rattle.refusals.specs.declared.numbers.TheConstants.{MEMORY};
 ghost use Rattle.doc_changes.specs.Refusals.{plain};
 ghost use Rattle.doc_changes.specs.Schema.{is_true, schema_refusal};

@@ -3,7 +3,7 @@ use Rattle.std.proofs.Common.{◌≡◌, ℕ, suc, ◌+◌, ◌≤◌, List, [],
 use Rattle.std.specs.Str.{bytes_eq}
 use Rattle.json.specs.Print.{quoted}
 use Rattle.doc_tree.specs.Doc.{Doc, list, object, Elements, Members, put, get_member, get_element}
-use Rattle.doc_tree.specs.View.{elements_view, members_view}
+use Rattle.doc_tree.specs.TreeView.{elements_view, members_view}
 use Rattle.doc_tree.specs.declared.tree.Tree.{Tree}
 use Rattle.doc_edits.specs.Size.{size, comma_beside, comma_beside_members}
 use Rattle.doc_pointer.specs.Place.{child_named}
@@ -11,7 +11,7 @@ use Rattle.doc_edits.specs.Edit.{Token, Tokens, elements_len, index_below}
 use Rattle.doc_edits.proofs.Indices.{child_named-list}
 use Rattle.doc_edits.specs.Edit.{put_or_set, add_member, remove_member, replace_member, add_item, remove_item, replace_item, append_element, insert_element, remove_element, set_element, cut, set_member, with_child, dash}
 use Rattle.doc_edits.specs.Change.{Takes, value_at}
-use Rattle.doc_edits.specs.Growth.{Grows}
+use Rattle.doc_edits.specs.SizeChange.{Grows}
 use Rattle.doc_edits.specs.declared.change.Change.{Change}
 use Rattle.doc_edits.specs.declared.change.Change.TheVariants.{Add, Remove, Replace}
 use Rattle.doc_edits.specs.declared.change.Made.{Made}

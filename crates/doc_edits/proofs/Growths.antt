@@ -8,12 +8,12 @@ use Rattle.doc_pointer.specs.Place.{child_named, resolve}
 use Rattle.doc_edits.specs.Change.{value_at}
 use Rattle.doc_edits.specs.Edit as edit
 use Rattle.doc_edits.specs.Edit.{Token, Tokens, at_last, remove_here, remove_member, remove_item, remove_element, index_below, elements_len, cut}
-use Rattle.doc_edits.specs.Growth.{IsBytes, IsPlaced, Grew, Shrank, IsGrown}
+use Rattle.doc_edits.specs.SizeChange.{IsBytes, IsPlaced, Grew, Shrank, IsGrown}
 use Rattle.doc_edits.specs.Size.{size}
 use Rattle.doc_edits.specs.Limits.{within_limits}
 use Rattle.doc_edits.specs.declared.place.Placed.{Placed}
 use Rattle.doc_edits.specs.declared.place.Taken.{Taken}
-use Rattle.doc_tree.specs.View.{view}
+use Rattle.doc_tree.specs.TreeView.{view}
 use Rattle.refusals.specs.declared.numbers.TheConstants.{DEPTH, TOO_LARGE}
 use Rattle.doc_edits.proofs.Heights.{in_child_steps, add_high, add_low, replace_high, replace_low, remove_not_higher}
 use Rattle.doc_edits.proofs.Indices.{child_named-list, index_below-below, element_at}

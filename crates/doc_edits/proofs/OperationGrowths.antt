@@ -5,13 +5,13 @@ use Rattle.doc_tree.specs.Doc.{Doc, height}
 use Rattle.doc_pointer.specs.Place.{resolve}
 use Rattle.doc_edits.specs.Edit as edit
 use Rattle.doc_edits.specs.Edit.{Token, Tokens, at_last, remove_here, remove_member, remove_item, remove_element, index_below, elements_len, cut}
-use Rattle.doc_edits.specs.Growth.{IsBytes, IsPlaced, Grew, Shrank, IsGrown, IsGrownFrom, IsMeasured}
+use Rattle.doc_edits.specs.SizeChange.{IsBytes, IsPlaced, Grew, Shrank, IsGrown, IsGrownFrom, IsMeasured}
 use Rattle.doc_edits.specs.Size.{size}
-use Rattle.doc_edits.specs.declared.growth.Growth.{Growth}
-use Rattle.doc_edits.specs.declared.growth.Measure.{Measure}
+use Rattle.doc_edits.specs.declared.size_change.SizeChange.{SizeChange}
+use Rattle.doc_edits.specs.declared.size_change.DocumentSize.{DocumentSize}
 use Rattle.doc_edits.specs.declared.place.Placed.{Placed}
 use Rattle.doc_edits.specs.declared.place.Taken.{Taken}
-use Rattle.doc_tree.specs.View.{view}
+use Rattle.doc_tree.specs.TreeView.{view}
 use Rattle.doc_edits.proofs.Heights.{add_high, add_low, resolve_low}
 
 pub nothing_grew : (d : Doc) (most : ℕ) → Grew most (record { reach = 0; gained = Some 0; lost = 0 }) d d
@@ -54,7 +54,7 @@ moved most from path d a e t p r lost there gone made is reach sum = record {
 }
 
 -- what an operation leaves
-pub grown_from : (m : Measure) (g : Growth) (d e : Doc) → IsMeasured m d → Grew m.most g d e → IsGrownFrom m g e
+pub grown_from : (m : DocumentSize) (g : SizeChange) (d e : Doc) → IsMeasured m d → Grew m.most g d e → IsGrownFrom m g e
 grown_from m g d e is h = record {
   short = is.short;
   low = is.low;

@@ -4,9 +4,9 @@ use Rattle.std.specs.Option.{ForSome}
 use Rattle.doc_tree.specs.Doc.{Doc}
 use Rattle.doc_edits.specs.Operation.{change, or_missing}
 use Rattle.doc_edits.specs.OperationFault.{IsOperationFaultOf, IsMissing}
-use Rattle.doc_edits.specs.Growth.{IsKnown}
+use Rattle.doc_edits.specs.SizeChange.{IsKnown}
 use Rattle.doc_edits.specs.Meaning.{meaning}
-use Rattle.doc_edits.specs.declared.growth.Known.{Known}
+use Rattle.doc_edits.specs.declared.size_change.KnownPlace.{KnownPlace}
 use Rattle.doc_edits.specs.declared.operation.Operation.{Operation}
 use Rattle.doc_edits.specs.declared.fault.OperationFault.{OperationFault}
 use Rattle.doc_edits.proofs.Missing.{refused_same}
@@ -21,7 +21,7 @@ pub refused_missing : (made : Option Doc) (e : OperationFault) → IsMissing mad
 refused_missing made e (inl none) = inl (ap or_missing none.1 ∙ ap Err (sym none.0))
 refused_missing made e (inr memory) = inr memory
 
-pub nothing_known : (k : Option Known) (d : Doc) → k ≡ None → ForSome k (λ k. IsKnown k d)
+pub nothing_known : (k : Option KnownPlace) (d : Doc) → k ≡ None → ForSome k (λ k. IsKnown k d)
 nothing_known k d none = λ x has. (let contrary = sym none ∙ has in absurd (cc contrary))
 
 -- what holds at each bound holds at this one

@@ -4,7 +4,7 @@ use Rattle.std.specs.Cmp.Lexicographic.{slice_cmp}
 use Rattle.std.specs.Ordering.{match_ordering}
 use Rattle.doc_tree.specs.Doc.{Doc, list, object, Elements, no_elements, element, Members, no_members, member, get_member, get_element}
 use Rattle.doc_tree.specs.Doc.{as_object}
-use Rattle.doc_tree.specs.View.{view, members_view}
+use Rattle.doc_tree.specs.TreeView.{view, members_view}
 use Rattle.doc_tree.specs.declared.tree.Tree.{Tree, Object}
 use Rattle.doc_tree.proofs.Views.{view-Object}
 use Rattle.doc_pointer.specs.Place.{child_named}

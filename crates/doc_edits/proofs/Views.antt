@@ -7,7 +7,7 @@ use Rattle.std.specs.Ordering.{match_ordering}
 use Rattle.std.specs.BTreeMap.{is_at}
 use Rattle.std.specs.Prelude.{slice_set}
 use Rattle.doc_tree.specs.Doc.{Doc, element, Members, member}
-use Rattle.doc_tree.specs.View.{view, elements_view, members_view}
+use Rattle.doc_tree.specs.TreeView.{view, elements_view, members_view}
 use Rattle.doc_tree.specs.declared.tree.Tree.{Tree}
 use Rattle.doc_edits.specs.Edit.{insert_element, append_element, remove_element, set_element, cut, set_member}
 

@@ -4,7 +4,7 @@ use Rattle.std.specs.Cmp.Lexicographic.{slice_cmp}
 use Rattle.std.specs.Map.{lookup, set_value}
 use Rattle.std.specs.BTreeMap.{is_at}
 use Rattle.doc_tree.specs.Doc.{Doc, list, object, Elements, Members, get_member, get_element, as_list, as_object}
-use Rattle.doc_tree.specs.View.{view, elements_view, members_view}
+use Rattle.doc_tree.specs.TreeView.{view, elements_view, members_view}
 use Rattle.doc_tree.specs.declared.tree.Tree.{Tree, List as the_list, Object}
 use Rattle.doc_tree.proofs.Views.{view-List, view-Object, view-lookup, get_element_within}
 use Rattle.doc_edits.specs.OperationFault.{IsMissing}

@@ -2,7 +2,7 @@
 use Rattle.std.specs.Prelude.{◌≡◌, ℕ, Result, Ok, MatchResult}
 use Rattle.std.specs.Option.{ForSome}
 use Rattle.doc_tree.specs.Doc.{Doc}
-use Rattle.doc_edits.specs.Growth.{IsKnown, IsMeasured}
+use Rattle.doc_edits.specs.SizeChange.{IsKnown, IsMeasured}
 use Rattle.doc_edits.specs.OperationFault.{IsOperationFaultOf}
 use Rattle.doc_edits.specs.declared.fault.OperationFault.{OperationFault}
 use Rattle.doc_edits.specs.declared.operation.After.{After}

@@ -1,6 +1,6 @@
 -- What takes one operation back.
 use Rattle.doc_tree.specs.Doc.{Doc}
-use Rattle.doc_tree.specs.View.{view}
+use Rattle.doc_tree.specs.TreeView.{view}
 use Rattle.std.specs.Prelude.{Option}
 use Rattle.doc_edits.specs.Change.{tokens_of}
 use Rattle.doc_edits.specs.Edit as edit

@@ -2,7 +2,7 @@
 use Rattle.std.specs.Prelude.{◌≡◌, ℕ, [], ◌∷◌, Bool, true, false, if◌then◌else◌, Option, Some, None, option_and_then}
 use Rattle.std.specs.Str.{bytes_eq}
 use Rattle.doc_tree.specs.Doc.{Doc, list, object, get_member}
-use Rattle.doc_tree.specs.View.{view}
+use Rattle.doc_tree.specs.TreeView.{view}
 use Rattle.doc_pointer.specs.Place.{child_named}
 use Rattle.doc_edits.specs.Back.{step_back, step_of}
 use Rattle.doc_edits.specs.Edit.{Token, Tokens, elements_len, dash}

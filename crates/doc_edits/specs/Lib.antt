@@ -3,7 +3,7 @@ pub mod Size
 pub mod Limits
 pub mod Change
 pub mod OperationFault
-pub mod Growth
+pub mod SizeChange
 pub mod Operation
 pub mod Meaning
 pub mod After

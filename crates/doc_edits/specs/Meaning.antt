@@ -1,5 +1,5 @@
 -- The operation that an `Operation` holds.
-use Rattle.doc_tree.specs.View.{view}
+use Rattle.doc_tree.specs.TreeView.{view}
 use Rattle.doc_edits.specs.Operation as pure
 use Rattle.doc_edits.specs.declared.operation.Operation.{Operation}
 use Rattle.doc_edits.specs.declared.operation.Operation.TheVariants.{Add, Remove, Replace, Move, Copy, Test}

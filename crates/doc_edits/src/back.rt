@@ -4,7 +4,7 @@ ghost use Rattle.std.specs.Prelude.{◌≡◌, Some, is_some, true};
 ghost use Rattle.doc_edits.specs.Back.{step_back, step_of};
 ghost use Rattle.doc_edits.specs.Change.{tokens_of};
 ghost use Rattle.doc_edits.specs.Edit as edit;
-ghost use Rattle.doc_tree.specs.View.{view};
+ghost use Rattle.doc_tree.specs.TreeView.{view};
 
 use crate::change::{Change, change_at};
 use doc_tree::Tree;

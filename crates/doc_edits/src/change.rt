@@ -3,10 +3,10 @@
 ghost use Rattle.std.specs.Prelude.{◌≡◌, [], Some, IfErr, IfOk, MatchResult, OnErr};
 ghost use Rattle.doc_edits.specs.Change.{Fails, Takes, here, tokens_of};
 ghost use Rattle.doc_edits.specs.Edit.{at_last};
-ghost use Rattle.doc_edits.specs.Growth.{Grows};
+ghost use Rattle.doc_edits.specs.SizeChange.{Grows};
 ghost use Rattle.doc_edits.specs.Size.{size};
 ghost use Rattle.doc_edits.specs.OperationFault.{IsMissing};
-ghost use Rattle.doc_tree.specs.View.{view};
+ghost use Rattle.doc_tree.specs.TreeView.{view};
 
 use crate::fault::{MISSING, OperationFault};
 use crate::index::index_within;

@@ -2,7 +2,7 @@
 
 ghost use Rattle.std.specs.Prelude.{◌≡◌, Some, IfErr, IfOk, MatchResult, OnErr, option_map};
 ghost use Rattle.doc_edits.specs.Edit as edit;
-ghost use Rattle.doc_edits.specs.Growth.{Grows};
+ghost use Rattle.doc_edits.specs.SizeChange.{Grows};
 ghost use Rattle.doc_edits.specs.Size as sizes;
 ghost use Rattle.doc_edits.specs.Size.{size};
 ghost use Rattle.doc_edits.specs.OperationFault.{IsMissing};
@@ -10,7 +10,7 @@ ghost use Rattle.doc_edits.specs.declared.change.Change.TheVariants as change;
 ghost use Rattle.doc_pointer.specs.Place.{child_named};
 ghost use Rattle.doc_tree.specs.Doc.{list};
 ghost use Rattle.refusals.specs.declared.numbers.TheConstants.{PATCH_MISSING};
-ghost use Rattle.doc_tree.specs.View.{view, elements_view};
+ghost use Rattle.doc_tree.specs.TreeView.{view, elements_view};
 
 use crate::change::Made;
 use crate::fault::{MISSING, OperationFault};

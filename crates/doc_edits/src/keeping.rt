@@ -7,7 +7,7 @@ ghost use Rattle.doc_edits.specs.Keeping.{TakesBack, meeting, meeting_here, meet
 ghost use Rattle.doc_edits.specs.Meaning.{meaning};
 ghost use Rattle.doc_edits.specs.Operation.{change};
 ghost use Rattle.doc_tree.specs.Doc.{Doc};
-ghost use Rattle.doc_tree.specs.View.{view};
+ghost use Rattle.doc_tree.specs.TreeView.{view};
 
 use crate::back::Back;
 use crate::operation::Operation;

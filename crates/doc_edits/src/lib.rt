@@ -3,7 +3,7 @@
 //!
 //! `place` adds, removes and replaces at one place, and answers what came and what went; `change_at` does below the root.
 //! `Operation::apply` makes any operation, in place. What each makes of a document is defined in `specs/Edit.antt` and
-//! `specs/Operation.antt`, and how its height and length change in `specs/Growth.antt`. From that `limits::check_limits`
+//! `specs/Operation.antt`, and how its height and length change in `specs/SizeChange.antt`. From that `limits::check_limits`
 //! judges whether the document is within its limits (`specs/Limits.antt`), without a walk over it.
 //!
 //! `back_of` keeps of a document what takes an operation back, and `take_step_back` does that, with no memory.
@@ -13,7 +13,6 @@ mod back;
 mod change;
 mod elements;
 mod fault;
-mod growth;
 mod index;
 mod keeping;
 pub mod laws;
@@ -21,13 +20,15 @@ pub mod limits;
 mod members;
 mod operation;
 pub mod place;
+mod size_change;
 
 pub use back::{Back, take_step_back};
 pub use change::{Change, Made, change_at};
 pub use fault::{MISSING, OperationFault};
-pub use growth::{
-    Extent, Growth, Known, Measure, Reach, Weight, extent_at, gone_len, reach_of_move, weigh,
-};
 pub use index::index_within;
 pub use keeping::{back_of, whole};
 pub use operation::{After, Done, Operation, perform};
+pub use size_change::{
+    DocumentSize, KnownPlace, KnownSize, MovedHeight, SizeChange, ValueSize, extent_at, gone_len,
+    reach_of_move, weigh,
+};

@@ -1,12 +1,12 @@
 //! How long and how high documents may be.
 
 ghost use Rattle.std.specs.Option.{ForSome};
-ghost use Rattle.doc_edits.specs.Growth.{IsGrownFrom, Measures};
+ghost use Rattle.doc_edits.specs.SizeChange.{IsGrownFrom, Measures};
 ghost use Rattle.doc_edits.specs.Limits.{within_limits};
-ghost use Rattle.doc_tree.specs.View.{view};
+ghost use Rattle.doc_tree.specs.TreeView.{view};
 
 use crate::fault::OperationFault;
-use crate::growth::{Growth, Measure};
+use crate::size_change::{DocumentSize, SizeChange};
 use doc_tree::Tree;
 use refusals::numbers::{DEPTH, TOO_LARGE};
 
@@ -21,9 +21,9 @@ pub const DOCUMENT_HEIGHT: u64 = 64;
 /// `growth` what came and went with it; only where `before` is unknown the document is walked over.
 pub fn check_limits(
     tree: &Tree,
-    before: Option<Measure>,
-    growth: Growth,
-) -> Result<Measure, OperationFault>
+    before: Option<DocumentSize>,
+    growth: SizeChange,
+) -> Result<DocumentSize, OperationFault>
     requires { ForSome before (λ m. IsGrownFrom m growth (view tree.now)) }
     ensures { Measures (within_limits (view tree.now)) (view tree.now) result }
 {
@@ -34,7 +34,11 @@ pub fn check_limits(
 }
 
 // Judges the limits from what the last operation changed.
-fn check_growth(tree: &Tree, before: Measure, growth: Growth) -> Result<Measure, OperationFault>
+fn check_growth(
+    tree: &Tree,
+    before: DocumentSize,
+    growth: SizeChange,
+) -> Result<DocumentSize, OperationFault>
     requires { IsGrownFrom before growth (view tree.now) }
     ensures { Measures (within_limits (view tree.now)) (view tree.now) result }
 {
@@ -52,11 +56,11 @@ fn check_growth(tree: &Tree, before: Measure, growth: Growth) -> Result<Measure,
         return Err(OperationFault { number: TOO_LARGE });
     }
     let most = before.most.max(growth.reach);
-    Ok(Measure { len, most })
+    Ok(DocumentSize { len, most })
 }
 
 // Judges the limits by a walk over the document.
-fn measure(tree: &Tree) -> Result<Measure, OperationFault>
+fn measure(tree: &Tree) -> Result<DocumentSize, OperationFault>
     ensures { Measures (within_limits (view tree.now)) (view tree.now) result }
 {
     let most = tree.height();
@@ -64,7 +68,7 @@ fn measure(tree: &Tree) -> Result<Measure, OperationFault>
         return Err(OperationFault { number: DEPTH });
     }
     match tree.text_len_within(DOCUMENT_BYTES) {
-        Some(len) => Ok(Measure { len, most }),
+        Some(len) => Ok(DocumentSize { len, most }),
         None => Err(OperationFault { number: TOO_LARGE }),
     }
 }

@@ -2,12 +2,12 @@
 
 ghost use Rattle.std.specs.Prelude.{◌≡◌, ◌+◌, Some, IfErr, IfOk, MatchResult, OnErr, length, option_map, if◌then◌else◌};
 ghost use Rattle.doc_edits.specs.Edit as edit;
-ghost use Rattle.doc_edits.specs.Growth.{Grows, IsBytes};
+ghost use Rattle.doc_edits.specs.SizeChange.{Grows, IsBytes};
 ghost use Rattle.doc_edits.specs.Size.{size};
 ghost use Rattle.doc_edits.specs.OperationFault.{IsMissing};
 ghost use Rattle.doc_edits.specs.declared.change.Change.TheVariants as change;
 ghost use Rattle.doc_tree.specs.Doc.{object, get_member};
-ghost use Rattle.doc_tree.specs.View.{view, members_view};
+ghost use Rattle.doc_tree.specs.TreeView.{view, members_view};
 ghost use Rattle.refusals.specs.declared.numbers.TheConstants.{PATCH_MISSING};
 ghost use Rattle.json.specs.Print.{quoted};
 

@@ -2,7 +2,7 @@
 
 ghost use Rattle.std.specs.Prelude.{◌≡◌, ℕ, None, Ok, IfOk, MatchResult, OnErr, false};
 ghost use Rattle.std.specs.Option.{ForSome};
-ghost use Rattle.doc_edits.specs.Growth.{Grew, IsKnown, IsMeasured};
+ghost use Rattle.doc_edits.specs.SizeChange.{Grew, IsKnown, IsMeasured};
 ghost use Rattle.doc_edits.specs.After.{LeavesMeasured};
 ghost use Rattle.doc_edits.specs.Meaning.{meaning};
 ghost use Rattle.doc_edits.specs.Operation as pure;
@@ -10,14 +10,15 @@ ghost use Rattle.doc_edits.specs.Operation.{op, change};
 ghost use Rattle.doc_edits.specs.OperationFault.{IsOperationFaultOf};
 ghost use Rattle.doc_edits.specs.Keeping.{takes};
 ghost use Rattle.doc_tree.specs.Sound.{IsSound};
-ghost use Rattle.doc_tree.specs.View.{view};
+ghost use Rattle.doc_tree.specs.TreeView.{view};
 
 use crate::fault::{MISSING, OperationFault};
-use crate::growth::{
-    Extent, Growth, Known, Measure, Reach, extent_at, gone_len, reach_of_move, weigh,
-};
 use crate::limits::check_limits;
 use crate::place;
+use crate::size_change::{
+    DocumentSize, KnownPlace, KnownSize, MovedHeight, SizeChange, extent_at, gone_len,
+    reach_of_move, weigh,
+};
 use doc_pointer::Pointer;
 use doc_tree::Tree;
 use refusals::numbers::{PATCH_ROOT, PATCH_TEST};
@@ -38,23 +39,23 @@ pub enum Operation {
 #[derive(Drop)]
 pub struct After<'a> {
     /// The measure.
-    pub measure: Measure,
+    pub measure: DocumentSize,
     /// The place, and what is known of the value there.
-    pub known: Option<Known<'a>>,
+    pub known: Option<KnownPlace<'a>>,
 }
 
 /// What came and went with an operation, and what is known of the value that it put at a place.
 #[derive(Drop)]
 pub struct Done<'a> {
     /// What came and went.
-    pub growth: Growth,
+    pub growth: SizeChange,
     /// The place, and what is known of the value there.
-    pub known: Option<Known<'a>>,
+    pub known: Option<KnownPlace<'a>>,
 }
 
 impl<'a> Done<'a> {
     // Nothing is known of what stands anywhere.
-    fn of(growth: Growth) -> Done<'a>
+    fn of(growth: SizeChange) -> Done<'a>
         ensures { result ≡ record { growth = growth; known = None } }
     {
         Done {
@@ -72,8 +73,8 @@ impl Operation {
         &'a self,
         alloc: Global,
         tree: &mut Tree,
-        before: Option<Measure>,
-        known: Option<Known<'a>>,
+        before: Option<DocumentSize>,
+        known: Option<KnownPlace<'a>>,
     ) -> Result<After<'a>, OperationFault>
         requires measured { ForSome before (λ m. IsMeasured m (view tree.old)) }
         requires known { ForSome known (λ k. IsKnown k (view tree.old)) }
@@ -97,7 +98,7 @@ pub fn perform<'a>(
     tree: &mut Tree,
     operation: &'a Operation,
     most: u64,
-    known: Option<Known<'a>>,
+    known: Option<KnownPlace<'a>>,
 ) -> Result<Done<'a>, OperationFault>
     requires { ForSome known (λ k. IsKnown k (view tree.old)) }
     ensures made { let made = change (meaning operation.now) (view tree.old) in
@@ -129,14 +130,14 @@ fn add(
     tree: &mut Tree,
     path: &Pointer,
     value: &Tree,
-) -> Result<Growth, OperationFault>
+) -> Result<SizeChange, OperationFault>
     ensures made { let made = change (pure.add path.now (view value.now)) (view tree.old) in
         MatchResult result (λ _. made ≡ Ok (view tree.new)) (IsOperationFaultOf made) }
     ensures grown { IfOk result (λ g. (most : ℕ) → Grew most g (view tree.old) (view tree.new)) }
     ensures unchanged { OnErr result (view tree.new ≡ view tree.old) }
     ensures sound { IsSound (view tree.old) → IfOk result (λ _. IsSound (view tree.new)) }
 {
-    let weight = weigh(value, Extent::unknown());
+    let weight = weigh(value, KnownSize::unknown());
     place::add(alloc, tree, path.tokens(), value.copy(alloc)?, weight)
 }
 
@@ -145,8 +146,8 @@ fn remove(
     alloc: Global,
     tree: &mut Tree,
     path: &Pointer,
-    known: Option<Known>,
-) -> Result<Growth, OperationFault>
+    known: Option<KnownPlace>,
+) -> Result<SizeChange, OperationFault>
     requires { ForSome known (λ k. IsKnown k (view tree.old)) }
     ensures made { let made = change (pure.remove path.now) (view tree.old) in
         MatchResult result (λ _. made ≡ Ok (view tree.new)) (IsOperationFaultOf made) }
@@ -159,7 +160,7 @@ fn remove(
     let extent = extent_at(known, path.tokens());
     let taken = place::remove(alloc, tree, path.tokens())?;
     let lost = gone_len(&taken.value, extent.len).saturating_add(taken.beside);
-    Ok(Growth::loss(lost))
+    Ok(SizeChange::loss(lost))
 }
 
 // Takes the value at `from` away and adds it at `path`, if that is another place. What it adds to
@@ -170,7 +171,7 @@ fn move_value<'a>(
     from: &'a Pointer,
     path: &'a Pointer,
     most: u64,
-    known: Option<Known<'a>>,
+    known: Option<KnownPlace<'a>>,
 ) -> Result<Done<'a>, OperationFault>
     requires { ForSome known (λ k. IsKnown k (view tree.old)) }
     ensures made { let made = change (pure.move from.now path.now) (view tree.old) in
@@ -185,13 +186,13 @@ fn move_value<'a>(
     let (from, path) = (from.tokens(), path.tokens());
     if from == path {
         return Ok(Done {
-            growth: Growth::loss(0),
+            growth: SizeChange::loss(0),
             known,
         });
     }
     let extent = extent_at(known, from);
     let taken = place::remove(alloc, tree, from)?;
-    let Reach { reach, height } = reach_of_move(
+    let MovedHeight { reach, height } = reach_of_move(
         &taken.value,
         extent.height,
         from.len() as u64,
@@ -199,18 +200,18 @@ fn move_value<'a>(
         most,
     );
     let placed = place::insert(alloc, tree, path, taken.value)?;
-    let growth = Growth {
+    let growth = SizeChange {
         reach,
         gained: placed.beside,
         lost: placed.lost.saturating_add(taken.beside),
     };
-    let extent = Extent {
+    let extent = KnownSize {
         height,
         len: extent.len,
     };
     Ok(Done {
         growth,
-        known: Some(Known { path, extent }),
+        known: Some(KnownPlace { path, extent }),
     })
 }
 
@@ -220,7 +221,7 @@ fn copy_value<'a>(
     tree: &mut Tree,
     from: &Pointer,
     path: &'a Pointer,
-    known: Option<Known<'a>>,
+    known: Option<KnownPlace<'a>>,
 ) -> Result<Done<'a>, OperationFault>
     requires { ForSome known (λ k. IsKnown k (view tree.old)) }
     ensures made { let made = change (pure.copy from.now path.now) (view tree.old) in
@@ -237,25 +238,25 @@ fn copy_value<'a>(
     let value = value.copy(alloc)?;
     let path = path.tokens();
     let growth = place::add(alloc, tree, path, value, weight)?;
-    let extent = Extent {
+    let extent = KnownSize {
         height: Some(weight.height),
         len: weight.len,
     };
     Ok(Done {
         growth,
-        known: Some(Known { path, extent }),
+        known: Some(KnownPlace { path, extent }),
     })
 }
 
 // Whether the value at the place is the given one.
-fn test(tree: &Tree, path: &Pointer, value: &Tree) -> Result<Growth, OperationFault>
+fn test(tree: &Tree, path: &Pointer, value: &Tree) -> Result<SizeChange, OperationFault>
     ensures made { let made = change (pure.test path.now (view value.now)) (view tree.now) in
         MatchResult result (λ _. made ≡ Ok (view tree.now)) (IsOperationFaultOf made) }
     ensures grown { IfOk result (λ g. (most : ℕ) → Grew most g (view tree.now) (view tree.now)) }
 {
     let found = path.resolve(tree).ok_or(MISSING)?;
     if found.equals(value) {
-        Ok(Growth::loss(0))
+        Ok(SizeChange::loss(0))
     } else {
         Err(OperationFault { number: PATCH_TEST })
     }

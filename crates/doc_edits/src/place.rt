@@ -4,17 +4,17 @@
 ghost use Rattle.std.specs.Prelude.{◌≡◌, ℕ, Some, IfErr, IfOk, MatchResult, OnErr};
 ghost use Rattle.doc_edits.specs.Change.{tokens_of};
 ghost use Rattle.doc_edits.specs.Edit as edit;
-ghost use Rattle.doc_edits.specs.Growth.{Grew, IsPlaced, IsWeightOf, Shrank};
+ghost use Rattle.doc_edits.specs.SizeChange.{Grew, IsPlaced, IsWeightOf, Shrank};
 ghost use Rattle.doc_edits.specs.OperationFault.{IsMissing};
 ghost use Rattle.doc_pointer.specs.Place.{resolve};
 ghost use Rattle.doc_tree.specs.Sound.{IsSound};
-ghost use Rattle.doc_tree.specs.View.{view};
+ghost use Rattle.doc_tree.specs.TreeView.{view};
 ghost use Rattle.refusals.specs.declared.numbers.TheConstants.{PATCH_MISSING};
 
 use crate::change::{Change, Made, change_at};
 use crate::fault::{MISSING, OperationFault};
-use crate::growth::{Growth, Weight, both, gone_len, old_len};
 use crate::limits::DOCUMENT_BYTES;
+use crate::size_change::{SizeChange, ValueSize, both, gone_len, old_len};
 use doc_tree::Tree;
 use std::alloc::Global;
 use std::mem;
@@ -46,8 +46,8 @@ pub fn add(
     tree: &mut Tree,
     path: &[String],
     value: Tree,
-    weight: Weight,
-) -> Result<Growth, OperationFault>
+    weight: ValueSize,
+) -> Result<SizeChange, OperationFault>
     requires { IsWeightOf weight (view value) }
     ensures made { let made = edit.add (tokens_of path.now) (view value) (view tree.old) in
         MatchResult result (λ _. made ≡ Some (view tree.new)) (IsMissing made) }
@@ -57,7 +57,7 @@ pub fn add(
 {
     let reach = weight.height.saturating_add(path.len() as u64);
     let placed = insert(alloc, tree, path, value)?;
-    Ok(Growth {
+    Ok(SizeChange {
         reach,
         gained: both(weight.len, placed.beside),
         lost: placed.lost,
@@ -127,7 +127,7 @@ pub fn replace(
     tree: &mut Tree,
     path: &[String],
     value: Tree,
-) -> Result<Growth, OperationFault>
+) -> Result<SizeChange, OperationFault>
     ensures made { let made = edit.replace (tokens_of path.now) (view value) (view tree.old) in
         MatchResult result (λ _. made ≡ Some (view tree.new)) (IsMissing made) }
     ensures grown { IfOk result (λ g. (most : ℕ) → Grew most g (view tree.old) (view tree.new)) }
@@ -139,14 +139,14 @@ pub fn replace(
     let gained = value.text_len_within(DOCUMENT_BYTES);
     let [token, rest @ ..] = path else {
         let old = mem::replace(tree, value);
-        return Ok(Growth {
+        return Ok(SizeChange {
             reach,
             gained,
             lost: gone_len(&old, None),
         });
     };
     let made = change_at(alloc, tree, token.as_str(), rest, Change::Replace(value))?;
-    Ok(Growth {
+    Ok(SizeChange {
         reach,
         gained,
         lost: old_len(&made.old),

@@ -2,7 +2,7 @@ pub use Rattle.doc_changes.specs.Refusals
 pub use Rattle.doc_changes.specs.State
 pub use Rattle.doc_changes.specs.Step
 pub mod Queries
-pub mod View
+pub mod MachineView
 pub mod Entries
 pub mod Trial
 pub mod Tried

@@ -3,7 +3,7 @@ use Rattle.std.specs.Prelude.{◌-◌, ◌<◌, ◌≤◌, List, [], ◌∷◌, 
 use Rattle.indexmap.specs.IndexMap.{spare}
 use Rattle.doc_changes.specs.State.{State, Good}
 use Rattle.doc_changes.specs.Undo.{IsThere, documents_before}
-use Rattle.doc_changes.specs.View.{kept_state}
+use Rattle.doc_changes.specs.StateView.{kept_state}
 use Rattle.doc_changes.specs.declared.undo.Undo.{Undo}
 use Rattle.doc_machine.specs.Trial.{TrialView, first_or}
 use Rattle.doc_machine.specs.declared.machine.trial.Trial.TheInside.{Inside}

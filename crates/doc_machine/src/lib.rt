@@ -1,10 +1,12 @@
-//! Named JSON documents: each change is applied whole, or refused and nothing changes.
+//! The documents in memory: each change is made whole, or refused and nothing changes.
 //!
-//! `Machine::step` equals its definition in `specs/Step.antt` exactly, refusals and their order
-//! included, and keeps every state good (`specs/State.antt`). On a `Trial` changes are judged and made
-//! one after another, or several as a `Transaction`, all or none (`specs/Transaction.antt`), so that a
-//! device can be written before they count: then the oldest so many of them are kept, and the others taken
-//! back, which takes no memory. A patch changes its document where it stands.
+//! `Trial::transact` is the way of every change of a store. On a `Trial` transactions are judged and made one after
+//! another, each all or none (`specs/Transaction.antt`), so that a device can be written before they count. Then the
+//! oldest so many of them are kept, and the others taken back, which takes no memory. `Machine::take_for_good` and
+//! `take_patch_for_good` take again what a journal holds. `Machine::step` makes one change with no trial.
+//!
+//! Each of these equals its definition exactly, with refusals and their order: what a change makes is defined in
+//! `specs/Step.antt` of `doc_changes`, and what every state keeps in its `specs/State.antt`.
 #![tactic(auto)]
 
 pub mod limits;

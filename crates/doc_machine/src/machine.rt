@@ -23,13 +23,13 @@ pub struct Machine {
 
 impl Model for Machine {
     ghost use Rattle.doc_changes.specs.State.{State, Good};
-    ghost use Rattle.doc_changes.specs.Coded.{coded_state};
+    ghost use Rattle.doc_changes.specs.CodedState.{coded_state};
 
     ghost Value = { State };
 
     ghost coded = { coded_state };
 
-    ghost use Rattle.doc_machine.specs.View.{state_of};
+    ghost use Rattle.doc_machine.specs.MachineView.{state_of};
 
     ghost view = { state_of };
 
@@ -71,6 +71,13 @@ impl Machine {
             documents: IndexMap::new(alloc),
             seq,
         }
+    }
+
+    /// For the prover alone: who calls it knows from there on that the state is good.
+    pub fn know(&self)
+        ensures { Good self.now }
+    {
+        let _ = self.seq();
     }
 
     /// Why a change is refused, if it is, in the order of `step`. Nothing changes. This reads the schema
@@ -120,8 +127,7 @@ impl Machine {
         ensures taken { Taken self.old (entry seq (change_of command)) result self.new }
         ensures good { Good self.new }
     {
-        // Opens the machine, so that its invariant is known where a judgement fails.
-        let _ = &self.seq;
+        self.know();
         let ready = self.look().prepare(&command)?;
         self.documents.reserve(1)?;
         drop(make(self.alloc, &mut self.documents, command, ready, seq)?);

@@ -18,7 +18,7 @@ use Rattle.doc_patch.specs.Reading.{operation_of, operations_from, or_fault, pre
 use Rattle.doc_edits.specs.Meaning.{meaning}
 use Rattle.doc_patch.specs.Meaning.{meanings}
 use Rattle.doc_edits.specs.declared.operation.Operation as held
-use Rattle.doc_tree.specs.View.{view, elements_view}
+use Rattle.doc_tree.specs.TreeView.{view, elements_view}
 use Rattle.doc_tree.specs.declared.tree.Tree.{Tree}
 use Rattle.doc_edits.specs.declared.fault.OperationFault.{OperationFault}
 use Rattle.doc_patch.specs.declared.fault.PatchFault.{PatchFault}

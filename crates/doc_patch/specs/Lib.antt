@@ -6,7 +6,7 @@ pub mod Examples
 pub mod Touched
 pub mod Undo
 pub mod Keeping
-pub mod Coded
+pub mod CodedDoc
 pub mod Measured
 pub mod Within
 pub mod Only

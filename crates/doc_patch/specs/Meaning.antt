@@ -1,6 +1,6 @@
 -- The operations that a `Patch` holds, and what the spellings that are read stand for.
 use Rattle.std.specs.Prelude.{List, map}
-use Rattle.doc_tree.specs.View.{view}
+use Rattle.doc_tree.specs.TreeView.{view}
 use Rattle.doc_edits.specs.Meaning.{meaning}
 use Rattle.doc_edits.specs.Operation as pure
 use Rattle.doc_edits.specs.declared.operation.Operation.{Operation}

@@ -2,7 +2,7 @@
 use Rattle.std.specs.Prelude.{◌≡◌, ◌≤◌, Some, unwrap_or}
 use Rattle.doc_tree.specs.Doc.{Doc, height}
 use Rattle.doc_tree.specs.Sound.{IsSound}
-use Rattle.doc_tree.specs.View.{view}
+use Rattle.doc_tree.specs.TreeView.{view}
 use Rattle.doc_edits.specs.Size.{size}
 use Rattle.doc_patch.specs.Undo.{taken_back}
 use Rattle.doc_patch.specs.declared.document.Document.TheInside.{Inside}

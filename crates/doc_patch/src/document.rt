@@ -8,14 +8,14 @@ ghost use Rattle.doc_patch.specs.Patch.{patch};
 ghost use Rattle.doc_edits.specs.Size.{size};
 ghost use Rattle.doc_tree.specs.Doc.{null};
 ghost use Rattle.doc_tree.specs.Sound.{IsSound};
-ghost use Rattle.doc_tree.specs.View.{view};
+ghost use Rattle.doc_tree.specs.TreeView.{view};
 
 use crate::fault::PatchFault;
 use crate::limits::{DOCUMENT_BYTES, DOCUMENT_HEIGHT};
 use crate::log::Log;
 use crate::patch::Patch;
 use crate::undo::Undo;
-use doc_edits::Measure;
+use doc_edits::DocumentSize;
 use doc_tree::Tree;
 use std::alloc::Global;
 use std::marker::Model;
@@ -40,7 +40,7 @@ pub struct Reversal {
 
 impl Model for Document {
     ghost use Rattle.doc_tree.specs.Doc.{Doc};
-    ghost use Rattle.doc_patch.specs.Coded.{coded_doc};
+    ghost use Rattle.doc_patch.specs.CodedDoc.{coded_doc};
     ghost use Rattle.doc_patch.specs.Measured.{IsDocument, document_of};
 
     ghost Value = { Doc };
@@ -92,7 +92,7 @@ impl Document {
         ensures unchanged { OnErr result (self.new ≡ self.old) }
         ensures sound { IsSound self.new }
     {
-        let before = Measure {
+        let before = DocumentSize {
             len: self.len,
             most: DOCUMENT_HEIGHT,
         };
@@ -118,7 +118,7 @@ impl Document {
             MatchResult result (λ _. made ≡ Ok self.new) (λ fault. IsFaultOf made fault × (self.new ≡ null)) }
         ensures sound { IsSound self.new }
     {
-        let before = Measure {
+        let before = DocumentSize {
             len: self.len,
             most: DOCUMENT_HEIGHT,
         };

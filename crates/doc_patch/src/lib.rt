@@ -1,16 +1,17 @@
 //! JSON Patch (RFC 6902): operations on a document, all or none.
 //!
-//! `Patch::read` answers the operations that a document spells, or the first fault. `Patch::read_plain` reads most texts of
-//! patches sooner, with no document in between.
-//! `Patch::apply` answers what they make of another document, which never changes, or the first
-//! refusal and its operation. Both equal their definitions in `specs/Reading.antt` and
-//! `specs/Patch.antt` exactly, refusals and their order included. After each operation the
-//! document is within `limits`, which are judged from what changed. What one operation makes is told by `doc_edits`.
+//! `Patch::read` answers the operations that a document spells, or the first fault. `Patch::read_unescaped` reads most
+//! texts of patches sooner, with no document in between.
 //!
-//! `Patch::apply_in_place` changes the document itself, and answers an `Undo` that makes it what it was and takes no
-//! memory. A `Document` knows the length of its text, so that no patch of it need walk over the whole.
+//! A `Document` is within the limits and knows the length of its text, so no patch of it need walk over the whole.
+//! `Document::apply` changes it where it is, and answers a `Reversal` that makes it what it was and takes no memory;
+//! `Document::apply_for_good` keeps nothing to take it back. `Patch::apply` answers what the operations make of another
+//! tree, which never changes. `Patch::apply_in_place` changes a tree that isn't measured; no crate here calls it.
+//! All equal their definitions in `specs/Reading.antt` and `specs/Patch.antt` exactly, with refusals and their order.
+//! After each operation the document is within `limits`, which are judged from what changed. What one operation makes
+//! is in `doc_edits`.
 //!
-//! What an operation costs. `apply` takes one copy of the document beside it, and with `apply_in_place` one walk over what
+//! What an operation costs. `apply` takes one copy of the document beside it, and `apply_in_place` one walk over what
 //! the first operation made:
 //! - every operation: the names on its way, each looked up in its object; nothing of the values
 //!   that it passes.
@@ -25,8 +26,9 @@
 //! - `test`: a comparison up to the first difference.
 //! - in an array `add`, `remove` and `move` shift all elements behind the index, as a `Vec` does:
 //!   an insertion at the front of 500,000 elements moves some 16 MB.
-//! - in place, what an operation replaces is copied first, to be put back. The first `remove` or `move` of a patch copies
-//!   the whole document: a `BTreeMap` may want memory to take a member again, which an `Undo` can't ask for.
+//! - where it can be taken back, what an operation replaces is copied first, to be put back. The first `remove` or
+//!   `move` of a patch copies the whole document: a `BTreeMap` may want memory to take a member again, which taking back
+//!   can't ask for.
 #![tactic(auto)]
 
 mod document;

@@ -3,7 +3,7 @@
 ghost use Rattle.std.specs.Prelude.{◌≡◌, ◌<◌, [], IfOk, OnOk, false, true};
 ghost use Rattle.std.specs.Option.{ForSome};
 ghost use Rattle.std.specs.Vec.{vec_capacity, vec_len};
-ghost use Rattle.doc_edits.specs.Growth.{IsKnown, IsMeasured};
+ghost use Rattle.doc_edits.specs.SizeChange.{IsKnown, IsMeasured};
 ghost use Rattle.doc_edits.specs.After.{LeavesMeasured};
 ghost use Rattle.doc_patch.specs.Keeping.{IsWhole, kept};
 ghost use Rattle.doc_edits.specs.Keeping.{TakesBack, takes};
@@ -12,11 +12,11 @@ ghost use Rattle.doc_edits.specs.Operation.{op};
 ghost use Rattle.doc_patch.specs.Undo.{steps_back};
 ghost use Rattle.doc_tree.specs.Doc.{Doc};
 ghost use Rattle.doc_tree.specs.Sound.{IsSound};
-ghost use Rattle.doc_tree.specs.View.{view};
+ghost use Rattle.doc_tree.specs.TreeView.{view};
 
 use doc_edits::limits::check_limits;
 use doc_edits::{
-    After, Back, Done, Known, Measure, Operation, OperationFault, back_of, perform, whole,
+    After, Back, DocumentSize, Done, KnownPlace, Operation, OperationFault, back_of, perform, whole,
 };
 use doc_tree::Tree;
 use std::alloc::{AllocError, Global};
@@ -51,8 +51,8 @@ impl Log {
         alloc: Global,
         tree: &mut Tree,
         operation: &'a Operation,
-        before: Option<Measure>,
-        known: Option<Known<'a>>,
+        before: Option<DocumentSize>,
+        known: Option<KnownPlace<'a>>,
     ) -> Result<After<'a>, OperationFault>
         requires measured { ForSome before (λ m. IsMeasured m (view tree.old)) }
         requires known { ForSome known (λ k. IsKnown k (view tree.old)) }
@@ -79,7 +79,7 @@ impl Log {
 
     // Whether the values that are held are longer than the document: then the whole of it is less to keep than more of
     // them, and one patch keeps no more than three documents.
-    fn holds_more_than(&self, document: Option<Measure>) -> bool {
+    fn holds_more_than(&self, document: Option<DocumentSize>) -> bool {
         match document {
             Some(measure) => measure.len < self.bytes,
             None => false,
@@ -107,8 +107,8 @@ impl Log {
         alloc: Global,
         tree: &mut Tree,
         operation: &'a Operation,
-        before: Option<Measure>,
-        known: Option<Known<'a>>,
+        before: Option<DocumentSize>,
+        known: Option<KnownPlace<'a>>,
     ) -> Result<After<'a>, OperationFault>
         requires measured { ForSome before (λ m. IsMeasured m (view tree.old)) }
         requires known { ForSome known (λ k. IsKnown k (view tree.old)) }

@@ -3,18 +3,18 @@
 ghost use Rattle.std.specs.Prelude.{◌≡◌, Ok, Some, IfOk, MatchResult, OnErr, is_some, true};
 ghost use Rattle.std.specs.Option.{ForSome};
 ghost use Rattle.doc_patch.specs.Fault.{IsFaultOf};
-ghost use Rattle.doc_edits.specs.Growth.{IsMeasured};
+ghost use Rattle.doc_edits.specs.SizeChange.{IsMeasured};
 ghost use Rattle.doc_patch.specs.Keeping.{IsWhole, kept};
 ghost use Rattle.doc_patch.specs.Meaning.{operations};
 ghost use Rattle.doc_patch.specs.Patch.{patch};
 ghost use Rattle.doc_patch.specs.Undo.{steps_back, taken_back};
 ghost use Rattle.doc_tree.specs.Sound.{IsSound};
-ghost use Rattle.doc_tree.specs.View.{view};
+ghost use Rattle.doc_tree.specs.TreeView.{view};
 
 use crate::fault::PatchFault;
 use crate::log::Log;
 use crate::undo::Undo;
-use doc_edits::{Measure, Operation};
+use doc_edits::{DocumentSize, Operation};
 use doc_tree::Tree;
 use std::alloc::Global;
 
@@ -47,8 +47,8 @@ impl Patch {
         &self,
         alloc: Global,
         tree: &mut Tree,
-        before: Option<Measure>,
-    ) -> Result<Option<Measure>, PatchFault>
+        before: Option<DocumentSize>,
+    ) -> Result<Option<DocumentSize>, PatchFault>
         requires { ForSome before (λ m. IsMeasured m (view tree.old)) }
         ensures made { let made = patch (operations self.now) (view tree.old) in
             MatchResult result (λ _. made ≡ Ok (view tree.new)) (IsFaultOf made) }
@@ -76,8 +76,8 @@ impl Patch {
         &self,
         alloc: Global,
         tree: &mut Tree,
-        before: Measure,
-    ) -> Result<Measure, PatchFault>
+        before: DocumentSize,
+    ) -> Result<DocumentSize, PatchFault>
         requires { IsMeasured before (view tree.old) }
         ensures made { let made = patch (operations self.now) (view tree.old) in
             MatchResult result (λ _. made ≡ Ok (view tree.new)) (IsFaultOf made) }
@@ -114,8 +114,8 @@ impl Patch {
         alloc: Global,
         tree: &mut Tree,
         log: &mut Log,
-        before: Option<Measure>,
-    ) -> Result<Option<Measure>, PatchFault>
+        before: Option<DocumentSize>,
+    ) -> Result<Option<DocumentSize>, PatchFault>
         requires measured { ForSome before (λ m. IsMeasured m (view tree.old)) }
         requires whole { IsWhole log.old }
         ensures made { let made = patch (operations self.now) (view tree.old) in
@@ -145,8 +145,8 @@ impl Patch {
         alloc: Global,
         tree: &mut Tree,
         log: &mut Log,
-        before: Measure,
-    ) -> Result<Measure, PatchFault>
+        before: DocumentSize,
+    ) -> Result<DocumentSize, PatchFault>
         requires measured { IsMeasured before (view tree.old) }
         requires whole { IsWhole log.old }
         ensures made { let made = patch (operations self.now) (view tree.old) in

@@ -6,7 +6,7 @@ ghost use Rattle.serde_json.specs.Written.{comma_if};
 ghost use Rattle.doc_edits.specs.Meaning.{meaning};
 ghost use Rattle.doc_patch.specs.Meaning.{meanings, operations};
 ghost use Rattle.doc_patch.specs.Plain.{BeginsWithOperation, BeginsWithPathAndValue, BeginsWithPointer, BeginsWithValue, before_from, IsTextOfOperations, IsTextOfPatch};
-ghost use Rattle.doc_tree.specs.View.{view};
+ghost use Rattle.doc_tree.specs.TreeView.{view};
 
 use crate::limits::{PATCH_BYTES, PATCH_OPERATIONS};
 use crate::patch::Patch;
@@ -43,7 +43,7 @@ impl Patch {
     /// `None` says nothing. It is answered where the bytes are no such text, or the patch is over a limit, and also where
     /// it has an escape, the number -2^63, an operation with more members than are defined for it, or no operation, or
     /// memory is refused.
-    pub fn read_plain(alloc: Global, bytes: &[u8]) -> Option<Patch>
+    pub fn read_unescaped(alloc: Global, bytes: &[u8]) -> Option<Patch>
         ensures { IfSome result (λ p. IsTextOfPatch bytes.now (operations p)) }
     {
         if bytes.len() as u64 > PATCH_BYTES {
@@ -110,12 +110,12 @@ fn plain_operation(alloc: Global, bytes: &[u8]) -> Option<(Operation, &[u8])>
         let (path, rest) = last_pointer(alloc, rest)?;
         Some((Operation::Remove { path }, rest))
     } else {
-        sourced_operation(alloc, strip_bytes(BEFORE_FROM, bytes)?)
+        operation_with_from(alloc, strip_bytes(BEFORE_FROM, bytes)?)
     }
 }
 
 // The operation whose members behind `"from":` the bytes begin with, and what follows it.
-fn sourced_operation(alloc: Global, bytes: &[u8]) -> Option<(Operation, &[u8])>
+fn operation_with_from(alloc: Global, bytes: &[u8]) -> Option<(Operation, &[u8])>
     ensures { IfSome result (λ r. BeginsWithOperation (before_from bytes.now) (meaning r.0) r.1.now) }
 {
     let (from, rest) = plain_pointer(alloc, bytes)?;
@@ -151,7 +151,7 @@ fn last_pointer(alloc: Global, bytes: &[u8]) -> Option<(Pointer, &[u8])>
 fn plain_pointer(alloc: Global, bytes: &[u8]) -> Option<(Pointer, &[u8])>
     ensures { IfSome result (λ r. BeginsWithPointer bytes.now r.0 r.1.now) }
 {
-    let (written, _) = doc_tree::read_plain(alloc, bytes)?;
+    let (written, _) = doc_tree::read_unescaped(alloc, bytes)?;
     let rest = strip_quoted(written.as_str(), bytes)?;
     match read_pointer(alloc, written.as_str()) {
         Ok(pointer) => Some((pointer, rest)),

@@ -13,7 +13,7 @@ ghost use Rattle.doc_pointer.specs.Reading.{pointer_of};
 ghost use Rattle.doc_tree.specs.Doc.{height};
 ghost use Rattle.doc_tree.specs.Sound.{IsSound};
 ghost use Rattle.doc_tree.specs.Text.{text_of};
-ghost use Rattle.doc_tree.specs.View.{view};
+ghost use Rattle.doc_tree.specs.TreeView.{view};
 
 use crate::fault::PatchFault;
 use crate::limits::{PATCH_BYTES, PATCH_HEIGHT, PATCH_OPERATIONS};

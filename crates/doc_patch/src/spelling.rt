@@ -4,7 +4,7 @@ ghost use Rattle.std.specs.Prelude.{◌≡◌, option_map};
 ghost use Rattle.doc_patch.specs.Meaning.{spelled};
 ghost use Rattle.doc_patch.specs.Reading as reading;
 ghost use Rattle.doc_patch.specs.Reading.{spelling};
-ghost use Rattle.doc_tree.specs.View.{view};
+ghost use Rattle.doc_tree.specs.TreeView.{view};
 
 use doc_tree::Tree;
 

@@ -5,7 +5,7 @@ ghost use Rattle.doc_edits.specs.Change.{tokens_of};
 ghost use Rattle.doc_edits.specs.Edit as edit;
 ghost use Rattle.doc_edits.specs.Back.{step_back, step_of};
 ghost use Rattle.doc_patch.specs.Undo.{taken_back};
-ghost use Rattle.doc_tree.specs.View.{view};
+ghost use Rattle.doc_tree.specs.TreeView.{view};
 
 use doc_edits::{Back, take_step_back};
 use doc_tree::Tree;

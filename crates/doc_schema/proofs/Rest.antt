@@ -2,7 +2,7 @@
 use Rattle.std.proofs.Common.{◌≡◌, ◌⊎◌, ⊎_elim, ℕ, zero, suc, Option, Some, None, ◌+◌, ◌<◌, ◌≤◌, ◌==◌, Bool, true, false, ◌&&◌, is_some, if◌then◌else◌, List, [], ◌∷◌, drop, length, get_or, refl, sym, ap, subst, ◌∙◌, arith, drop-cons, String, Global, string_bytes, codes}
 use Rattle.doc_tree.specs.Doc.{Doc, text, object, Members, get_member}
 use Rattle.doc_tree.specs.Lists.{elements_list}
-use Rattle.doc_tree.specs.View.{view, elements_view, members_view}
+use Rattle.doc_tree.specs.TreeView.{view, elements_view, members_view}
 use Rattle.doc_tree.specs.declared.tree.Tree.{Tree}
 use Rattle.schema_graph.specs.Walks.{In, first, later}
 use Rattle.schema_graph.proofs.Among.{In-left, In-right, none_in}

@@ -2,7 +2,7 @@
 
 ghost use Rattle.std.specs.Prelude.{◌≡◌, false};
 ghost use Rattle.std.specs.List.{list_any};
-ghost use Rattle.doc_tree.specs.View.{view, elements_view, members_view};
+ghost use Rattle.doc_tree.specs.TreeView.{view, elements_view, members_view};
 ghost use Rattle.doc_schema.specs.Defects.{has_defect, is_defective, is_wrong, some_member};
 ghost use Rattle.doc_schema.specs.Positions.{positions};
 ghost use Rattle.doc_schema.specs.Schemas.{schemas_in, schemas_each, schemas_named, schemas_below};

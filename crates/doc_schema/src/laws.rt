@@ -5,7 +5,7 @@ ghost use Rattle.std.specs.Prelude.{◌≡◌, ◌↔◌, ℕ, Bool, true, None,
 ghost use Rattle.doc_tree.specs.Doc.{Doc, at};
 ghost use Rattle.doc_tree.specs.Sound.{IsSound};
 ghost use Rattle.schema_graph.specs.Walks.{In, IsLooped};
-ghost use Rattle.doc_tree.specs.View.{view};
+ghost use Rattle.doc_tree.specs.TreeView.{view};
 ghost use Rattle.doc_schema.specs.Faults.{IsFaultless, IsFirstFault, first_fault};
 ghost use Rattle.doc_schema.specs.Judge.{IsSettledFor, Judges, judge};
 ghost use Rattle.doc_schema.specs.Loops.{HasSchemaLoop, leads};

@@ -3,7 +3,7 @@
 ghost use Rattle.std.specs.Prelude.{◌≡◌, MatchOption, codes, drop, is_some, length, option_map};
 ghost use Rattle.doc_tree.specs.Doc.{get_member, no_members};
 ghost use Rattle.doc_tree.specs.Lists.{elements_list};
-ghost use Rattle.doc_tree.specs.View.{view, elements_view, members_view};
+ghost use Rattle.doc_tree.specs.TreeView.{view, elements_view, members_view};
 ghost use Rattle.schema_rules.specs.Instances.{seen};
 ghost use Rattle.schema_rules.specs.Assertions.{at_least, at_most, on_list};
 ghost use Rattle.schema_rules.specs.Rules.{or_one};

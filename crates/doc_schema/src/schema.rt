@@ -4,7 +4,7 @@ ghost use Rattle.std.specs.Prelude.{◌≡◌, ◌↔◌, IfErr, IfOk, IsTrue, m
 ghost use Rattle.doc_tree.specs.Doc.{Doc};
 ghost use Rattle.doc_tree.specs.Place.{place_of};
 ghost use Rattle.doc_tree.specs.Sound.{IsSound};
-ghost use Rattle.doc_tree.specs.View.{view};
+ghost use Rattle.doc_tree.specs.TreeView.{view};
 ghost use Rattle.doc_schema.specs.Checked.{IsChecked};
 ghost use Rattle.doc_schema.specs.Faults.{IsFaultless, IsFaultOf, IsTooLarge};
 ghost use Rattle.doc_schema.specs.Judge.{Judges};
@@ -32,7 +32,7 @@ pub struct Schema {
 
 impl Model for Schema {
     ghost use Rattle.doc_schema.specs.Faults.{IsSchema};
-    ghost use Rattle.doc_tree.specs.View as seen;
+    ghost use Rattle.doc_tree.specs.TreeView as seen;
     ghost use Rattle.schema_levels.specs.Counters.{AreCounted};
     ghost use Rattle.schema_nodes.specs.Compiled.{IsCompiled};
     ghost use Rattle.doc_tree.specs.contracts.tree.Tree as tree;

@@ -3,7 +3,7 @@ use Rattle.std.proofs.Common.{◌≡◌, inl, inr, ℕ, length, refl, sym, subst
 use Rattle.sector_device.specs.Disk.{Disk, Image, IsCoherent, LeavesOnly}
 use Rattle.sector_device.proofs.Moments.{leaves_weaker, started}
 use Rattle.store_journal.specs.Carries.{Carried, Carries, EitherCarried}
-use Rattle.store_journal.specs.View.{View, carried_of}
+use Rattle.store_journal.specs.JournalView.{JournalView, carried_of}
 use Rattle.doc_changes.specs.State.{State}
 use Rattle.store_commits.specs.Account.{Account, Copy, with_copy}
 use Rattle.store_commits.specs.Inside.{IsHeld, account_of}
@@ -28,7 +28,7 @@ image_of c a version rides half used opens seq holds image carries = record {
   opens_is = opens;
 }
 
-module _ {D : Type 0} (disk : D → Disk) (before now : View D) (state : State) (k : Option Copy) (held : IsHeld (disk before.device) before state) where
+module _ {D : Type 0} (disk : D → Disk) (before now : JournalView D) (state : State) (k : Option Copy) (held : IsHeld (disk before.device) before state) where
   abbrev account : Account
   account = with_copy (account_of before state) k
 

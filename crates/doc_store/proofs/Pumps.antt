@@ -6,7 +6,7 @@ use Rattle.sector_device.proofs.Moments.{leaves_weaker, left_now}
 use Rattle.store_journal.specs.Calls.{BeginsWith, Broke}
 use Rattle.store_journal.specs.Carries.{EitherCarried, switched, Carries}
 use Rattle.store_journal.specs.Layout.{capacity_of}
-use Rattle.store_journal.specs.View.{View, IsKept, carried_of}
+use Rattle.store_journal.specs.JournalView.{JournalView, IsKept, carried_of}
 use Rattle.doc_changes.proofs.Framed.{framed_storable}
 use Rattle.doc_changes.specs.declared.refusal.Refusal.{Refusal}
 use Rattle.doc_changes.specs.State.{State}
@@ -33,7 +33,7 @@ use Rattle.store_commits.proofs.SnapshotOutcomes.{WasNotCommitted}
 
 -- ---- the copy that a step goes on with
 
-module _ {D : Type 0} (disk : Disk) (journal : View D) (state : State) where
+module _ {D : Type 0} (disk : Disk) (journal : JournalView D) (state : State) where
   pub begun_copying : (copy : Option Target) (t : Target) → IsStored disk journal state copy → IsBegun state copy t → IsCopying disk journal state t
   begun_copying None t stored is = subst (IsCopying disk journal state) (sym is) (record {
     holds = snapshot_holds state state.seq refl (remakes_all framed_storable state stored.held.good);
@@ -49,7 +49,7 @@ module _ {D : Type 0} (disk : Disk) (journal : View D) (state : State) where
 -- ---- the device and the journal
 
 -- the committed bytes and their numbers are as before
-pub held_so : {D : Type 0} (old new : Disk) (before now : View D) (state : State) → IsHeld old before state → (new.honest → old.honest) → IsKept new now
+pub held_so : {D : Type 0} (old new : Disk) (before now : JournalView D) (state : State) → IsHeld old before state → (new.honest → old.honest) → IsKept new now
     → now.version ≡ before.version → now.seq ≡ before.seq → (old.honest → now.bytes ≡ before.bytes) → now.settled ≡ true → IsHeld new now state
 held_so old new before now state held back kept version seq bytes settled = record {
   kept = kept;
@@ -60,7 +60,7 @@ held_so old new before now state held back kept version seq bytes settled = reco
   held = λ honest. subst (λ (l : List ℕ). Holds 2 state.seq l state.documents) (sym (bytes (back honest))) (held.held (back honest));
 }
 
-module _ {D : Type 0} (old new : Disk) (before now : View D) (state : State) (t : Target) (held : IsHeld old before state) (copying : IsCopying old before state t) (same : old.honest ↔ new.honest) (kept : IsKept new now) where
+module _ {D : Type 0} (old new : Disk) (before now : JournalView D) (state : State) (t : Target) (held : IsHeld old before state) (copying : IsCopying old before state t) (same : old.honest ↔ new.honest) (kept : IsKept new now) where
   either_stands : old.honest → (image : Image) → EitherCarried (carried_of before) (switched (carried_of before) t.bytes) image → StandsAfter state [] image
   either_stands honest image (inl carries) = stands_now state [] image (stands_by state (carried_of before) held.version held.seq (held.held honest) image carries)
   either_stands honest image (inr carries) = stands_now state [] image (stands_by state (switched (carried_of before) t.bytes) held.version held.seq copying.holds image carries)
@@ -94,7 +94,7 @@ module _ {D : Type 0} (old new : Disk) (before now : View D) (state : State) (t 
 -- ---- the account
 
 -- once the device failed
-pub broke_is : {D : Type 0} (old new : Disk) (before now : View D) (state : State) (calls : ℕ) → Broke old new calls before now → account_of now state ≡ account_broken (account_of before state)
+pub broke_is : {D : Type 0} (old new : Disk) (before now : JournalView D) (state : State) (calls : ℕ) → Broke old new calls before now → account_of now state ≡ account_broken (account_of before state)
 broke_is old new before now state calls broke = λ i. record {
   state = state;
   used = broke.stays.used i;
@@ -107,7 +107,7 @@ broke_is old new before now state calls broke = λ i. record {
 }
 
 -- a snapshot, or a step of a copy: the other half may count, with the target
-module _ {D : Type 0} (disk : D → Disk) (coherent : (device : D) → (disk device).honest → IsCoherent (disk device)) (before now : View D) (state : State) (held : IsHeld (disk before.device) before state)
+module _ {D : Type 0} (disk : D → Disk) (coherent : (device : D) → (disk device).honest → IsCoherent (disk device)) (before now : JournalView D) (state : State) (held : IsHeld (disk before.device) before state)
     (same : (disk before.device).honest ↔ (disk now.device).honest) (kept : IsKept (disk now.device) now) (k : Option Copy) where
   pub stood_snapshot : (r : Result ℕ Refusal) → WasNotCommitted disk before now (snapshot_bytes state.documents) r
       → ((disk before.device).honest → LeavesOnly (disk before.device) (disk now.device) (EitherCarried (carried_of before) (switched (carried_of before) (snapshot_bytes state.documents))))

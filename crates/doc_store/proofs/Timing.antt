@@ -16,7 +16,7 @@ use Rattle.store_commits.specs.declared.event.Reply.{Reply}
 use Rattle.store_commits.specs.declared.event.Reply.TheVariants.{Done, Snapped, Pumped, Refused}
 use Rattle.doc_store.specs.Opening.{IsOpenedFrom, carried_after, opening_cost, LacksRoom}
 use Rattle.doc_store.specs.Telling.{Asked, none_asked, one_asked}
-use Rattle.doc_store.specs.Timed.{IsAlone, IsInTime, spent_with, AreInTime, opened, and_more, IsTimely, IsLate, Left, left}
+use Rattle.doc_store.specs.Timed.{HasOneImage, IsInTime, spent_with, AreInTime, opened, and_more, IsTimely, IsLate, Left, left}
 use Rattle.doc_store.proofs.Single.{one_failed}
 use Rattle.doc_store.proofs.Single.{snapshot_otherwise, stops_own}
 use Rattle.store_commits.proofs.Running.{in_doubt_broken, pumped_works, refuses_otherwise}
@@ -63,25 +63,25 @@ left_has_room (Some h) last image (inr other) = in_format_2 (extent_of other.0) 
 -- calls that were made were passed
 spends : (stop spent calls : ℕ) (old new : Disk) → HasSpent stop spent old → Made old new calls → HasSpent stop (spent + calls) new
 spends stop spent calls old new has made =
-    let enough : calls ≤ stop - spent = subst (λ (p : Option ℕ). AtLeast calls p) has.passes made.passed in
+    let enough : calls ≤ stop - spent = subst (λ (p : Option ℕ). AtLeast calls p) has.calls_left made.passed in
     let left : (stop - spent) - calls ≡ stop - (spent + calls) = omega arith in
     record {
-      passes = made.passes ∙ ap (less calls) has.passes ∙ ap Some left;
+      calls_left = made.calls_left ∙ ap (less calls) has.calls_left ∙ ap Some left;
       within = omega (arith, enough, has.within);
-      unworn = λ worn. has.unworn (made.worn.1 worn);
+      unsaturated = λ saturated. has.unsaturated (made.failures_saturated.1 saturated);
     }
 
 -- where one failed, there were too few, or a fault was counted
-short : (stop spent calls : ℕ) (old new : Disk) → HasSpent stop spent old → Failed old new calls → (stop < spent + calls) ⊎ (old.faults < new.faults)
+short : (stop spent calls : ℕ) (old new : Disk) → HasSpent stop spent old → Failed old new calls → (stop < spent + calls) ⊎ (old.own_failures < new.own_failures)
 short stop spent calls old new has failed =
-    ⊎_elim (λ few. let less_left : stop - spent < calls = subst (λ (p : Option ℕ). IsShort calls p) has.passes few in inl (omega (arith, less_left, has.within)))
-    (⊎_elim (λ more. inr more) (λ worn. absurd (has.unworn worn))) failed.faults
+    ⊎_elim (λ few. let less_left : stop - spent < calls = subst (λ (p : Option ℕ). IsShort calls p) has.calls_left few in inl (omega (arith, less_left, has.within)))
+    (⊎_elim (λ more. inr more) (λ saturated. absurd (has.unsaturated saturated))) failed.own_failures
 
 -- ---- one event
 
 module _ {D : Type 0} (disk : D → Disk) (start : StoreView D) (stop opening : ℕ) where
   abbrev pub faults_of : StoreView D → ℕ
-  faults_of x = (disk x.device).faults
+  faults_of x = (disk x.device).own_failures
 
   abbrev pub Begun : Type 0
   Begun = HasSpent stop opening (disk start.device)
@@ -112,7 +112,7 @@ module _ {D : Type 0} (disk : D → Disk) (start : StoreView D) (stop opening : 
         → before.spent + cost_of mid.account e ≡ spent_with before.spent mid.account e r → SoFar (es ++ e ∷ []) (rs ++ r ∷ []) end (hit_with hit mid.account e r)
     after_done works made in_time spent =
         let has = λ (begun : Begun). spends stop before.spent (cost_of mid.account e) (disk mid.device) (disk end.device) (before.has begun works) made in
-        after (omega (arith, made.faults)) (λ begun final le. in_time (final - faults_of start) (has begun).within) (λ begun still. subst (λ (n : ℕ). HasSpent stop n (disk end.device)) spent (has begun))
+        after (omega (arith, made.own_failures)) (λ begun final le. in_time (final - faults_of start) (has begun).within) (λ begun still. subst (λ (n : ℕ). HasSpent stop n (disk end.device)) spent (has begun))
 
     -- a fault hit it
     after_hit : mid.account.broken ≡ false → end.account.broken ≡ true → Failed (disk mid.device) (disk end.device) (cost_of mid.account e)
@@ -127,7 +127,7 @@ module _ {D : Type 0} (disk : D → Disk) (start : StoreView D) (stop opening : 
     after_refused : end.device ≡ mid.device → (end.account.broken ≡ false → mid.account.broken ≡ false) → ((faults : ℕ) → IsInTime stop faults before.spent mid.account e r)
         → before.spent ≡ spent_with before.spent mid.account e r → SoFar (es ++ e ∷ []) (rs ++ r ∷ []) end (hit_with hit mid.account e r)
     after_refused same works in_time spent =
-        let level = ap (λ (d : D). (disk d).faults) same in
+        let level = ap (λ (d : D). (disk d).own_failures) same in
         after (omega (arith, level)) (λ begun final le. in_time (final - faults_of start))
         (λ begun still. subst (λ (n : ℕ). HasSpent stop n (disk end.device)) spent (subst (λ (d : D). HasSpent stop before.spent (disk d)) (sym same) (before.has begun (works still))))
 
@@ -176,7 +176,7 @@ module _ {D : Type 0} (disk : D → Disk) (start : StoreView D) (stop opening : 
 pub timely_from : {D : Type 0} (disk : D → Disk) (given : D) (start end : StoreView D) (stop : ℕ) (es : List Event) (rs : List Reply) (hit : Option Hit) → start.account.broken ≡ false → IsStandingAs (disk start.device) start.account
     → (found : IsOpenedFrom (disk given).seen start.account) → start.account.sectors ≡ length (disk given).seen → Made (disk given) (disk start.device) (opening_cost found.stands.carried start.account.state)
     → Asked disk start es rs end hit → (s : State) (settled : Bool) (t : Left) → t.settled ≡ true → (disk end.device).honest → (disk end.device).left t.image → HasSpent stop 0 (disk given)
-    → IsTimely (left s (disk given).seen settled) stop ((disk end.device).faults - (disk given).faults) es rs start.account end.account t
+    → IsTimely (left s (disk given).seen settled) stop ((disk end.device).own_failures - (disk given).own_failures) es rs start.account end.account t
 timely_from {D} disk given start end stop es rs hit works stands found sectors made asked s settled t settles honest is_left has =
     let opening = opening_cost found.stands.carried start.account.state in
     let begun = spends stop 0 opening (disk given) (disk start.device) has made in
@@ -188,14 +188,14 @@ timely_from {D} disk given start end stop es rs hit works stands found sectors m
       within = begun_is.within;
       spent = far.spent;
       hit = hit;
-      timely = subst (λ (n : ℕ). AreInTime stop ((disk end.device).faults - n) opening start.account es rs far.spent end.account hit) made.faults (far.timely begun_is (disk end.device).faults (omega arith));
+      timely = subst (λ (n : ℕ). AreInTime stop ((disk end.device).own_failures - n) opening start.account es rs far.spent end.account hit) made.own_failures (far.timely begun_is (disk end.device).own_failures (omega arith));
       leaves = far.leaves honest t.image is_left;
       settles = settles;
     }
 
 -- an opening that failed, through such a fuse
-pub late_from : (given after : Disk) (stop : ℕ) (s : State) (stands : Stands s given.seen) → Failed given after (opening_cost stands.carried s) → (settled : Bool) (t : Left) → (settled ≡ true → IsAlone given) → t.settled ≡ true
-    → given.left t.image ⊎ EitherCarried stands.carried (carried_after stands.carried s) t.image → length t.image ≡ length given.seen → HasSpent stop 0 given → IsLate (left s given.seen settled) stop (after.faults - given.faults) t
+pub late_from : (given after : Disk) (stop : ℕ) (s : State) (stands : Stands s given.seen) → Failed given after (opening_cost stands.carried s) → (settled : Bool) (t : Left) → (settled ≡ true → HasOneImage given) → t.settled ≡ true
+    → given.left t.image ⊎ EitherCarried stands.carried (carried_after stands.carried s) t.image → length t.image ≡ length given.seen → HasSpent stop 0 given → IsLate (left s given.seen settled) stop (after.own_failures - given.own_failures) t
 late_from given after stop s stands failed settled t alone settles leaves sized has =
     let calls = opening_cost stands.carried s in
     record {

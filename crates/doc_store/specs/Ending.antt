@@ -32,9 +32,9 @@ all_with_kept (part ∷ parts) last = with_kept part (next_of parts last) ∷ al
 
 -- a device on which so many of so many calls were made
 pub record HasSpent (stop spent : ℕ) (disk : Disk) : Type 0 where
-  pub passes : disk.passes ≡ Some (stop - spent)
+  pub calls_left : disk.calls_left ≡ Some (stop - spent)
   pub within : spent ≤ stop
-  pub unworn : disk.worn → ⊥
+  pub unsaturated : disk.failures_saturated → ⊥
 
 -- lives one after another, by the clock if that is so
 abbrev pub TimedIf : Type 0 → Left → List Life → List Part → Left → Type 0

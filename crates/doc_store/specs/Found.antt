@@ -4,16 +4,16 @@ use Rattle.sector_device.specs.Disk.{Disk}
 use Rattle.sector_device.specs.Sectors.{KeepsImages}
 use Rattle.store_journal.specs.Carries.{Carried}
 use Rattle.store_journal.specs.Opening.{Loaded}
-use Rattle.store_journal.specs.View.{View, carried_of}
+use Rattle.store_journal.specs.JournalView.{JournalView, carried_of}
 use Rattle.doc_changes.specs.State.{Good, State}
 use Rattle.store_commits.specs.Images.{Holds}
 
 -- what the device carries, by a journal and its bytes as they were read
-abbrev pub carried_in : {D : Type 0} → View D → List ℕ → Carried
+abbrev pub carried_in : {D : Type 0} → JournalView D → List ℕ → Carried
 carried_in journal bytes = record (carried_of journal) { bytes = bytes }
 
 -- the device was only read: it carries the bytes, and they hold the state
-pub record WasFound {D : Type 0} (disk : D → Disk) (device : D) (journal : View D) (bytes : List ℕ) (state : State) : Type 0 where
+pub record WasFound {D : Type 0} (disk : D → Disk) (device : D) (journal : JournalView D) (bytes : List ℕ) (state : State) : Type 0 where
   pub loaded : Loaded (disk device) (disk journal.device) (carried_in journal bytes)
   pub read : (disk journal.device).honest → journal.bytes ≡ bytes
   pub used_is : length journal.bytes ≡ length bytes

@@ -1,4 +1,4 @@
-pub mod Coded
+pub mod CodedStore
 pub mod Copied
 pub mod Ending
 pub mod Formats

@@ -1,4 +1,4 @@
--- What a store tells of itself.
+-- The status of a store, by its account.
 use Rattle.std.specs.Prelude.{length}
 use Rattle.store_journal.specs.Layout.{capacity_of}
 use Rattle.store_commits.specs.Account.{Account}

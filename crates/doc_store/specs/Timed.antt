@@ -43,8 +43,8 @@ abbrev pub left : State → Image → Bool → Left
 left s image settled = record { state = s; image = image; settled = settled }
 
 -- a crash leaves the device as it reads
-abbrev pub IsAlone : Disk → Type 0
-IsAlone disk = (image : Image) → disk.left image → image ≡ disk.seen
+abbrev pub HasOneImage : Disk → Type 0
+HasOneImage disk = (image : Image) → disk.left image → image ≡ disk.seen
 
 -- An opened life: its first account is what the image carries, the calls of its opening were within the stop, each event is in time, and the crash leaves the last account, or what the commit makes that was hit.
 pub record IsTimely (l : Left) (stop faults : ℕ) (events : List Event) (replies : List Reply) (first last : Account) (t : Left) : Type 0 where

@@ -80,8 +80,7 @@ impl<D: SectorDevice> Store<D> {
         ensures standing { IsStanding (D.disk self.new.device) self.new.account }
         ensures good { Good self.new.account.state }
     {
-        // From here on the proof knows what the device stands for.
-        let _ = self.status();
+        self.know();
         let transactions = singles(self.alloc, commands)?;
         self.transact_batch(transactions)
     }

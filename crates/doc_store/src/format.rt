@@ -4,7 +4,7 @@ ghost use Rattle.sector_device.specs.Charges.{Failed, Made};
 ghost use Rattle.sector_device.specs.Disk.{Image, LeavesOnly};
 ghost use Rattle.store_journal.specs.Calls.{Broke};
 ghost use Rattle.store_journal.specs.Carries.{EitherCarried};
-ghost use Rattle.store_journal.specs.View.{IsKept, carried_of};
+ghost use Rattle.store_journal.specs.JournalView.{IsKept, carried_of};
 ghost use Rattle.doc_changes.specs.State.{Good};
 ghost use Rattle.doc_changes.specs.Refusals.{plain};
 ghost use Rattle.refusals.specs.declared.numbers.TheConstants.{DEVICE};
@@ -105,8 +105,7 @@ fn name_format<D: SectorDevice>(journal: &mut Journal<D>, rides: bool) -> Result
     ensures honest { (D.disk journal.old.device).honest ↔ (D.disk journal.new.device).honest }
     ensures kept { IsKept (D.disk journal.new.device) journal.new }
 {
-    // The proof learns what the journal's images carry.
-    let _ = journal.is_broken();
+    journal.know();
     let update = Update {
         base: Base::Kept,
         frames: &[],

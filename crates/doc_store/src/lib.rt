@@ -1,14 +1,19 @@
-//! Named JSON documents on a device, kept over crashes. For every device that keeps to the disk model: while `execute`,
-//! `transact`, `transact_batch`, `snapshot`, `pump` or `run` goes on, each image that a crash may leave at any moment stands for the
-//! state after a prefix of the accepted transactions, each whole, and once it answered for the one after all that were done (`Run.antt`). Of every
-//! device: each event makes its known number of calls, and is refused as 61 only where one of them failed
-//! (`Charged.antt`). `open` answers exactly the state that the device stands for, in format 1 or 2, and refuses all else;
-//! each image that it leaves was there before or stands for that state, and the store that opened is in format 2. An image
-//! stands for one state at most, and a snapshot makes its documents again with their revisions (`laws`). `lives` opens a disk, stops it, crashes it and opens it again, as often as one
-//! likes: each opening finds a prefix of the accepted transactions with all that were done (`specs/Lives.antt`).
+//! Named JSON documents on a device, kept over crashes.
 //!
-//! Accounts, answers and runs, and what commits to the journal, are in `store_commits`; its definitions can be cited as
-//! this crate's.
+//! For every device that keeps to the disk model: while `execute`, `transact`, `transact_batch`, `snapshot`, `pump` or
+//! `run` goes on, each image that a crash may leave at any moment is that of the state after a prefix of the accepted
+//! transactions, each whole. Once the call has answered, it is that of the state after all that were done (`Run.antt`). Of
+//! every device: each event makes its known number of calls, and is refused as `DEVICE` only if one of them failed
+//! (`Charged.antt`).
+//!
+//! `open` answers exactly the state of the device, in format 1, 2 or 3, and refuses all else. Each image that it leaves
+//! was there before or is one of that state. A store in format 1 is then in format 2; one in format 2 or 3 keeps its
+//! format, which `set_format` changes. An image has one state at most, and a snapshot makes its documents again with
+//! their revisions (`laws`). `lives` opens a disk, stops it, crashes it and opens it again, as often as one likes: each
+//! opening finds a prefix of the accepted transactions with all that were done (`specs/Lives.antt`).
+//!
+//! Accounts, answers and runs, and what commits to the journal, are in `store_commits`, where these files are; its
+//! definitions can be cited as this crate's.
 #![tactic(auto)]
 
 mod alone;

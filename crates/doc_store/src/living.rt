@@ -8,7 +8,7 @@ ghost use Rattle.refusals.specs.declared.numbers.TheConstants.{MEMORY, NO_ROOM};
 ghost use Rattle.doc_store.specs.Ending.{Leaves, MayLackRoom, TimedIf, began_or, with_kept};
 ghost use Rattle.doc_store.specs.Lives.{AllStand};
 ghost use Rattle.doc_store.specs.Opening.{LacksRoom};
-ghost use Rattle.doc_store.specs.Timed.{IsAlone, left};
+ghost use Rattle.doc_store.specs.Timed.{HasOneImage, left};
 
 use crate::life::{Life, Part};
 use crate::store::Store;
@@ -29,11 +29,11 @@ pub struct Ended<D: SectorDevice> {
 
 /// A life of a disk: opened through a fuse, asked, and crashed.
 pub(crate) fn live(alloc: Global, disk: MemDisk, life: Life) -> Result<Ended<MemDisk>, Refusal>
-    ensures lived { (s : State) (settled : Bool) → AllStand (mem_disk disk) s → (settled ≡ true → IsAlone (mem_disk disk)) → IfOk result (λ ended. (t : State)
-        × TimedIf ((mem_disk disk).worn → ⊥) (left s (mem_disk disk).seen settled) (life ∷ []) (with_kept ended.part t.seq ∷ []) (left t (mem_disk ended.device).seen true)
+    ensures lived { (s : State) (settled : Bool) → AllStand (mem_disk disk) s → (settled ≡ true → HasOneImage (mem_disk disk)) → IfOk result (λ ended. (t : State)
+        × TimedIf ((mem_disk disk).failures_saturated → ⊥) (left s (mem_disk disk).seen settled) (life ∷ []) (with_kept ended.part t.seq ∷ []) (left t (mem_disk ended.device).seen true)
         × (began_or ended.part t.seq ≡ s.seq) × AllStand (mem_disk ended.device) t) }
-    ensures alone { IfOk result (λ ended. IsAlone (mem_disk ended.device)) }
-    ensures fresh { IfOk result (λ ended. (mem_disk ended.device).worn → ⊥) }
+    ensures alone { IfOk result (λ ended. HasOneImage (mem_disk ended.device)) }
+    ensures fresh { IfOk result (λ ended. (mem_disk ended.device).failures_saturated → ⊥) }
     ensures rooms { IfOk result (λ ended. MayLackRoom (mem_disk ended.device) → MayLackRoom (mem_disk disk)) }
     ensures err { IfErr result (λ refusal. (refusal ≡ plain MEMORY) ⊎ ((refusal ≡ plain NO_ROOM) × LacksRoom (mem_disk disk).seen)) }
 {
@@ -61,9 +61,9 @@ fn spend<D: SectorDevice + Drop>(
     device: D,
     events: Vec<Event>,
 ) -> Result<Ended<D>, Refusal>
-    ensures leaves { (s : State) (life : Life) (settled : Bool) → life.events ≡ events → AllStand (D.disk device) s → (settled ≡ true → IsAlone (D.disk device))
+    ensures leaves { (s : State) (life : Life) (settled : Bool) → life.events ≡ events → AllStand (D.disk device) s → (settled ≡ true → HasOneImage (D.disk device))
         → IfOk result (λ ended. (D.disk ended.device).honest → (image : Image) → (D.disk ended.device).left image
-        → Leaves (D.disk device) (left s (D.disk device).seen settled) life (record ended.part { disk_faults = (D.disk ended.device).faults - (D.disk device).faults }) image) }
+        → Leaves (D.disk device) (left s (D.disk device).seen settled) life (record ended.part { disk_faults = (D.disk ended.device).own_failures - (D.disk device).own_failures }) image) }
     ensures rooms { IfOk result (λ ended. (D.disk ended.device).honest → MayLackRoom (D.disk ended.device) → MayLackRoom (D.disk device)) }
     ensures err { IfErr result (λ refusal. (refusal ≡ plain MEMORY)
         ⊎ ((refusal ≡ plain NO_ROOM) × (((d : D) → (D.disk d).honest) → LacksRoom (D.disk device).seen))) }
@@ -80,8 +80,7 @@ fn spend<D: SectorDevice + Drop>(
         Ok(store) => store,
     };
     let began = store.status().seq;
-    // The proof learns in how many bytes of which half the device stands for the state.
-    store.stands_as();
+    store.know();
     part.ask_all(alloc, &mut store, events);
     part.opened = true;
     part.kept = began;

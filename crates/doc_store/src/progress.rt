@@ -4,6 +4,7 @@ ghost use Rattle.doc_machine.specs.Transaction.{transaction_of};
 ghost use Rattle.store_commits.specs.Account.{IsStanding, StoreView};
 ghost use Rattle.store_commits.specs.Charged.{Answered, IsCharged};
 ghost use Rattle.store_commits.specs.Extents.{IsStandingAs};
+ghost use Rattle.doc_changes.specs.State.{Good};
 ghost use Rattle.doc_store.specs.Leaving.{LeavesThen};
 ghost use Rattle.store_commits.specs.Run.{Ran, change};
 ghost use Rattle.store_commits.specs.Run.{snapshot as a_snapshot};
@@ -49,8 +50,7 @@ impl Part {
         ensures told { Told D.disk store.old store.new (map event_of events.items) self.new }
         ensures standing { IsStanding (D.disk store.new.device) store.new.account }
     {
-        // From here on the proof knows what the device stands for.
-        let _ = store.status();
+        store.know();
         for event in events {
             self.ask(alloc, store, event);
         }
@@ -66,8 +66,7 @@ impl Part {
         ensures standing { IsStanding (D.disk store.new.device) store.new.account }
     {
         let reply = self.answer(alloc, store, event);
-        // The proof learns in how many bytes of which half the device stands for the state.
-        store.stands_as();
+        store.know();
         self.replies.push(reply).unwrap();
     }
 
@@ -158,10 +157,13 @@ fn pump<D: SectorDevice>(store: &mut Store<D>, max: u64) -> Reply
 }
 
 impl<D: SectorDevice> Store<D> {
-    // In how many bytes of which half the device stands for the state.
-    pub(crate) fn stands_as(&self)
-        ensures { IsStandingAs (D.disk self.now.device) self.now.account }
+    /// For the prover alone: who calls it knows from there on what the device stands for, and in how many bytes of which
+    /// half.
+    pub fn know(&self)
+        ensures standing { IsStanding (D.disk self.now.device) self.now.account }
+        ensures good { Good self.now.account.state }
+        ensures stands_as { IsStandingAs (D.disk self.now.device) self.now.account }
     {
-        let _ = self.journal.is_broken();
+        self.journal.know();
     }
 }

@@ -39,8 +39,7 @@ impl<D: SectorDevice> Store<D> {
         ensures unchanged { IfErr result (λ refusal. refusal.number ≢ DEVICE → self.new ≡ self.old) }
         ensures good { Good self.new.account.state }
     {
-        // From here on the proof knows what the device stands for.
-        let _ = self.status();
+        self.know();
         self.copy_more(max)
     }
 

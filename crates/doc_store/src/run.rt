@@ -21,8 +21,7 @@ impl<D: SectorDevice> Store<D> {
         ensures standing { IsStanding (D.disk self.new.device) self.new.account }
         ensures good { Good self.new.account.state }
     {
-        // From here on the proof knows what the device stands for.
-        let _ = self.status();
+        self.know();
         let mut replies = Vec::with_capacity(self.alloc, events.len())?;
         for event in events {
             let reply = self.answer(event);

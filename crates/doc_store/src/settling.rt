@@ -2,7 +2,7 @@
 ghost use Rattle.std.specs.Prelude.{◌≡◌, ◌↔◌, IfErr, OnOk, length, false};
 ghost use Rattle.sector_device.specs.Disk.{LeavesOnly};
 ghost use Rattle.store_journal.specs.Carries.{EitherCarried};
-ghost use Rattle.store_journal.specs.View.{IsKept, carried_of};
+ghost use Rattle.store_journal.specs.JournalView.{IsKept, carried_of};
 ghost use Rattle.doc_store.specs.Found.{carried_in};
 ghost use Rattle.doc_store.specs.Opening.{carried_after};
 ghost use Rattle.doc_store.specs.Settling.{IsNotSettled, IsSettled};
@@ -36,8 +36,7 @@ pub(crate) fn settle<D: SectorDevice>(
     ensures honest { (D.disk journal.old.device).honest ↔ (D.disk journal.new.device).honest }
     ensures kept { IsKept (D.disk journal.new.device) journal.new }
 {
-    // The proof learns what the journal's images carry.
-    let _ = journal.is_broken();
+    journal.know();
     if journal.version() != 1 {
         return match journal.count_open(bytes) {
             Ok(()) => Ok(()),

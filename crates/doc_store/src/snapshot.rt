@@ -40,8 +40,7 @@ impl<D: SectorDevice> Store<D> {
         ensures unchanged { IfErr result (λ refusal. refusal.number ≢ DEVICE → refusal.number ≢ FULL → self.new ≡ self.old) }
         ensures good { Good self.new.account.state }
     {
-        // From here on the proof knows what the device stands for.
-        let _ = self.status();
+        self.know();
         self.write_anew()
     }
 

@@ -1,6 +1,6 @@
-//! What a store tells of itself.
+//! The status of a store.
 
-/// What a store tells of itself.
+/// The status of a store.
 #[derive(Clone, Copy, Debug, PartialEq, Eq)]
 pub struct Status {
     /// The documents that stand.

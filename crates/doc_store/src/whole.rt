@@ -9,7 +9,7 @@ ghost use Rattle.doc_store.specs.Ending.{MayLackRoom, TimedIf, all_with_kept};
 ghost use Rattle.doc_store.specs.Lives.{AllStand, DiskStands, FailsAtLast, IsLives};
 ghost use Rattle.doc_store.specs.Opening.{IsOpenedFrom};
 ghost use Rattle.doc_store.specs.Promise.{LivesKeep};
-ghost use Rattle.doc_store.specs.Timed.{IsAlone, Timed, left};
+ghost use Rattle.doc_store.specs.Timed.{HasOneImage, Timed, left};
 
 use crate::kept::tell_kept;
 use crate::life::{Life, Part};
@@ -34,7 +34,7 @@ impl Store<MemDisk> {
     ) -> Result<(Vec<Part>, Store<MemDisk>), Refusal>
         ensures lives { (s : State) → AllStand (mem_disk disk) s → IfOk result (λ told. IsLives s lives.items told.0.items told.1.account.state) }
         ensures promise { (s : State) → DiskStands disk s → IfOk result (λ told. LivesKeep s lives.items told.0.items told.1.account.state) }
-        ensures timed { (s : State) (settled : Bool) → AllStand (mem_disk disk) s → (settled ≡ true → IsAlone (mem_disk disk)) → ((mem_disk disk).worn → ⊥)
+        ensures timed { (s : State) (settled : Bool) → AllStand (mem_disk disk) s → (settled ≡ true → HasOneImage (mem_disk disk)) → ((mem_disk disk).failures_saturated → ⊥)
             → IfOk result (λ told. (image : Image) × (now : Bool) × IsOpenedFrom image told.1.account
             × Timed (left s (mem_disk disk).seen settled) lives.items told.0.items (left told.1.account.state image now)) }
         ensures works { IfOk result (λ told. (told.1.account.broken ≡ false) × (told.1.account.copy ≡ None)) }
@@ -55,8 +55,8 @@ impl Store<MemDisk> {
 
 // All lives, one after another: their parts, which don't tell yet what was kept, and the disk after the last crash.
 fn live_all(alloc: Global, disk: MemDisk, lives: Vec<Life>) -> Result<(Vec<Part>, MemDisk), Refusal>
-    ensures lived { (s : State) (settled : Bool) → AllStand (mem_disk disk) s → (settled ≡ true → IsAlone (mem_disk disk)) → IfOk result (λ lived. (t : State) × (now : Bool)
-        × TimedIf ((mem_disk disk).worn → ⊥) (left s (mem_disk disk).seen settled) lives.items (all_with_kept lived.0.items t.seq) (left t (mem_disk lived.1).seen now)
+    ensures lived { (s : State) (settled : Bool) → AllStand (mem_disk disk) s → (settled ≡ true → HasOneImage (mem_disk disk)) → IfOk result (λ lived. (t : State) × (now : Bool)
+        × TimedIf ((mem_disk disk).failures_saturated → ⊥) (left s (mem_disk disk).seen settled) lives.items (all_with_kept lived.0.items t.seq) (left t (mem_disk lived.1).seen now)
         × AllStand (mem_disk lived.1) t) }
     ensures rooms { IfOk result (λ lived. MayLackRoom (mem_disk lived.1) → MayLackRoom (mem_disk disk)) }
     ensures err { IfErr result (λ refusal. (refusal ≡ plain MEMORY) ⊎ ((refusal ≡ plain NO_ROOM) × MayLackRoom (mem_disk disk))) }

@@ -16,7 +16,7 @@ use Rattle.std.specs.Map.{keys_of}
 use Rattle.std.specs.Ordering.{ordering_reverse}
 use Rattle.std.specs.BTreeMap.{insert_entry}
 use Rattle.doc_tree.specs.Doc.{Doc, height, Elements, no_elements, element, Members, no_members, member}
-use Rattle.doc_tree.specs.View.{view, elements_view, members_view}
+use Rattle.doc_tree.specs.TreeView.{view, elements_view, members_view}
 use Rattle.doc_tree.specs.declared.tree.Tree.{Tree}
 use Rattle.doc_tree.proofs.Depth.{height_of_read}
 use Rattle.doc_tree.proofs.Views.{Entry}

@@ -2,7 +2,7 @@
 use Rattle.std.proofs.Common.{◌≡◌, ◌∙◌, ℕ, List, [], ◌∷◌, Some, String, string_bytes, slice_get, ap, sym}
 use Rattle.std.specs.declared.alloc.Global.{Global}
 use Rattle.doc_tree.specs.Cursor.{IsNext}
-use Rattle.doc_tree.specs.View.{members_view}
+use Rattle.doc_tree.specs.TreeView.{members_view}
 use Rattle.doc_tree.specs.declared.tree.Tree.{Tree}
 
 -- the first entry has the name exactly where the next member has it

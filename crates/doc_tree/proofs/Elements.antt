@@ -3,7 +3,7 @@ use Rattle.std.proofs.Common.{◌≡◌, ℕ, zero, suc, List, [], ◌∷◌, le
 use Rattle.doc_tree.specs.Doc.{Doc, Elements, no_elements, element, get_element}
 use Rattle.doc_tree.specs.Lists.{elements_list}
 use Rattle.doc_tree.specs.Sound.{IsSound, AreSound}
-use Rattle.doc_tree.specs.View.{view, elements_of, elements_view}
+use Rattle.doc_tree.specs.TreeView.{view, elements_of, elements_view}
 use Rattle.doc_tree.specs.declared.tree.Tree.{Tree}
 
 pub elements_list-elements_of : (ds : List Doc) → elements_list (elements_of ds) ≡ ds

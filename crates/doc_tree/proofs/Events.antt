@@ -6,7 +6,7 @@ use Rattle.serde_json.specs.Find.{of_integer}
 use Rattle.serde_json.specs.Written.{has_float, items_have_float, members_have_float}
 use Rattle.doc_tree.specs.Doc.{Doc, null, boolean, int, text, list, object, Elements, no_elements, element, Members, no_members, member}
 use Rattle.doc_tree.specs.Text.{data_of, items_of, members_of}
-use Rattle.doc_tree.specs.View.{elements_view, members_view}
+use Rattle.doc_tree.specs.TreeView.{elements_view, members_view}
 use Rattle.doc_tree.specs.declared.tree.Tree.{Tree}
 use Rattle.doc_tree.proofs.Views.{Entry}
 

@@ -1,7 +1,7 @@
 -- A walk over the members of an object.
 use Rattle.std.specs.Prelude.{◌≡◌, ℕ, List}
 use Rattle.doc_tree.specs.Doc.{Members, member, no_members}
-use Rattle.doc_tree.specs.View.{members_view}
+use Rattle.doc_tree.specs.TreeView.{members_view}
 use Rattle.doc_tree.specs.declared.cursor.MemberCursor.{MemberCursor}
 
 -- the members that it hasn't come to yet

@@ -4,7 +4,7 @@ pub mod Same
 pub mod Place
 pub mod Places
 pub mod Lists
-pub mod View
+pub mod TreeView
 pub mod Text
 pub mod Read
 pub mod Fault

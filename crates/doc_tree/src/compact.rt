@@ -28,7 +28,7 @@ impl Tree {
 /// A text that the bytes may begin with as a JSON string with no escape, and what follows it.
 ///
 /// As with `Tree::read_compact`, nothing is stated of the answer: `strip_quoted` tells.
-pub fn read_plain(alloc: Global, bytes: &[u8]) -> Option<(String, &[u8])> {
+pub fn read_unescaped(alloc: Global, bytes: &[u8]) -> Option<(String, &[u8])> {
     let inside = bytes.strip_prefix(b"\"")?;
     let end = inside.iter().position(|byte| ends_plain(*byte))?;
     let (plain, rest) = inside.split_at(end);
@@ -42,7 +42,7 @@ pub fn read_plain(alloc: Global, bytes: &[u8]) -> Option<(String, &[u8])> {
 fn value(alloc: Global, levels: u32, bytes: &[u8]) -> Option<(Tree, &[u8])> {
     match *bytes.first()? {
         b'"' => {
-            let (text, rest) = read_plain(alloc, bytes)?;
+            let (text, rest) = read_unescaped(alloc, bytes)?;
             Some((Tree::Text(text), rest))
         }
         b'[' => elements(alloc, levels.checked_sub(1)?, &bytes[1..]),
@@ -82,7 +82,7 @@ fn members(alloc: Global, levels: u32, bytes: &[u8]) -> Option<(Tree, &[u8])> {
     }
     let mut next = bytes;
     for _ in 0..bytes.len() {
-        let (name, rest) = read_plain(alloc, next)?;
+        let (name, rest) = read_unescaped(alloc, next)?;
         let (member, rest) = value(alloc, levels, rest.strip_prefix(b":")?)?;
         found.insert(name, member).ok()?;
         if let Some(rest) = rest.strip_prefix(b"}") {

@@ -1,7 +1,7 @@
 // When two documents are one.
 ghost use Rattle.std.specs.Prelude.{◌≡◌, ◌↔◌, IsTrue};
 ghost use Rattle.doc_tree.specs.Same.{same, same_elements, same_members};
-ghost use Rattle.doc_tree.specs.View.{view, elements_view, members_view};
+ghost use Rattle.doc_tree.specs.TreeView.{view, elements_view, members_view};
 
 use crate::tree::Tree;
 use std::collections::BTreeMap;

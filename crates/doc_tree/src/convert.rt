@@ -4,7 +4,7 @@ ghost use Rattle.serde_json.specs.View.{view as data_view, items_view, members_v
 ghost use Rattle.doc_tree.specs.Fault.{IsRefusalOf};
 ghost use Rattle.doc_tree.specs.Read.{doc_of, elements_from, members_from};
 ghost use Rattle.doc_tree.specs.Sound.{IsSound, AreSound, MembersAreSound};
-ghost use Rattle.doc_tree.specs.View.{view, elements_view, members_view};
+ghost use Rattle.doc_tree.specs.TreeView.{view, elements_view, members_view};
 
 use crate::fault::TreeFault;
 use crate::tree::Tree;

@@ -2,7 +2,7 @@
 ghost use Rattle.std.specs.Prelude.{◌≡◌, ◌↔◌, ℕ, List, IsSome, IsTrue, MatchOption, option_map, pos, string_bytes};
 ghost use Rattle.doc_tree.specs.Cursor.{ahead, IsNext};
 ghost use Rattle.doc_tree.specs.Doc.{Doc, Members, as_object, int, member, no_members, text};
-ghost use Rattle.doc_tree.specs.View.{view};
+ghost use Rattle.doc_tree.specs.TreeView.{view};
 
 use crate::tree::Tree;
 use std::collections::BTreeMap;

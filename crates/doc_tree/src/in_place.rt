@@ -9,7 +9,7 @@ impl Tree {
     ghost use Rattle.doc_tree.specs.declared.tree.Tree.{List, Object};
     ghost use Rattle.doc_tree.specs.Doc.{as_list, as_object};
     ghost use Rattle.doc_tree.specs.Rows.{list_row, map_row};
-    ghost use Rattle.doc_tree.specs.View.{view, elements_view, members_view};
+    ghost use Rattle.doc_tree.specs.TreeView.{view, elements_view, members_view};
 
     /// The members of an object, to be changed in place; `None` for any other value.
     pub fn as_object_mut(&mut self) -> Option<&mut BTreeMap<String, Tree>>

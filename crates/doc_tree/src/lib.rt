@@ -22,7 +22,7 @@ mod strip;
 mod tree;
 mod write;
 
-pub use compact::read_plain;
+pub use compact::read_unescaped;
 pub use cursor::MemberCursor;
 pub use fault::TreeFault;
 pub use room::quoted_len_within;

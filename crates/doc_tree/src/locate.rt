@@ -3,7 +3,7 @@ ghost use Rattle.std.specs.Prelude.{◌≡◌, option_map, map};
 ghost use Rattle.doc_tree.specs.Doc.{child, at, get_element, get_member};
 ghost use Rattle.doc_tree.specs.Doc as place;
 ghost use Rattle.doc_tree.specs.Place.{place_of};
-ghost use Rattle.doc_tree.specs.View.{view, elements_view, members_view};
+ghost use Rattle.doc_tree.specs.TreeView.{view, elements_view, members_view};
 
 use crate::tree::{Step, Tree};
 use std::collections::BTreeMap;

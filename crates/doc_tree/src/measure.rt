@@ -2,7 +2,7 @@
 ghost use Rattle.std.specs.Prelude.{◌≡◌, min};
 ghost use Rattle.doc_tree.specs.Doc.{height, elements_height, members_height};
 ghost use Rattle.doc_tree.specs.Sound.{IsSound, AreSound, MembersAreSound};
-ghost use Rattle.doc_tree.specs.View.{view, elements_view, members_view};
+ghost use Rattle.doc_tree.specs.TreeView.{view, elements_view, members_view};
 
 use crate::tree::Tree;
 use std::collections::BTreeMap;

@@ -4,7 +4,7 @@ ghost use Rattle.doc_tree.specs.Doc.{height};
 ghost use Rattle.doc_tree.specs.Fault.{IsFaultOf};
 ghost use Rattle.doc_tree.specs.Read.{read_of, document};
 ghost use Rattle.doc_tree.specs.Sound.{IsSound};
-ghost use Rattle.doc_tree.specs.View.{view};
+ghost use Rattle.doc_tree.specs.TreeView.{view};
 
 use crate::convert::tree_of;
 use crate::fault::TreeFault;

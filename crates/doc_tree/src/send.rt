@@ -6,7 +6,7 @@ ghost use Rattle.serde_json.specs.Events.{number_event, SendsValue};
 ghost use Rattle.serde_json.specs.Find.{of_integer};
 ghost use Rattle.doc_tree.specs.Sound.{IsSound, AreSound, MembersAreSound};
 ghost use Rattle.doc_tree.specs.Text.{data_of, items_of, members_of};
-ghost use Rattle.doc_tree.specs.View.{view, elements_view, members_view};
+ghost use Rattle.doc_tree.specs.TreeView.{view, elements_view, members_view};
 
 use crate::tree::Tree;
 use serde::{Described, Serialize, Serializer};

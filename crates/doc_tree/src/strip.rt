@@ -5,7 +5,7 @@ ghost use Rattle.json.specs.Print.{quoted, escape, escape_byte};
 ghost use Rattle.serde_json.specs.Written.{comma_if};
 ghost use Rattle.doc_tree.specs.Sound.{IsSound};
 ghost use Rattle.doc_tree.specs.Text.{text_of, elements_text, members_text_of};
-ghost use Rattle.doc_tree.specs.View.{view, elements_view, members_view};
+ghost use Rattle.doc_tree.specs.TreeView.{view, elements_view, members_view};
 
 use crate::tree::Tree;
 use std::collections::BTreeMap;
@@ -18,7 +18,7 @@ impl Tree {
     pub fn strip_text<'b>(&self, bytes: &'b [u8]) -> Option<&'b [u8]>
         ensures { IfSome result (λ rest. bytes.now ≡ text_of (view self.now) ++ rest.now) }
     {
-        after_tree(self, bytes)
+        strip_tree_text(self, bytes)
     }
 }
 
@@ -44,7 +44,7 @@ pub fn strip_bytes<'b>(first: &[u8], bytes: &'b [u8]) -> Option<&'b [u8]>
 }
 
 #[cycle(strip)]
-fn after_tree<'b>(tree: &Tree, bytes: &'b [u8]) -> Option<&'b [u8]>
+fn strip_tree_text<'b>(tree: &Tree, bytes: &'b [u8]) -> Option<&'b [u8]>
     ensures { IfSome result (λ rest. bytes.now ≡ text_of (view tree.now) ++ rest.now) }
 {
     match tree {
@@ -65,7 +65,7 @@ fn after_elements<'b>(items: &Vec<Tree>, bytes: &'b [u8]) -> Option<&'b [u8]>
     let mut rest = bytes;
     let mut later = false;
     for item in items {
-        rest = after_tree(item, after_comma(later, rest)?)?;
+        rest = strip_tree_text(item, after_comma(later, rest)?)?;
         later = true;
     }
     strip_bytes(b"]", rest)
@@ -79,7 +79,7 @@ fn after_members<'b>(members: &BTreeMap<String, Tree>, bytes: &'b [u8]) -> Optio
     let mut later = false;
     for (name, member) in members.iter() {
         let named = strip_quoted(name.as_str(), after_comma(later, rest)?)?;
-        rest = after_tree(member, strip_bytes(b":", named)?)?;
+        rest = strip_tree_text(member, strip_bytes(b":", named)?)?;
         later = true;
     }
     strip_bytes(b"}", rest)

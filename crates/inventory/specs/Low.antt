@@ -4,7 +4,7 @@ use Rattle.std.specs.Result.{result_ok}
 use Rattle.doc_machine.specs.Queries.{nodes_at}
 use Rattle.doc_changes.specs.State.{State}
 use Rattle.path_parse.specs.Answer.{IsQueryOf}
-use Rattle.path_parse.specs.View.{query_view}
+use Rattle.path_parse.specs.SyntaxView.{query_view}
 use Rattle.path_parse.specs.declared.syntax.Query.{Query}
 
 -- so many nodes of the shelf of that name are selected by the one query that `$[?@ < 20]` spells (RFC 9535, section 2.3.5)

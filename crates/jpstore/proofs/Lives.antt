@@ -6,7 +6,7 @@ use Rattle.doc_changes.specs.State.{State}
 use Rattle.doc_store.specs.Account.{Account}
 use Rattle.doc_store.specs.Opening.{IsOpenedFrom}
 use Rattle.doc_store.specs.Stands.{Stands, StandsAfter, StandsForOne}
-use Rattle.jpstore.specs.Lives.{OpensToAState, LeavesItsState, LeavesAState}
+use Rattle.jpstore.specs.FileLives.{OpensToAState, LeavesItsState, LeavesAState}
 
 -- what was opened stands there
 opened_stands : (image : Image) (account : Account) → IsOpenedFrom image account → Stands account.state image

@@ -11,7 +11,7 @@ use Rattle.file_device.specs.declared.file.FileDevice.{FileDevice}
 use Rattle.sector_device.specs.declared.history.Held.{Held}
 use Rattle.refusals.specs.declared.numbers.TheConstants.{DEVICE}
 use Rattle.protocol.specs.Reply.{line_of}
-use Rattle.serve_lines.specs.Status.{status_reply}
+use Rattle.serve_lines.specs.StatusReply.{status_reply}
 use Rattle.jpstore.specs.Copies.{IsCopiedFile, account_copied}
 use Rattle.jpstore.specs.Faults.{told_of_unopened}
 use Rattle.jpstore.specs.Files.{IsClosedIn, IsFormattedFile, IsOpenedIn, IsServedIn, IsUnopenedIn, WentToTheEnd, fault_of}

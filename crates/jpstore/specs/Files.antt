@@ -33,7 +33,7 @@ abbrev pub fault_of : ℕ → Fault
 fault_of number = if nat_eq number MEMORY then Memory else Refused (plain number)
 
 -- the store went by one run of events
-pub record Went {D : Type 0} (disk : D → Disk) (old new : StoreView D) : Type 0 where
+pub record RanSomeEvents {D : Type 0} (disk : D → Disk) (old new : StoreView D) : Type 0 where
   pub events : List Event
   pub replies : List Reply
   pub ran : RanInBatches disk old new events replies
@@ -100,7 +100,7 @@ pub record IsServedIn (held : Snapshot Held) (batch pump : ℕ) (halt : Bool) (e
   pub went_on : ended ≡ Ok tt → halted ≡ false
   pub stopped : ended ≡ Err Halted → halted ≡ true
   pub served : Serves file_disk (options_of batch pump halt) opened (lines_of read) before closed after count halted
-  pub went : RanIn held opened closed served.told.sits.events served.told.sits.said
+  pub went : RanIn held opened closed served.told.session.events served.told.session.said
 
 -- It was served until something failed, or to the end.
 pub record IsClosedIn (held : Snapshot Held) (closed : StoreView FileDevice) : Type 0 where

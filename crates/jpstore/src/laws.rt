@@ -1,5 +1,5 @@
 //! Laws of the definitions. Each function does nothing: its contract is the law.
-ghost use Rattle.jpstore.specs.Lives.{LeavesAState, LeavesItsState, OpensToAState};
+ghost use Rattle.jpstore.specs.FileLives.{LeavesAState, LeavesItsState, OpensToAState};
 
 use doc_store::laws::one_state_stands;
 

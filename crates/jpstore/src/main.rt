@@ -12,14 +12,14 @@ mod onlooker;
 mod opening;
 mod perform;
 mod programs;
+mod progress_line;
 mod reasons;
 mod serving;
-mod signs;
 
 use fault::{Fault, complain};
 use onlooker::Watch;
 use perform::perform;
-use signs::Signs;
+use progress_line::ProgressLine;
 use std::alloc::Global;
 use std::io::{ErrorKind, Write};
 use std::process::ExitCode;
@@ -45,7 +45,7 @@ fn main(rt: HostRuntime) -> ExitCode {
         &mut reader,
         &mut writer,
         &mut errors,
-        &mut Watch::new(alloc, Signs::new(&rt, rt.stderr())),
+        &mut Watch::new(alloc, ProgressLine::new(&rt, rt.stderr())),
     );
     ExitCode::from(status)
 }

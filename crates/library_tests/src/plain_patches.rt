@@ -11,7 +11,7 @@ fn applied(alloc: Global, patch: &Patch, document: &[u8]) -> Option<Tree> {
 
 /// Whether the patch is read quickly, and makes of the document what the other reader's patch makes of it.
 fn is_read(alloc: Global, ops: &[u8], document: &[u8]) -> bool {
-    let Some(quick) = Patch::read_plain(alloc, ops) else {
+    let Some(quick) = Patch::read_unescaped(alloc, ops) else {
         return false;
     };
     let Ok(tree) = Tree::read(alloc, ops) else {
@@ -66,9 +66,9 @@ fn other_texts_of_patches_are_not(rt: HostRuntime) {
         r#"[{"op":"remove","path":"/\u0061"}]"#,
     ];
     for text in no_patches {
-        assert!(rt; Patch::read_plain(rt.alloc(), text.as_bytes()).is_none());
+        assert!(rt; Patch::read_unescaped(rt.alloc(), text.as_bytes()).is_none());
     }
     for text in spelled_so {
-        assert!(rt; Patch::read_plain(rt.alloc(), text.as_bytes()).is_none());
+        assert!(rt; Patch::read_unescaped(rt.alloc(), text.as_bytes()).is_none());
     }
 }

@@ -4,22 +4,22 @@ use Rattle.std.proofs.Math.ListN.{get_or-map}
 use Rattle.std.specs.List.{AllByRecursion, list_any}
 use Rattle.std.specs.Option.{unwrap_or}
 use Rattle.doc_tree.specs.Doc.{Doc, Place, name, child}
-use Rattle.doc_tree.specs.View.{view}
+use Rattle.doc_tree.specs.TreeView.{view}
 use Rattle.path_eval.proofs.Standing.{found_at, item_at, every}
 use Rattle.path_plans.specs.Evaluating.{selected}
 use Rattle.path_plans.specs.PlanView.{way_selector}
 use Rattle.path_plans.specs.Planned as planned
 use Rattle.path_plans.specs.Planned.{all_taken, choices_refused, listed, passes, plan_refused, test_refused}
-use Rattle.path_eval.specs.Told.{Tells, TellsAll, answer, is_held, phases_view, picks_view, is_refused, said_at, said_of}
+use Rattle.path_eval.specs.FilterTables.{Tells, TellsAll, answer, is_held, phases_view, picks_view, is_refused, said_at, said_of}
 use Rattle.path_eval.specs.Visiting.{refused_at, selected_at}
-use Rattle.path_eval.specs.declared.phase.Phase.{Phase}
+use Rattle.path_eval.specs.declared.table_plan.TableSegment.{TableSegment}
 use Rattle.path_plans.specs.declared.plan.Way.{Way}
 use Rattle.path_plans.specs.declared.plan.Way.TheVariants.{Name, Index}
-use Rattle.path_eval.specs.declared.told.Told.{Told}
+use Rattle.path_eval.specs.declared.filter_table.FilterTable.{FilterTable}
 use Rattle.path_select.specs.Indexed.{at_number, at_numbers, node_at}
 use Rattle.path_select.specs.declared.index.Index as numbered
 use Rattle.path_select.specs.Gives.{Gives, Stops}
-use Rattle.path_select.specs.Trail.{seen}
+use Rattle.path_select.specs.Paths.{seen}
 use Rattle.path_select.specs.Limit.{is_over}
 use Rattle.path_select.specs.Nodes.{Located, Child, child_at, visited}
 use Rattle.path_select.specs.Selectors.{from_front, item_count, slice_indexes, sliced}
@@ -27,14 +27,14 @@ use Rattle.path_select.specs.declared.stop.Stop.{Stop}
 use Rattle.path_select.specs.declared.stop.Stop.TheVariants.{Memory, TooMany}
 
 -- what a table has at a number is what the test says of the node there
-pub tells_at : (root : Doc) (us : List Located) (t : planned.Test) (x : Told) (n : ℕ) → Tells root us t x → said_of (said_at x n) ≡ answer t (node_at root us n).1
+pub tells_at : (root : Doc) (us : List Located) (t : planned.PlanFilter) (x : FilterTable) (n : ℕ) → Tells root us t x → said_of (said_at x n) ≡ answer t (node_at root us n).1
 tells_at root us t x n h =
     sym (get_or-map said_of x.said.items n x.top) ∙ ap₂ (λ l d. get_or l n d) h.0 h.1 ∙ get_or-map (λ u. answer t u.1) us n ([], root)
 
-pub refused_is : (x : numbered.Index) (n : ℕ) (t : planned.Test) (w : Told) → TellsAll x t w → is_refused n w ≡ test_refused t (at_number x n).1
+pub refused_is : (x : numbered.Index) (n : ℕ) (t : planned.PlanFilter) (w : FilterTable) → TellsAll x t w → is_refused n w ≡ test_refused t (at_number x n).1
 refused_is x n t w h = ap (λ s. s.0) (tells_at (view x.root.now) (seen x.walk) t w n h)
 
-pub held_is : (x : numbered.Index) (n : ℕ) (t : planned.Test) (w : Told) → TellsAll x t w → test_refused t (at_number x n).1 ≡ false → is_held n w ≡ passes t (at_number x n).1
+pub held_is : (x : numbered.Index) (n : ℕ) (t : planned.PlanFilter) (w : FilterTable) → TellsAll x t w → test_refused t (at_number x n).1 ≡ false → is_held n w ≡ passes t (at_number x n).1
 held_is x n t w h free = ap (λ s. s.1) (tells_at (view x.root.now) (seen x.walk) t w n h) ∙ ap (λ r. cond r false (passes t (at_number x n).1)) free
 
 pub first_false : (a b : Bool) → (a || b) ≡ false → a ≡ false
@@ -47,7 +47,7 @@ second_false true b h = absurd (cc)
 
 -- ---- those of which a filter holds, by its table
 
-module _ (x : numbered.Index) (t : planned.Test) (w : Told) (h : TellsAll x t w) where
+module _ (x : numbered.Index) (t : planned.PlanFilter) (w : FilterTable) (h : TellsAll x t w) where
   pub held_refused : (ns : List ℕ) → list_any (λ n. is_refused n w) ns ≡ list_any (λ u. test_refused t u.1) (at_numbers x ns)
   held_refused [] = refl
   held_refused (n ∷ ns) = ap₂ (λ a b. a || b) (refused_is x n t w h) (held_refused ns)
@@ -95,7 +95,7 @@ passed true b c h = absurd (cc)
 passed false true c h = absurd (cc)
 passed false false c h = refl
 
-pub phase_goes_on : (p : Phase) (phases : List Phase) (list next : List Located)
+pub phase_goes_on : (p : TableSegment) (phases : List TableSegment) (list next : List Located)
     → (refused_at (picks_view p.picks.items) (visited p.descend list) || is_over (length (selected_at (picks_view p.picks.items) (visited p.descend list)))) ≡ false
     → next ≡ selected_at (picks_view p.picks.items) (visited p.descend list)
     → (listed (phases_view phases) next ≡ listed (phases_view (p ∷ phases)) list) × (plan_refused (phases_view phases) next ≡ plan_refused (phases_view (p ∷ phases)) list)
@@ -104,7 +104,7 @@ phase_goes_on p phases list next h is = (
   ap (plan_refused (phases_view phases)) is ∙ passed (refused_at (picks_view p.picks.items) (visited p.descend list)) _ _ h,
 )
 
-pub phase_stopped : (p : Phase) (phases : List Phase) (list : List Located) (refused : Bool) (e : Stop) → plan_refused (phases_view (p ∷ phases)) list ≡ refused
+pub phase_stopped : (p : TableSegment) (phases : List TableSegment) (list : List Located) (refused : Bool) (e : Stop) → plan_refused (phases_view (p ∷ phases)) list ≡ refused
     → Stops e (refused_at (picks_view p.picks.items) (visited p.descend list) || is_over (length (selected_at (picks_view p.picks.items) (visited p.descend list))))
     → Stops e refused
 phase_stopped p phases list refused Memory same stops = tt

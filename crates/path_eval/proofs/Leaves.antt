@@ -4,14 +4,14 @@ use Rattle.std.specs.List.{list_any}
 use Rattle.doc_tree.specs.Doc.{Doc, null, boolean, int, text, list, object, Place, name, index, child}
 use Rattle.path_grammar.specs.Syntax.{Selector, name_selector, wildcard_selector, slice_selector, index_selector, filter_selector}
 use Rattle.path_plans.specs.Evaluating.{selected}
-use Rattle.path_plans.specs.Planned.{Choice, plain, kept, Choices, no_choices, choice, taken, all_taken, choice_refused, choices_refused}
+use Rattle.path_plans.specs.Planned.{PlanSelector, plain, kept, PlanSelectors, no_choices, choice, taken, all_taken, choice_refused, choices_refused}
 use Rattle.path_select.specs.Nodes.{Located, children, descendants, beneath, under, child_at}
 use Rattle.path_select.specs.Selectors.{found, item, item_if}
 use Rattle.path_select.specs.Limit.{is_over}
-use Rattle.path_select.specs.Trail.{GoesOn, seen}
+use Rattle.path_select.specs.Paths.{GoesOn, seen}
 use Rattle.path_eval.specs.Listed.{Goes, Walks}
 use Rattle.path_eval.specs.Visiting.{is_leaf, selected_at, refused_at}
-use Rattle.path_select.specs.declared.trail.Walk.{Walk}
+use Rattle.path_select.specs.declared.paths.Walk.{Walk}
 
 no_member : (k : List ℕ) (d : Doc) → is_leaf d ≡ true → child (name k) d ≡ None
 no_member k null leaf = refl
@@ -60,19 +60,19 @@ none_selected (slice_selector a b c) d leaf = no_items _ d leaf
 none_selected (index_selector i) d leaf = no_item _ d leaf
 none_selected (filter_selector e) d leaf = ap (filter _) (no_children d leaf)
 
-none_taken : (c : Choice) (d : Doc) → is_leaf d ≡ true → taken c d ≡ []
+none_taken : (c : PlanSelector) (d : Doc) → is_leaf d ≡ true → taken c d ≡ []
 none_taken (plain s) d leaf = none_selected s d leaf
 none_taken (kept t) d leaf = ap (filter _) (no_children d leaf)
 
-nothing_taken : (cs : Choices) (d : Doc) → is_leaf d ≡ true → all_taken cs d ≡ []
+nothing_taken : (cs : PlanSelectors) (d : Doc) → is_leaf d ≡ true → all_taken cs d ≡ []
 nothing_taken no_choices d leaf = refl
 nothing_taken (choice c cs) d leaf = ap (λ ks. ks ++ all_taken cs d) (none_taken c d leaf) ∙ nothing_taken cs d leaf
 
-none_refused : (c : Choice) (d : Doc) → is_leaf d ≡ true → choice_refused c d ≡ false
+none_refused : (c : PlanSelector) (d : Doc) → is_leaf d ≡ true → choice_refused c d ≡ false
 none_refused (plain s) d leaf = refl
 none_refused (kept t) d leaf = ap (list_any _) (no_children d leaf)
 
-nothing_refused : (cs : Choices) (d : Doc) → is_leaf d ≡ true → choices_refused cs d ≡ false
+nothing_refused : (cs : PlanSelectors) (d : Doc) → is_leaf d ≡ true → choices_refused cs d ≡ false
 nothing_refused no_choices d leaf = refl
 nothing_refused (choice c cs) d leaf = ap (λ b. b || choices_refused cs d) (none_refused c d leaf) ∙ nothing_refused cs d leaf
 
@@ -84,7 +84,7 @@ stays w refused new on within free none =
       sym all,
     )
 
-pub leaf_stays : (cs : Choices) (w : Walk) (p : List Place) (s : Place) (d : Doc) → is_leaf d ≡ true → GoesOn w w → is_over (length (seen w)) ≡ false → Walks cs w (map (beneath p) (map (under s) (descendants d))) (Ok w)
+pub leaf_stays : (cs : PlanSelectors) (w : Walk) (p : List Place) (s : Place) (d : Doc) → is_leaf d ≡ true → GoesOn w w → is_over (length (seen w)) ≡ false → Walks cs w (map (beneath p) (map (under s) (descendants d))) (Ok w)
 leaf_stays cs w p s d leaf on within =
     let us : map (beneath p) (map (under s) (descendants d)) ≡ (p ++ s ∷ [], d) ∷ [] = ap (λ ns. map (beneath p) (map (under s) ns)) (it_alone d leaf) in
     stays w _ _ on within

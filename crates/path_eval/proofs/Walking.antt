@@ -5,18 +5,18 @@ use Rattle.std.proofs.lemmas.List.{nil_from_length}
 use Rattle.std.proofs.lemmas.List.Folds.{list_any-append}
 use Rattle.std.proofs.Math.Seq.{take-append_seam}
 use Rattle.doc_tree.specs.Doc.{Doc, Place}
-use Rattle.path_plans.specs.Planned.{Choices, all_taken, choices_refused}
+use Rattle.path_plans.specs.Planned.{PlanSelectors, all_taken, choices_refused}
 use Rattle.path_select.specs.Gives.{Stops}
 use Rattle.path_eval.specs.Listed.{Walks}
 use Rattle.path_select.specs.Nodes.{Located, beneath, under, child_at}
 use Rattle.path_select.specs.Limit.{is_over}
-use Rattle.path_select.specs.Trail.{GoesOn, Returns, location, all_spots, seen, stand}
+use Rattle.path_select.specs.Paths.{GoesOn, Returns, location, all_spots, seen, stand}
 use Rattle.path_grammar.specs.Lent.{lent_place}
 use Rattle.path_eval.specs.Visiting.{selected_at, refused_at}
 use Rattle.path_select.specs.declared.stop.Stop.{Stop}
 use Rattle.path_select.specs.declared.stop.Stop.TheVariants.{Memory, TooMany}
-use Rattle.path_select.specs.declared.trail.Mark.{Mark}
-use Rattle.path_select.specs.declared.trail.Walk.{Walk}
+use Rattle.path_select.specs.declared.paths.Mark.{Mark}
+use Rattle.path_select.specs.declared.paths.Walk.{Walk}
 use Rattle.path_select.proofs.Gathering.{go_on, stop_all, both_false}
 use Rattle.path_select.proofs.Trails.{location-new, goes_on_on, goes_location, goes_seen, stand-more}
 
@@ -26,22 +26,22 @@ beneath-under p s [] = refl
 beneath-under p s (u ∷ us) = ap₂ (λ (q : List Place) (vs : List Located). (q, u.1) ∷ vs) (sym (append_assoc p (s ∷ []) u.0)) (beneath-under p s us)
 
 -- what is selected, and refused, at these values, located from p
-abbrev pub at_all : Choices → List Place → List Located → List Located
+abbrev pub at_all : PlanSelectors → List Place → List Located → List Located
 at_all cs p us = selected_at cs (map (beneath p) us)
 
-abbrev pub refused_all : Choices → List Place → List Located → Bool
+abbrev pub refused_all : PlanSelectors → List Place → List Located → Bool
 refused_all cs p us = refused_at cs (map (beneath p) us)
 
 -- what is selected, and refused, at one node
-abbrev chosen : Choices → Located → List Located
+abbrev chosen : PlanSelectors → Located → List Located
 chosen cs = λ u. map (child_at u.0) (all_taken cs u.1)
 
-abbrev barred : Choices → Located → Bool
+abbrev barred : PlanSelectors → Located → Bool
 barred cs = λ u. choices_refused cs u.1
 
 -- ---- nodes after nodes: `here` is visited next, and `rest` after it
 
-module _ (cs : Choices) (w0 w : Walk) (a : GoesOn w0 w) (here here0 rest whole total : List Located) (refused : Bool) (moved : here ≡ here0) (next : whole ≡ here0 ++ rest) (all : seen w ++ selected_at cs whole ≡ total) (same : refused_at cs whole ≡ refused) where
+module _ (cs : PlanSelectors) (w0 w : Walk) (a : GoesOn w0 w) (here here0 rest whole total : List Located) (refused : Bool) (moved : here ≡ here0) (next : whole ≡ here0 ++ rest) (all : seen w ++ selected_at cs whole ≡ total) (same : refused_at cs whole ≡ refused) where
   split : seen w ++ (selected_at cs here ++ selected_at cs rest) ≡ total
   split =
       ap (λ us. seen w ++ (selected_at cs us ++ selected_at cs rest)) moved
@@ -69,7 +69,7 @@ module _ (cs : Choices) (w0 w : Walk) (a : GoesOn w0 w) (here here0 rest whole t
 abbrev pub judged : Bool → List Located → Bool
 judged refused all = refused || is_over (length all)
 
-module _ (cs : Choices) (w0 w1 : Walk) (place : ℕ) (above : place ≤ length w0.trail.items) (d : Doc) (us all : List Located) (is : all ≡ ([], d) ∷ us) (first : Walks cs w0 ((location w0.trail.items place, d) ∷ []) (Ok w1)) where
+module _ (cs : PlanSelectors) (w0 w1 : Walk) (place : ℕ) (above : place ≤ length w0.trail.items) (d : Doc) (us all : List Located) (is : all ≡ ([], d) ∷ us) (first : Walks cs w0 ((location w0.trail.items place, d) ∷ []) (Ok w1)) where
   abbrev p : List Place
   p = location w0.trail.items place
 
@@ -98,7 +98,7 @@ module _ (cs : Choices) (w0 w1 : Walk) (place : ℕ) (above : place ≤ length w
 
 -- ---- a child
 
-module _ (cs : Choices) (w w1 : Walk) (m : Mark) (us : List Located) (marks : w1.trail.items ≡ w.trail.items ++ m ∷ []) (listed : w1.listed.items ≡ w.listed.items) (stands : stand (length w.trail.items) w.listed.items) (n : ℕ) (last : n ≡ length w1.trail.items) where
+module _ (cs : PlanSelectors) (w w1 : Walk) (m : Mark) (us : List Located) (marks : w1.trail.items ≡ w.trail.items ++ m ∷ []) (listed : w1.listed.items ≡ w.listed.items) (stands : stand (length w.trail.items) w.listed.items) (n : ℕ) (last : n ≡ length w1.trail.items) where
   abbrev there : List Located
   there = map (beneath (location w1.trail.items n)) us
 

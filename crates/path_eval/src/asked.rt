@@ -1,27 +1,27 @@
 //! Tests that are to be asked of all nodes, with what their parts say of them.
-use crate::phase::Phase;
-use crate::told::Told;
+use crate::filter_table::FilterTable;
+use crate::table_plan::TableSegment;
 use path_grammar::CompareOp;
-use path_plans::plan::{Term, Test};
+use path_plans::plan::{PlanComparable, PlanFilter};
 
 /// A test, with what its parts say of all nodes.
 #[derive(Drop)]
 pub enum Asked<'p, 'q> {
     /// No filter is in it.
-    Plainly(&'p Test<'q>),
+    Plainly(&'p PlanFilter<'q>),
     SomeOf {
-        parts: &'p Vec<Test<'q>>,
-        told: Vec<Told>,
+        parts: &'p Vec<PlanFilter<'q>>,
+        told: Vec<FilterTable>,
     },
     AllOf {
-        parts: &'p Vec<Test<'q>>,
-        told: Vec<Told>,
+        parts: &'p Vec<PlanFilter<'q>>,
+        told: Vec<FilterTable>,
     },
     NotThat {
-        part: &'p Test<'q>,
-        told: Told,
+        part: &'p PlanFilter<'q>,
+        told: FilterTable,
     },
-    ThereIs(Vec<Phase<'p, 'q>>),
+    ThereIs(Vec<TableSegment<'p, 'q>>),
     Compared {
         op: CompareOp,
         left: Sought<'p, 'q>,
@@ -32,7 +32,7 @@ pub enum Asked<'p, 'q> {
 /// A side of a comparison, with the plan in it.
 #[derive(Drop)]
 pub struct Sought<'p, 'q> {
-    pub side: &'p Term<'q>,
+    pub side: &'p PlanComparable<'q>,
     /// Of its plan; none where it has no plan.
-    pub phases: Vec<Phase<'p, 'q>>,
+    pub phases: Vec<TableSegment<'p, 'q>>,
 }

@@ -4,20 +4,20 @@ ghost use Rattle.std.specs.List.{list_all, list_any};
 ghost use Rattle.path_plans.specs.PlanValues.{planned_from};
 ghost use Rattle.path_plans.specs.PlanView.{term_view};
 ghost use Rattle.path_plans.specs.Planned as planned;
-ghost use Rattle.path_eval.specs.Told.{AreAllRight, IsAskedRightly, asked_view, is_held, phases_view, plan_in, is_refused};
+ghost use Rattle.path_eval.specs.FilterTables.{AreAllRight, IsAskedRightly, asked_view, is_held, phases_view, plan_in, is_refused};
 ghost use Rattle.path_select.specs.Indexed.{IsIndex, at_number, at_numbers};
 ghost use Rattle.path_select.specs.Gives.{Gives};
 ghost use Rattle.path_select.specs.Nodes.{only_node};
 ghost use Rattle.path_select.specs.Values.{values};
-ghost use Rattle.path_select.specs.View.{docs_of, side_if};
+ghost use Rattle.path_select.specs.ChildView.{docs_of, side_if};
 
 use crate::asked::Asked;
 use crate::by_number::numbers_from;
-use crate::phase::Phase;
-use crate::told::Told;
+use crate::filter_table::FilterTable;
+use crate::table_plan::TableSegment;
 use doc_tree::Tree;
 use path_plans::passing::{passes, term};
-use path_plans::plan::Term;
+use path_plans::plan::PlanComparable;
 use path_select::compare::{Side, compares, count, is_some_value, lend, length_value, only};
 use path_select::index::Index;
 use path_select::numbers::value_of;
@@ -41,7 +41,7 @@ fn values_at<'s>(
 
 /// The values that the plan selects from a node on.
 fn values_from<'s>(
-    phases: &Vec<Phase<'_, '_>>,
+    phases: &Vec<TableSegment<'_, '_>>,
     index: &'s Index<'_>,
     alloc: Global,
     number: usize,
@@ -58,8 +58,8 @@ fn values_from<'s>(
 
 /// The value of a side of a comparison at the node, or Nothing.
 fn sought<'s>(
-    side: &'s Term<'_>,
-    phases: &Vec<Phase<'_, '_>>,
+    side: &'s PlanComparable<'_>,
+    phases: &Vec<TableSegment<'_, '_>>,
     index: &'s Index<'_>,
     alloc: Global,
     number: usize,
@@ -71,9 +71,9 @@ fn sought<'s>(
         Gives side_if result (planned.side_refused o d) (planned.side_value o d) }
 {
     match side {
-        Term::OnlyOf(_) => Ok(only(&values_from(phases, index, alloc, number)?)),
-        Term::NumberOf(_) => Ok(count(&values_from(phases, index, alloc, number)?)),
-        Term::SizeOf(inner) => {
+        PlanComparable::OnlyOf(_) => Ok(only(&values_from(phases, index, alloc, number)?)),
+        PlanComparable::NumberOf(_) => Ok(count(&values_from(phases, index, alloc, number)?)),
+        PlanComparable::SizeOf(inner) => {
             let value = sought(inner, phases, index, alloc, number)?;
             Ok(length_value(lend(&value)))
         }
@@ -82,7 +82,7 @@ fn sought<'s>(
 }
 
 /// Whether some of the tests hold of the node, by what they say.
-fn some_hold(told: &Vec<Told>, number: usize) -> Result<bool, Stop>
+fn some_hold(told: &Vec<FilterTable>, number: usize) -> Result<bool, Stop>
     ensures { Gives (λ b. b) result (list_any (is_refused number) told.now.items) (list_any (is_held number) told.now.items) }
 {
     let mut held = false;
@@ -94,7 +94,7 @@ fn some_hold(told: &Vec<Told>, number: usize) -> Result<bool, Stop>
 }
 
 /// Whether all of the tests hold of the node, by what they say.
-fn all_hold(told: &Vec<Told>, number: usize) -> Result<bool, Stop>
+fn all_hold(told: &Vec<FilterTable>, number: usize) -> Result<bool, Stop>
     ensures { Gives (λ b. b) result (list_any (is_refused number) told.now.items) (list_all (is_held number) told.now.items) }
 {
     let mut held = true;
@@ -106,7 +106,7 @@ fn all_hold(told: &Vec<Told>, number: usize) -> Result<bool, Stop>
 }
 
 /// Whether the test doesn't hold of the node, by what it says.
-fn not_hold(told: &Told, number: usize) -> Result<bool, Stop>
+fn not_hold(told: &FilterTable, number: usize) -> Result<bool, Stop>
     ensures { Gives (λ b. b) result (is_refused number told.now) (not (is_held number told.now)) }
 {
     let holds = told.holds(number)?;

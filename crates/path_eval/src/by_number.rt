@@ -5,8 +5,8 @@ ghost use Rattle.path_plans.specs.Evaluating as evaluating;
 ghost use Rattle.path_plans.specs.PlanValues.{IsWithin};
 ghost use Rattle.path_plans.specs.PlanView.{choice_view, way_selector};
 ghost use Rattle.path_plans.specs.Planned as planned;
-ghost use Rattle.path_eval.specs.Told as tables;
-ghost use Rattle.path_eval.specs.Told.{AreAllRight, AreRight, IsRight, phases_view, picks_view};
+ghost use Rattle.path_eval.specs.FilterTables as tables;
+ghost use Rattle.path_eval.specs.FilterTables.{AreAllRight, AreRight, IsRight, phases_view, picks_view};
 ghost use Rattle.path_eval.specs.Visiting.{refused_at, selected_at};
 ghost use Rattle.path_select.specs.Indexed.{IsIndex, at_number, at_numbers};
 ghost use Rattle.path_select.specs.Gives.{Gives};
@@ -14,10 +14,10 @@ ghost use Rattle.path_select.specs.Limit.{is_over};
 ghost use Rattle.path_select.specs.Nodes.{child_at, visited};
 ghost use Rattle.path_select.specs.Selectors as selectors;
 
-use crate::phase::{Phase, Pick};
-use crate::told::Told;
+use crate::filter_table::FilterTable;
+use crate::table_plan::{TableSegment, TableSelector};
 use path_plans::passing::child_on;
-use path_plans::plan::{Choice, Way};
+use path_plans::plan::{PlanSelector, Way};
 use path_select::index::Index;
 use path_select::limits::NODES;
 use path_select::numbered_below::all_below;
@@ -27,7 +27,7 @@ use path_select::stop::Stop;
 use std::alloc::{AllocError, Global};
 
 /// Those of the nodes of which the filter holds.
-fn held(told: &Told, alloc: Global, numbers: &Vec<usize>) -> Result<Vec<usize>, Stop>
+fn held(told: &FilterTable, alloc: Global, numbers: &Vec<usize>) -> Result<Vec<usize>, Stop>
     ensures { Gives (λ found. found.items) result
         (list_any (λ n. tables.is_refused n told.now) numbers.now.items) (filter (λ n. tables.is_held n told.now) numbers.now.items) }
 {
@@ -74,7 +74,7 @@ fn slice_of(
 
 /// What the choice takes of the node.
 fn picked(
-    pick: &Pick<'_, '_>,
+    pick: &TableSelector<'_, '_>,
     index: &Index<'_>,
     alloc: Global,
     number: usize,
@@ -86,12 +86,12 @@ fn picked(
         (planned.choice_refused s u.1) (map (child_at u.0) (planned.taken s u.1)) }
 {
     match pick.choice {
-        Choice::Only(way) => Ok(led(*way, index, alloc, number)?),
-        Choice::Every => Ok(numbers_of_children(alloc, index, number)?),
-        Choice::Sliced { start, stop, step } => {
+        PlanSelector::Only(way) => Ok(led(*way, index, alloc, number)?),
+        PlanSelector::Every => Ok(numbers_of_children(alloc, index, number)?),
+        PlanSelector::Sliced { start, stop, step } => {
             Ok(slice_of(*start, *stop, *step, index, alloc, number)?)
         }
-        Choice::Kept(_test) => {
+        PlanSelector::Kept(_test) => {
             let children = numbers_of_children(alloc, index, number)?;
             held(&pick.told, alloc, &children)
         }
@@ -113,7 +113,7 @@ fn and_numbers(listed: Vec<usize>, more: Vec<usize>) -> Result<Vec<usize>, Stop>
 
 /// What each of the choices takes of the node, in order.
 fn all_picked(
-    picks: &Vec<Pick<'_, '_>>,
+    picks: &Vec<TableSelector<'_, '_>>,
     index: &Index<'_>,
     alloc: Global,
     number: usize,
@@ -133,7 +133,7 @@ fn all_picked(
 
 /// The nodes that are listed, and what is taken of each of the others.
 fn and_each_picked(
-    picks: &Vec<Pick<'_, '_>>,
+    picks: &Vec<TableSelector<'_, '_>>,
     index: &Index<'_>,
     alloc: Global,
     visited: &Vec<usize>,
@@ -155,7 +155,7 @@ fn and_each_picked(
 
 /// What is taken of each of the nodes and of all nodes below it.
 fn each_picked_below(
-    picks: &Vec<Pick<'_, '_>>,
+    picks: &Vec<TableSelector<'_, '_>>,
     index: &Index<'_>,
     alloc: Global,
     list: &Vec<usize>,
@@ -176,7 +176,7 @@ fn each_picked_below(
 
 /// The list after the segment.
 fn after_phase(
-    phase: &Phase<'_, '_>,
+    phase: &TableSegment<'_, '_>,
     index: &Index<'_>,
     alloc: Global,
     list: &Vec<usize>,
@@ -196,7 +196,7 @@ fn after_phase(
 
 /// The nodes that the plan selects from a node on.
 pub fn numbers_from(
-    phases: &Vec<Phase<'_, '_>>,
+    phases: &Vec<TableSegment<'_, '_>>,
     index: &Index<'_>,
     alloc: Global,
     number: usize,

@@ -17,15 +17,15 @@
 mod asked;
 mod asking;
 mod by_number;
-mod dear;
+mod expensive;
 mod fault;
+mod filter_table;
 pub mod laws;
 mod listing;
 mod node;
 mod nodelist;
-mod phase;
-mod telling;
-mod told;
+mod table_plan;
+mod tables;
 mod walk;
 
 pub use fault::EvalFault;

@@ -1,8 +1,8 @@
 //! The nodelist of a query (RFC 9535, sections 2.3 and 2.5).
 ghost use Rattle.std.specs.Prelude.{◌≡◌, ◌<◌, ◌||◌, ◌++◌, [], get_or, IfErr, IfOk, length, map};
 ghost use Rattle.doc_tree.specs.Place.{place_of};
-ghost use Rattle.doc_tree.specs.View.{view};
-ghost use Rattle.path_parse.specs.View.{query_view};
+ghost use Rattle.doc_tree.specs.TreeView.{view};
+ghost use Rattle.path_parse.specs.SyntaxView.{query_view};
 ghost use Rattle.path_eval.specs.Answer.{AreListed, AreNodes, IsFaultOf, nodelist_of};
 ghost use Rattle.path_select.specs.Gives.{Gives};
 ghost use Rattle.path_eval.specs.Listed.{IsReady, ListsAfter, Walks};
@@ -10,34 +10,34 @@ ghost use Rattle.path_select.specs.Nodes.{list_after, only_node, visited};
 ghost use Rattle.path_plans.specs.PlanView.{choices_view, plan_view};
 ghost use Rattle.path_plans.specs.Planned.{listed, plan_refused};
 ghost use Rattle.path_plans.specs.TooMany.{too_many};
-ghost use Rattle.path_select.specs.Trail.{all_spots, location, seen, spot_of, stand};
-ghost use Rattle.path_eval.specs.View.{node_of, nodes_of};
+ghost use Rattle.path_select.specs.Paths.{all_spots, location, seen, spot_of, stand};
+ghost use Rattle.path_eval.specs.NodeView.{node_of, nodes_of};
 ghost use Rattle.path_grammar.specs.Lent.{lent_place, lent_places};
 ghost use Rattle.path_select.specs.Indexed.{IsIndex, at_numbers};
 ghost use Rattle.path_eval.specs.Visiting.{refused_at, selected_at, visited_from};
 
 use crate::by_number::numbers_from;
-use crate::dear::is_dear;
+use crate::expensive::is_expensive;
 use crate::fault::EvalFault;
 use crate::node::Node;
 use crate::nodelist::Nodelist;
-use crate::telling::phases_of;
+use crate::tables::phases_of;
 use crate::walk::{select_below, select_here};
 use doc_tree::{Step, Tree};
 use path_grammar::LentStep;
 use path_parse::Query;
-use path_plans::plan::{Choice, Plan, Stride};
+use path_plans::plan::{Plan, PlanSegment, PlanSelector};
 use path_plans::planning::plan_of;
 use path_select::index::{Index, index_of};
 use path_select::numbers::spot_at;
+use path_select::paths::{Mark, Spot, Walk, path_to};
 use path_select::stop::Stop;
-use path_select::trail::{Mark, Spot, Walk, path_to};
 use std::alloc::{AllocError, Global};
 
 /// The nodes that are listed, and what is taken of the node; of all that stands below it too, if so asked.
 fn and_taken<'t>(
     descend: bool,
-    choices: &Vec<Choice<'_>>,
+    choices: &Vec<PlanSelector<'_>>,
     alloc: Global,
     node: Spot<'t>,
     walk: Walk<'t>,
@@ -54,9 +54,13 @@ fn and_taken<'t>(
 }
 
 /// The list after the segment.
-fn after_stride<'t>(stride: &Stride<'_>, alloc: Global, walk: Walk<'t>) -> Result<Walk<'t>, Stop>
+fn after_segment<'t>(
+    segment: &PlanSegment<'_>,
+    alloc: Global,
+    walk: Walk<'t>,
+) -> Result<Walk<'t>, Stop>
     requires { stand (length walk.trail.items) walk.listed.items }
-    ensures { ListsAfter (choices_view stride.now.choices.items) stride.now.descend (seen walk.entry) result }
+    ensures { ListsAfter (choices_view segment.now.choices.items) segment.now.descend (seen walk.entry) result }
 {
     let Walk {
         trail,
@@ -67,7 +71,7 @@ fn after_stride<'t>(stride: &Stride<'_>, alloc: Global, walk: Walk<'t>) -> Resul
         listed: Vec::new(alloc),
     };
     for node in &list {
-        walked = and_taken(stride.descend, &stride.choices, alloc, *node, walked)?;
+        walked = and_taken(segment.descend, &segment.choices, alloc, *node, walked)?;
     }
     Ok(walked)
 }
@@ -86,8 +90,8 @@ fn list_by<'t>(plan: &Plan<'_>, alloc: Global, root: &'t Tree) -> Result<Walk<'t
         trail: Vec::new(alloc),
         listed: list,
     };
-    for stride in &plan.strides {
-        walk = after_stride(stride, alloc, walk)?;
+    for segment in &plan.segments {
+        walk = after_segment(segment, alloc, walk)?;
     }
     Ok(walk)
 }
@@ -130,7 +134,7 @@ fn list_of<'t>(query: &Query, alloc: Global, root: &'t Tree) -> Result<Walk<'t>,
         (nodelist_of (view root.now) q) }
 {
     let plan = plan_of(query, alloc, root)?;
-    if is_dear(&plan) {
+    if is_expensive(&plan) {
         list_by_numbers(&plan, alloc, root)
     } else {
         list_by(&plan, alloc, root)

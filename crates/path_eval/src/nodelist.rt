@@ -1,12 +1,12 @@
 //! Nodelists whose names the document lends.
 ghost use Rattle.std.specs.Prelude.{◌≡◌, ◌<◌, IfOk, length, Some};
 ghost use Rattle.std.specs.List.{slice_get};
-ghost use Rattle.path_eval.specs.View.{listed_of};
-ghost use Rattle.path_eval.specs.View.{lent_node_of};
+ghost use Rattle.path_eval.specs.NodeView.{listed_of};
+ghost use Rattle.path_eval.specs.NodeView.{lent_node_of};
 
 use crate::node::LentNode;
 use doc_tree::Tree;
-use path_select::trail::{Walk, path_to};
+use path_select::paths::{Walk, path_to};
 use std::alloc::{AllocError, Global};
 
 /// The nodes that a query selects, in order. It holds no location; each is made when it is asked for.

@@ -1,23 +1,23 @@
 //! What choices take of a value and of all values below it (RFC 9535, section 2.5.2). A value that is visited has a
 //! place in the trail as long as something may be selected below it, and keeps it where something was.
 ghost use Rattle.std.specs.Prelude.{◌≡◌, ◌++◌, ◌∷◌, [], false, length, map};
-ghost use Rattle.doc_tree.specs.View.{elements_view, members_view, view};
+ghost use Rattle.doc_tree.specs.TreeView.{elements_view, members_view, view};
 ghost use Rattle.path_eval.specs.Listed.{Goes, IsReady, Walks};
 ghost use Rattle.path_eval.specs.Visiting as visiting;
 ghost use Rattle.path_select.specs.Nodes.{beneath, child_at, descendants, element_descendants, member_descendants, under};
 ghost use Rattle.path_plans.specs.PlanView.{choices_view};
-ghost use Rattle.path_select.specs.Trail.{location};
-ghost use Rattle.path_select.specs.View.{children_of};
+ghost use Rattle.path_select.specs.Paths.{location};
+ghost use Rattle.path_select.specs.ChildView.{children_of};
 ghost use Rattle.path_grammar.specs.Lent.{lent_place};
 
 use doc_tree::Tree;
 use path_grammar::LentStep;
 use path_plans::passing::all_taken;
-use path_plans::plan::Choice;
+use path_plans::plan::PlanSelector;
 use path_select::children::Child;
 use path_select::limits::NODES;
+use path_select::paths::{Mark, Walk, back, with_child};
 use path_select::stop::Stop;
-use path_select::trail::{Mark, Walk, back, with_child};
 use std::alloc::Global;
 use std::collections::BTreeMap;
 
@@ -41,7 +41,7 @@ fn and_nodes<'t>(place: usize, walk: Walk<'t>, more: Vec<Child<'t>>) -> Result<W
 pub fn select_here<'t>(
     here: &'t Tree,
     place: usize,
-    choices: &Vec<Choice<'_>>,
+    choices: &Vec<PlanSelector<'_>>,
     alloc: Global,
     walk: Walk<'t>,
 ) -> Result<Walk<'t>, Stop>
@@ -58,7 +58,7 @@ pub fn select_here<'t>(
 pub fn select_below<'t>(
     here: &'t Tree,
     place: usize,
-    choices: &Vec<Choice<'_>>,
+    choices: &Vec<PlanSelector<'_>>,
     alloc: Global,
     walk: Walk<'t>,
 ) -> Result<Walk<'t>, Stop>
@@ -80,7 +80,7 @@ fn below_child<'t>(
     value: &'t Tree,
     step: LentStep<'t>,
     place: usize,
-    choices: &Vec<Choice<'_>>,
+    choices: &Vec<PlanSelector<'_>>,
     alloc: Global,
     walk: Walk<'t>,
 ) -> Result<Walk<'t>, Stop>
@@ -101,7 +101,7 @@ fn below_branch<'t>(
     value: &'t Tree,
     step: LentStep<'t>,
     place: usize,
-    choices: &Vec<Choice<'_>>,
+    choices: &Vec<PlanSelector<'_>>,
     alloc: Global,
     walk: Walk<'t>,
 ) -> Result<Walk<'t>, Stop>
@@ -122,7 +122,7 @@ fn below_branch<'t>(
 fn below_elements<'t>(
     items: &'t Vec<Tree>,
     place: usize,
-    choices: &Vec<Choice<'_>>,
+    choices: &Vec<PlanSelector<'_>>,
     alloc: Global,
     walk: Walk<'t>,
 ) -> Result<Walk<'t>, Stop>
@@ -148,7 +148,7 @@ fn below_elements<'t>(
 fn below_members<'t>(
     members: &'t BTreeMap<String, Tree>,
     place: usize,
-    choices: &Vec<Choice<'_>>,
+    choices: &Vec<PlanSelector<'_>>,
     alloc: Global,
     walk: Walk<'t>,
 ) -> Result<Walk<'t>, Stop>

@@ -9,7 +9,7 @@ use Rattle.path_grammar.specs.Kept.{selector_kept, selectors_kept, segments_kept
 use Rattle.path_grammar.specs.Characters.{Text, is_blank, is_digit, is_name_first, is_name_char, Blanks, no_blank, blank, Shorthand, shorthand}
 use Rattle.path_grammar.specs.Strings.{StringLiteral, double_quoted, single_quoted}
 use Rattle.path_grammar.specs.Grammar.{SingularSelectorAt, a_name, an_index, SliceBoundAt, no_bound, bound, SliceStepAt, no_step, empty_step, step, DottedAt, dotted_wildcard, dotted_name, ComparisonOpAt, equal, not_equal, less_equal, greater_equal, less, greater, SegmentsAt, segments_end, segments_more, SegmentAt, child_bracketed, child_dotted, descendant_bracketed, descendant_dotted, BracketedAt, singular_bracket, any_bracket, MoreSelectorsAt, selectors_end, selectors_more, SelectorAt, a_singular, a_wildcard, a_slice, a_filter, LogicalOrAt, one_conjunction, disjunction, MoreOrAt, last_disjunct, more_disjuncts, LogicalAndAt, one_basic_expression, conjunction, MoreAndAt, last_conjunct, more_conjuncts, BasicExpressionAt, a_test, negated_test, a_comparison, TestAt, parentheses, existence_test, match_call, search_call, FilterQueryAt, relative_query, absolute_query, ComparableAt, a_literal, a_singular_query, length_call, count_call, value_call, TwoArgumentsAt, two_arguments, Spells}
-use Rattle.path_grammar.specs.Reading.{begins, ◌>>=◌, on, after_character, after_doubled, skip, read_slice_bound, read_slice_step, read_slice_from, read_index_or_slice, read_plain_selector, read_dotted, read_comparison_op, read_identifier, read_more_parts, read_parts, begins_segment, begins_blank, is_singular_selector, after_singular, read_selector, read_more_selectors, read_bracketed, read_after_dots, read_segment, read_segments, read_query, read_filter_query, read_value_argument, read_nodes_argument, read_two_arguments, read_no_query, read_comparable, read_in_parentheses, read_test, read_comparison, read_from_query, begins_query, read_basic, read_logical_and, read_logical_or, read_expression, read_argument, read_whole}
+use Rattle.path_grammar.specs.Reading.{begins, ◌>>=◌, on, after_character, after_doubled, skip, read_slice_bound, read_slice_step, read_slice_from, read_index_or_slice, read_plain_selector, read_dotted, read_comparison_op, read_identifier, read_more_parts, read_parts, begins_segment, starts_with_blank, is_singular_selector, after_singular, read_selector, read_more_selectors, read_bracketed, read_after_dots, read_segment, read_segments, read_query, read_filter_query, read_value_argument, read_nodes_argument, read_two_arguments, read_no_query, read_comparable, read_in_parentheses, read_test, read_comparison, read_from_query, begins_query, read_basic, read_logical_and, read_logical_or, read_expression, read_argument, read_whole}
 use Rattle.path_grammar.proofs.Tools.{guarded, none_some, at_is, skip_blanks}
 use Rattle.path_grammar.proofs.Lengths.{blanks_le, comparison_op_le, segment_le, selector_le, and_le, basic_le, comparable_le, filter_query_le}
 use Rattle.path_grammar.proofs.Follow.{Follow, ends_or, stop0, stop1, stop2, stop3, stop4, stop0-1, stop1-2, stop2-3, stop3-4, not_at, not_at_start, begins_not, excludes_digit, excludes_part, skip_is, skip_to, skip_twice, shorthand_complete, int_complete, int_start, int_begins, int_stays, int_not_at, begins_int-is, follow_along, follow_no_int, string_complete, int_no_string, literal_start, literal_begins, literal_stays, literal_not_at, literal_complete}
@@ -224,13 +224,13 @@ no_equals : {o : Operand} {w x r : Text} → Blanks w x → ComparableAt o x r �
 no_equals no_blank y = comparable_not_at 61 refl y
 no_equals (blank {c = c} h b) y = let d = blank_no_equals c h in rw d refl
 
-int_apart : (t : Text) → begins int_start t ≡ true → begins_blank t ≡ false
+int_apart : (t : Text) → begins int_start t ≡ true → starts_with_blank t ≡ false
 int_apart [] e = refl
 int_apart (c ∷ t) e = grind (arith, nat_tests)
 
 -- a name or an index leaves the very rest
 singular_selector_complete : {s : Selector} {t r : Text} → SingularSelectorAt s t r → begins is_digit r ≡ false → after_character 58 (skip r) ≡ None
-    → (read_plain_selector t ≡ Some (s, r)) × (begins_blank t ≡ false) × (after_character 42 t ≡ None) × (after_character 63 t ≡ None) × (is_singular_selector s ≡ true) × (selector_kept s ≡ s) × (selector_left_out s ≡ false)
+    → (read_plain_selector t ≡ Some (s, r)) × (starts_with_blank t ≡ false) × (after_character 42 t ≡ None) × (after_character 63 t ≡ None) × (is_singular_selector s ≡ true) × (selector_kept s ≡ s) × (selector_left_out s ≡ false)
 unfolding read_plain_selector read_index_or_slice
 singular_selector_complete (a_name (double_quoted m)) e h = (rw (string_complete (double_quoted m)) refl, refl, refl, refl, refl, refl, refl)
 singular_selector_complete (a_name (single_quoted m)) e h = (rw (string_complete (single_quoted m)) refl, refl, refl, refl, refl, refl, refl)
@@ -298,7 +298,7 @@ module _ (inner : Text → Option (Expression × Bool × Text)) (read_argument :
       rw (e, skip_is b, skip_to b' (selector_stays s), x.1, rest) refl
 
   lone_ends : (t : Text) (s : Selector) (u r' : Text) → after_singular t s u ≡ Some r' → u ≡ 93 ∷ r'
-  lone_ends t s u r' e = first (begins_blank t) (is_singular_selector s) e
+  lone_ends t s u r' e = first (starts_with_blank t) (is_singular_selector s) e
     where
       first : (b c : Bool) → cond b None (cond c (after_character 93 u) None) ≡ Some r' → u ≡ 93 ∷ r'
       first true c e = none_some r' e

@@ -8,7 +8,7 @@ use Rattle.path_grammar.specs.Profile.{selector_left_out, selectors_left_out, se
 use Rattle.path_grammar.specs.Kept.{selector_kept, selectors_kept, segments_kept, expression_kept, expressions_kept, operand_kept}
 use Rattle.path_grammar.specs.Characters.{Text, is_blank, Blanks}
 use Rattle.path_grammar.specs.Grammar.{SingularSelectorAt, a_name, DottedAt, dotted_wildcard, dotted_name, SegmentsAt, segments_end, segments_more, SegmentAt, child_bracketed, child_dotted, descendant_bracketed, descendant_dotted, BracketedAt, singular_bracket, any_bracket, MoreSelectorsAt, selectors_end, selectors_more, SelectorAt, a_singular, a_wildcard, a_filter, LogicalOrAt, one_conjunction, disjunction, MoreOrAt, last_disjunct, more_disjuncts, LogicalAndAt, one_basic_expression, conjunction, MoreAndAt, last_conjunct, more_conjuncts, BasicExpressionAt, a_test, negated_test, a_comparison, TestAt, parentheses, existence_test, match_call, search_call, FilterQueryAt, relative_query, absolute_query, ComparableAt, a_literal, a_singular_query, length_call, count_call, value_call, TwoArgumentsAt, two_arguments, Spells}
-use Rattle.path_grammar.specs.Reading.{◌>>=◌, on, after_character, after_doubled, after_word, skip, read_shorthand, read_string, begins_string, read_literal, read_plain_selector, read_dotted, read_comparison_op, read_identifier, join_parts, read_more_parts, read_parts, begins_segment, begins_blank, is_singular_selector, after_singular, read_selector, read_more_selectors, read_bracketed, read_after_dots, read_segment, read_segments, read_query, read_filter_query, read_value_argument, read_nodes_argument, read_two_arguments, read_no_query, read_comparable, read_in_parentheses, read_test, read_comparison, read_from_query, begins_query, read_basic, read_logical_and, read_logical_or, read_expression, read_argument, read_whole}
+use Rattle.path_grammar.specs.Reading.{◌>>=◌, on, after_character, after_doubled, after_word, skip, read_shorthand, read_string, begins_string, read_literal, read_plain_selector, read_dotted, read_comparison_op, read_identifier, join_parts, read_more_parts, read_parts, begins_segment, starts_with_blank, is_singular_selector, after_singular, read_selector, read_more_selectors, read_bracketed, read_after_dots, read_segment, read_segments, read_query, read_filter_query, read_value_argument, read_nodes_argument, read_two_arguments, read_no_query, read_comparable, read_in_parentheses, read_test, read_comparison, read_from_query, begins_query, read_basic, read_logical_and, read_logical_or, read_expression, read_argument, read_whole}
 use Rattle.path_grammar.proofs.Tools.{bind_some, on_cases, chosen, guarded, some_is, none_some, at_is, skip_blanks, word_is, skipped, doubled_is}
 use Rattle.path_grammar.proofs.Words.{along, shorthand_sound, string_sound, number_sound, number_plain, literal_sound, comparison_op_sound, root_sound, Found, FoundSelector}
 
@@ -157,7 +157,7 @@ module _ (inner : Text → Option (Expression × Bool × Text)) (read_argument :
   FoundBracket t x = (w : Selectors) × BracketedAt w x.1 t x.3 × (selectors_kept w ≡ x.0) × (selectors_left_out w ≡ x.2)
 
   lone_sound : (t : Text) (s s' : Selector) (u r : Text) → SelectorAt s t u → selector_kept s ≡ s' → after_singular t s' u ≡ Some r → SingularSelectorAt s t (93 ∷ r) × (selector_left_out s ≡ false)
-  lone_sound t s s' u r x k e = go s s' x k (guarded_not (is_singular_selector s') (after_character 93 u) r (not_first (begins_blank t) _ r e))
+  lone_sound t s s' u r x k e = go s s' x k (guarded_not (is_singular_selector s') (after_character 93 u) r (not_first (starts_with_blank t) _ r e))
     where
       not_first : (b : Bool) (o : Option Text) (r : Text) → cond b None o ≡ Some r → o ≡ Some r
       not_first true o r e = none_some r e

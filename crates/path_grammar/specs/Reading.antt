@@ -82,9 +82,9 @@ begins_segment [] = false
 begins_segment (c ∷ t) = (c == 46) || (c == 91)
 
 -- begins with a blank
-abbrev pub begins_blank : Text → Bool
-begins_blank [] = false
-begins_blank (c ∷ t) = is_blank c
+abbrev pub starts_with_blank : Text → Bool
+starts_with_blank [] = false
+starts_with_blank (c ∷ t) = is_blank c
 
 -- a bracket of a singular query may hold it
 abbrev pub is_singular_selector : Selector → Bool
@@ -96,7 +96,7 @@ is_singular_selector (slice_selector a b c) = false
 
 -- a name or an index, read from the text t, with no blank on either side
 abbrev pub after_singular : Text → Selector → Text → Option Text
-after_singular t s r = if begins_blank t then None else if is_singular_selector s then after "]" r else None
+after_singular t s r = if starts_with_blank t then None else if is_singular_selector s then after "]" r else None
 
 -- begins with `@` or `$`
 abbrev pub begins_query : Text → Bool

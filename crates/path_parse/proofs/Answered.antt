@@ -7,7 +7,7 @@ use Rattle.path_grammar.specs.Profile.{InProfile}
 use Rattle.path_grammar.specs.Syntax.{Segments}
 use Rattle.path_grammar.specs.Characters.{Text}
 use Rattle.path_parse.specs.Answer.{IsFaultOf, IsFaultOfCharacters, IsQueryOf}
-use Rattle.path_parse.specs.View.{query_view}
+use Rattle.path_parse.specs.SyntaxView.{query_view}
 use Rattle.path_parse.specs.declared.fault.QueryFault.{QueryFault}
 use Rattle.refusals.specs.declared.numbers.TheConstants.{PATH, PATH_LEFT_OUT, PATH_LONG, MEMORY}
 use Rattle.path_parse.specs.declared.syntax.Query.{Query}

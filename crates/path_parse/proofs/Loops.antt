@@ -8,7 +8,7 @@ use Rattle.path_parse.specs.declared.stop.Stop.TheVariants.{Memory, Syntax}
 use Rattle.path_parse.specs.declared.syntax.Expr.{Expr}
 use Rattle.path_parse.specs.declared.syntax.Segment.{Segment}
 use Rattle.path_parse.specs.declared.syntax.Selector.{Selector}
-use Rattle.path_parse.specs.View.{selector_view, expression_view, selectors_view, expressions_view, segments_view}
+use Rattle.path_parse.specs.SyntaxView.{selector_view, expression_view, selectors_view, expressions_view, segments_view}
 use Rattle.path_parse.specs.Gives.{Stops, selectors_then, before_selectors}
 
 -- expressions before others

@@ -6,7 +6,7 @@ use Rattle.path_parse.specs.declared.syntax.Segment.{Segment}
 use Rattle.path_parse.specs.declared.syntax.Expr.{Expr, Or', And', Row_of-Expr, end_of-Expr, more_of-Expr, items-the_row-Expr, items_hidden-the_row-Expr-0}
 use Rattle.path_parse.specs.declared.syntax.Expr.TheVariants.{Or, And}
 use Rattle.path_grammar.specs.Syntax.{logical_or, logical_and, expression, selector}
-use Rattle.path_parse.specs.View.{query_view, segments_in, selectors_in, selector_view, expression_view, expressions_in, segments_view, selectors_view, expressions_view}
+use Rattle.path_parse.specs.SyntaxView.{query_view, segments_in, selectors_in, selector_view, expression_view, expressions_in, segments_view, selectors_view, expressions_view}
 
 expressions_row : (n : _) (row : Row_of-Expr n) → expressions_in row ≡ expressions_view (items-the_row-Expr n row)
 expressions_row n end_of-Expr = refl

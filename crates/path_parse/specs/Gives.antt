@@ -10,7 +10,7 @@ use Rattle.path_parse.specs.declared.stop.Stop.TheVariants.{Memory, Syntax}
 use Rattle.path_parse.specs.declared.syntax.Segment.{Segment}
 use Rattle.path_parse.specs.declared.syntax.Selector.{Selector}
 use Rattle.path_parse.specs.declared.syntax.Source.{Source}
-use Rattle.path_parse.specs.View.{selector_view, selectors_view, source_root, source_query}
+use Rattle.path_parse.specs.SyntaxView.{selector_view, selectors_view, source_root, source_query}
 
 -- reading stops where nothing is read, or for want of memory
 abbrev pub Stops : {Y : Type 0} → Stop → Option Y → Type 0

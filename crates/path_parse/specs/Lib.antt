@@ -2,7 +2,7 @@ pub mod NormalPath
 pub mod QueryOf
 pub mod Answer
 pub mod Gives
-pub mod View
+pub mod SyntaxView
 pub use Rattle.path_grammar.specs.Answers
 pub use Rattle.path_grammar.specs.Grammar
 pub use Rattle.path_grammar.specs.Lent

@@ -3,7 +3,7 @@ use Rattle.std.specs.Prelude.{◌≡◌, ◌⊎◌, ◌^◌, ◌<◌, ◌≤◌,
 use Rattle.doc_tree.specs.Doc.{Place, name, index}
 use Rattle.refusals.specs.declared.numbers.TheConstants.{MEMORY, PATH_LONG}
 use Rattle.path_grammar.specs.Syntax.{Selector, name_selector, index_selector, no_selectors, selector, Segments, no_segments, segment}
-use Rattle.path_parse.specs.View.{query_view}
+use Rattle.path_parse.specs.SyntaxView.{query_view}
 use Rattle.path_parse.specs.declared.fault.QueryFault.{QueryFault}
 use Rattle.path_parse.specs.declared.syntax.Query.{Query}
 use Rattle.path_parse.specs.NormalPath.{normal_path}

@@ -5,7 +5,7 @@ ghost use Rattle.path_grammar.specs.Syntax.{logical_and, logical_or};
 ghost use Rattle.path_grammar.specs.Reading.{read_basic, read_comparison, read_expression, read_from_query, read_in_parentheses};
 ghost use Rattle.path_grammar.specs.Reading.{read_logical_and, read_logical_or, read_more_conjuncts, read_more_disjuncts, read_no_query, read_test};
 ghost use Rattle.path_parse.specs.Gives.{at_depth, compared_on, Gives, joined, negated};
-ghost use Rattle.path_parse.specs.View.{expression_view, expressions_view, operand_view};
+ghost use Rattle.path_parse.specs.SyntaxView.{expression_view, expressions_view, operand_view};
 ghost use Rattle.path_words.specs.Part.{part_of};
 
 use crate::make;

@@ -3,7 +3,7 @@ ghost use Rattle.std.specs.Prelude.{◌≡◌, ◌≤◌, chars, length, MatchRe
 ghost use Rattle.path_grammar.specs.Grammar.{Spells};
 ghost use Rattle.path_grammar.specs.Profile.{InProfile};
 ghost use Rattle.path_grammar.specs.Syntax.{Segments};
-ghost use Rattle.path_parse.specs.View.{query_view};
+ghost use Rattle.path_parse.specs.SyntaxView.{query_view};
 ghost use Rattle.refusals.specs.declared.numbers.TheConstants.{MEMORY};
 
 use crate::fault::QueryFault;

@@ -1,7 +1,7 @@
 //! Syntax that holds a `Vec` or a `Box`, made of its parts.
 ghost use Rattle.std.specs.Prelude.{◌≡◌, IfOk};
 ghost use Rattle.path_grammar.specs.Syntax.{length_of, logical_and, logical_not, logical_or, no_expressions};
-ghost use Rattle.path_parse.specs.View.{expression_view, expressions_view, operand_view, query_view, segments_view};
+ghost use Rattle.path_parse.specs.SyntaxView.{expression_view, expressions_view, operand_view, query_view, segments_view};
 
 use crate::syntax::{Expr, Operand, Query, Segment};
 use std::alloc::{AllocError, Global};

@@ -1,10 +1,10 @@
 //! Comparables and calls of functions (RFC 9535, sections 2.3.5.1 and 2.4).
 ghost use Rattle.std.specs.Prelude.{◌≡◌, option_map};
-ghost use Rattle.doc_tree.specs.View.{view};
+ghost use Rattle.doc_tree.specs.TreeView.{view};
 ghost use Rattle.path_grammar.specs.Reading.{read_argument, read_comparable, read_expression, read_literal, read_no_query, read_nodes_argument, read_two_arguments, read_value_argument, skip};
 ghost use Rattle.path_grammar.specs.Syntax.{count_of, json, value_of};
 ghost use Rattle.path_parse.specs.Gives.{at_depth, Gives};
-ghost use Rattle.path_parse.specs.View.{expression_view, operand_view};
+ghost use Rattle.path_parse.specs.SyntaxView.{expression_view, operand_view};
 ghost use Rattle.path_words.specs.Part.{part_of};
 
 use crate::make;

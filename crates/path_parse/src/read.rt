@@ -4,7 +4,7 @@ ghost use Rattle.path_grammar.specs.Reading.{read_whole};
 ghost use Rattle.path_grammar.specs.Answers.{SpellsOnly};
 ghost use Rattle.path_parse.specs.Answer.{IsFaultOf, IsFaultOfCharacters, IsQueryOf};
 ghost use Rattle.path_parse.specs.Gives.{Gives};
-ghost use Rattle.path_parse.specs.View.{query_view};
+ghost use Rattle.path_parse.specs.SyntaxView.{query_view};
 
 use crate::fault::QueryFault;
 use crate::limits::QUERY_BYTES;

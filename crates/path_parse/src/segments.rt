@@ -2,7 +2,7 @@
 ghost use Rattle.std.specs.Prelude.{◌≡◌};
 ghost use Rattle.path_grammar.specs.Reading.{read_after_dots, read_argument, read_dotted, read_expression, read_filter_query, read_query, read_segment};
 ghost use Rattle.path_parse.specs.Gives.{at_depth, Gives, path_of, segment_of, source_of};
-ghost use Rattle.path_parse.specs.View.{query_view, selectors_view};
+ghost use Rattle.path_parse.specs.SyntaxView.{query_view, selectors_view};
 
 use crate::make;
 use crate::path_part::PathPart;

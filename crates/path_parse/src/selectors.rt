@@ -3,7 +3,7 @@ ghost use Rattle.std.specs.Prelude.{◌≡◌, option_map, length, suc};
 ghost use Rattle.path_grammar.specs.Reading.{after_singular, is_singular_selector, read_argument, read_bracketed, read_expression};
 ghost use Rattle.path_grammar.specs.Reading.{read_index_or_slice, read_more_selectors, read_plain_selector, read_selector, read_slice_from};
 ghost use Rattle.path_parse.specs.Gives.{at_depth, before_selectors, Gives, path_of};
-ghost use Rattle.path_parse.specs.View.{selector_view, selectors_view};
+ghost use Rattle.path_parse.specs.SyntaxView.{selector_view, selectors_view};
 ghost use Rattle.path_words.specs.Part.{part_of};
 
 use crate::filters::expression;
@@ -11,7 +11,7 @@ use crate::path_part::PathPart;
 use crate::stop::Stop;
 use crate::syntax::Selector;
 use path_words::Part;
-use path_words::characters::{after, begins_blank, begins_string, skip_blanks};
+use path_words::characters::{after, begins_string, skip_blanks, starts_with_blank};
 use path_words::integers::{int, slice_bound, slice_step};
 use path_words::strings::string;
 use std::alloc::Global;
@@ -133,7 +133,7 @@ fn is_singular(selector: &Selector) -> bool
 fn singular_end<'t>(text: &[char], selector: &Selector, rest: &'t [char]) -> Option<&'t [char]>
     ensures { option_map (λ end. end.now) result ≡ after_singular text.now (selector_view selector.now) rest.now }
 {
-    if begins_blank(text) {
+    if starts_with_blank(text) {
         return None;
     }
     if is_singular(selector) {

@@ -6,7 +6,7 @@ use Rattle.doc_tree.specs.Doc.{Doc}
 use Rattle.doc_tree.specs.declared.tree.Tree.{Tree}
 use Rattle.path_grammar.specs.Syntax.{Segments, singular_query, value_of}
 use Rattle.path_parse.proofs.Rows.{query_view-Query}
-use Rattle.path_parse.specs.View.{query_view, segments_view}
+use Rattle.path_parse.specs.SyntaxView.{query_view, segments_view}
 use Rattle.path_parse.specs.declared.syntax.Query.{Query, out-Query, roll-out-Query}
 use Rattle.path_plans.specs.Evaluating.{nodelist}
 use Rattle.path_select.specs.Nodes.{Located, only_node}
@@ -15,28 +15,28 @@ use Rattle.path_plans.specs.Planned.{done, step, choice, no_choices, test, no_te
 use Rattle.path_plans.specs.PlanValues.{planned_from}
 use Rattle.path_select.specs.Gives.{Gives}
 use Rattle.path_plans.proofs.PlanLaws.{listed-plan, refused-plan}
-use Rattle.path_plans.specs.PlanView.{choice_view, choices_view, strides_view, test_view, tests_view, way_selector, ways_plan}
+use Rattle.path_plans.specs.PlanView.{choice_view, choices_view, plan_segments_view, test_view, tests_view, way_selector, ways_plan}
 use Rattle.path_plans.specs.Planning.{FoundOf, KeptOf, made_of}
 use Rattle.path_select.specs.Values.{values}
-use Rattle.path_select.specs.View.{docs_of}
-use Rattle.path_plans.specs.declared.plan.Choice.{Choice}
-use Rattle.path_plans.specs.declared.plan.Stride.{Stride}
-use Rattle.path_plans.specs.declared.plan.Test.{Test}
+use Rattle.path_select.specs.ChildView.{docs_of}
+use Rattle.path_plans.specs.declared.plan.PlanSelector.{PlanSelector}
+use Rattle.path_plans.specs.declared.plan.PlanSegment.{PlanSegment}
+use Rattle.path_plans.specs.declared.plan.PlanFilter.{PlanFilter}
 use Rattle.path_plans.specs.declared.plan.Way.{Way}
 use Rattle.path_select.specs.declared.stop.Stop.{Stop}
 use Rattle.path_select.specs.declared.stop.Stop.TheVariants.{Memory, TooMany}
 
 -- ---- what is made so far, before what is left
 
-abbrev pub strides_onto : List Stride → planned.Plan → planned.Plan
-strides_onto [] p = p
-strides_onto (s ∷ ss) p = step s.descend (choices_view s.choices.items) (strides_onto ss p)
+abbrev pub plan_segments_onto : List PlanSegment → planned.Plan → planned.Plan
+plan_segments_onto [] p = p
+plan_segments_onto (s ∷ ss) p = step s.descend (choices_view s.choices.items) (plan_segments_onto ss p)
 
-abbrev pub choices_onto : List Choice → planned.Choices → planned.Choices
+abbrev pub choices_onto : List PlanSelector → planned.PlanSelectors → planned.PlanSelectors
 choices_onto [] cs = cs
 choices_onto (c ∷ more) cs = choice (choice_view c) (choices_onto more cs)
 
-abbrev pub tests_onto : List Test → planned.Tests → planned.Tests
+abbrev pub tests_onto : List PlanFilter → planned.PlanFilters → planned.PlanFilters
 tests_onto [] ts = ts
 tests_onto (t ∷ more) ts = test (test_view t) (tests_onto more ts)
 
@@ -44,27 +44,27 @@ abbrev pub ways_onto : List Way → planned.Plan → planned.Plan
 ways_onto [] p = p
 ways_onto (w ∷ ws) p = step false (choice (plain (way_selector w)) no_choices) (ways_onto ws p)
 
-pub strides_onto-more : (ss : List Stride) (s : Stride) (p : planned.Plan) → strides_onto (ss ++ s ∷ []) p ≡ strides_onto ss (step s.descend (choices_view s.choices.items) p)
-strides_onto-more [] s p = refl
-strides_onto-more (t ∷ ss) s p = ap (step t.descend (choices_view t.choices.items)) (strides_onto-more ss s p)
+pub plan_segments_onto-more : (ss : List PlanSegment) (s : PlanSegment) (p : planned.Plan) → plan_segments_onto (ss ++ s ∷ []) p ≡ plan_segments_onto ss (step s.descend (choices_view s.choices.items) p)
+plan_segments_onto-more [] s p = refl
+plan_segments_onto-more (t ∷ ss) s p = ap (step t.descend (choices_view t.choices.items)) (plan_segments_onto-more ss s p)
 
-pub strides_onto-done : (ss : List Stride) → strides_onto ss done ≡ strides_view ss
-strides_onto-done [] = refl
-strides_onto-done (s ∷ ss) = ap (step s.descend (choices_view s.choices.items)) (strides_onto-done ss)
+pub plan_segments_onto-done : (ss : List PlanSegment) → plan_segments_onto ss done ≡ plan_segments_view ss
+plan_segments_onto-done [] = refl
+plan_segments_onto-done (s ∷ ss) = ap (step s.descend (choices_view s.choices.items)) (plan_segments_onto-done ss)
 
-pub choices_onto-more : (cs : List Choice) (c : Choice) (rest : planned.Choices) → choices_onto (cs ++ c ∷ []) rest ≡ choices_onto cs (choice (choice_view c) rest)
+pub choices_onto-more : (cs : List PlanSelector) (c : PlanSelector) (rest : planned.PlanSelectors) → choices_onto (cs ++ c ∷ []) rest ≡ choices_onto cs (choice (choice_view c) rest)
 choices_onto-more [] c rest = refl
 choices_onto-more (d ∷ cs) c rest = ap (choice (choice_view d)) (choices_onto-more cs c rest)
 
-pub choices_onto-none : (cs : List Choice) → choices_onto cs no_choices ≡ choices_view cs
+pub choices_onto-none : (cs : List PlanSelector) → choices_onto cs no_choices ≡ choices_view cs
 choices_onto-none [] = refl
 choices_onto-none (c ∷ cs) = ap (choice (choice_view c)) (choices_onto-none cs)
 
-pub tests_onto-more : (ts : List Test) (t : Test) (rest : planned.Tests) → tests_onto (ts ++ t ∷ []) rest ≡ tests_onto ts (test (test_view t) rest)
+pub tests_onto-more : (ts : List PlanFilter) (t : PlanFilter) (rest : planned.PlanFilters) → tests_onto (ts ++ t ∷ []) rest ≡ tests_onto ts (test (test_view t) rest)
 tests_onto-more [] t rest = refl
 tests_onto-more (u ∷ ts) t rest = ap (test (test_view u)) (tests_onto-more ts t rest)
 
-pub tests_onto-none : (ts : List Test) → tests_onto ts no_tests ≡ tests_view ts
+pub tests_onto-none : (ts : List PlanFilter) → tests_onto ts no_tests ≡ tests_view ts
 tests_onto-none [] = refl
 tests_onto-none (t ∷ ts) = ap (test (test_view t)) (tests_onto-none ts)
 
@@ -76,7 +76,7 @@ pub ways_onto-done : (ws : List Way) → ways_onto ws done ≡ ways_plan ws
 ways_onto-done [] = refl
 ways_onto-done (w ∷ ws) = ap (step false (choice (plain (way_selector w)) no_choices)) (ways_onto-done ws)
 
-pub ruleset part_by_part = (strides_onto-more, strides_onto-done, choices_onto-more, choices_onto-none, tests_onto-more, tests_onto-none, ways_onto-more, ways_onto-done, common_steps)
+pub ruleset part_by_part = (plan_segments_onto-more, plan_segments_onto-done, choices_onto-more, choices_onto-none, tests_onto-more, tests_onto-none, ways_onto-more, ways_onto-done, common_steps)
 
 -- ---- absolute queries
 

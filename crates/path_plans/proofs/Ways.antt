@@ -15,7 +15,7 @@ use Rattle.path_plans.specs.PlanValues.{plan_values, values_barred, planned_from
 use Rattle.path_select.specs.Selectors.{found, from_front, item_if, item_count}
 use Rattle.path_select.specs.Limit.{is_over}
 use Rattle.path_select.specs.Values.{child_values, only, is_some_value}
-use Rattle.path_select.specs.View.{doc_if}
+use Rattle.path_select.specs.ChildView.{doc_if}
 use Rattle.path_plans.specs.declared.plan.Way.{Way}
 use Rattle.path_plans.specs.declared.plan.Way.TheVariants.{Name, Index}
 

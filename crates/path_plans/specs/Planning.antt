@@ -11,7 +11,7 @@ use Rattle.path_plans.specs.PlanView.{ways_plan}
 use Rattle.path_plans.specs.TooMany.{too_many}
 use Rattle.path_plans.specs.Evaluating.{nodelist}
 use Rattle.path_select.specs.Values.{values}
-use Rattle.path_select.specs.View.{docs_of}
+use Rattle.path_select.specs.ChildView.{docs_of}
 use Rattle.path_plans.specs.declared.plan.Way.{Way}
 use Rattle.path_select.specs.declared.stop.Stop.{Stop}
 use Rattle.path_select.specs.declared.stop.Stop.TheVariants.{Memory, TooMany}

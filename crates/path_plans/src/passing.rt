@@ -2,7 +2,7 @@
 ghost use Rattle.std.specs.Prelude.{◌≡◌, ◌&&◌, ◌||◌, [], false, filter, IfSome, length, option_map, option_to_list, true};
 ghost use Rattle.std.specs.List.{list_any};
 ghost use Rattle.doc_tree.specs.Doc.{Doc};
-ghost use Rattle.doc_tree.specs.View.{elements_view, members_view, view};
+ghost use Rattle.doc_tree.specs.TreeView.{elements_view, members_view, view};
 ghost use Rattle.path_plans.specs.Evaluating as evaluating;
 ghost use Rattle.path_select.specs.Gives.{Gives};
 ghost use Rattle.path_plans.specs.PlanValues.{IsWithin};
@@ -14,9 +14,9 @@ ghost use Rattle.path_plans.specs.PlanView.{choice_view, choices_view, plan_view
 ghost use Rattle.path_plans.specs.Planned as planned;
 ghost use Rattle.path_select.specs.Limit.{is_over};
 ghost use Rattle.path_select.specs.Values.{visited_values};
-ghost use Rattle.path_select.specs.View.{child_of, children_of, doc_if, docs_of, side_if};
+ghost use Rattle.path_select.specs.ChildView.{child_of, children_of, doc_if, docs_of, side_if};
 
-use crate::plan::{Choice, Plan, Stride, Term, Test, Way};
+use crate::plan::{Plan, PlanComparable, PlanFilter, PlanSegment, PlanSelector, Way};
 use doc_tree::Tree;
 use path_grammar::{CompareOp, LentStep};
 use path_select::below::values_below;
@@ -30,7 +30,7 @@ use std::collections::BTreeMap;
 
 /// Whether the value passes the test.
 #[cycle(passing)]
-pub fn passes(test: &Test<'_>, alloc: Global, here: &Tree) -> Result<bool, Stop>
+pub fn passes(test: &PlanFilter<'_>, alloc: Global, here: &Tree) -> Result<bool, Stop>
     ensures { let t = test_view test.now in
         Gives (λ b. b) result (planned.test_refused t (view here.now)) (planned.passes t (view here.now)) }
 {
@@ -43,22 +43,22 @@ pub fn passes(test: &Test<'_>, alloc: Global, here: &Tree) -> Result<bool, Stop>
 /// The same with all that a test may need. It stands apart, since what is at hand needs no such frame on the stack.
 #[cycle(passing)]
 #[inline(never)]
-fn passes_by_lists(test: &Test<'_>, alloc: Global, here: &Tree) -> Result<bool, Stop>
+fn passes_by_lists(test: &PlanFilter<'_>, alloc: Global, here: &Tree) -> Result<bool, Stop>
     ensures { let t = test_view test.now in
         Gives (λ b. b) result (planned.test_refused t (view here.now)) (planned.passes t (view here.now)) }
 {
     match test {
-        Test::SomeOf(parts) => some_pass(parts, alloc, here),
-        Test::AllOf(parts) => all_pass(parts, alloc, here),
-        Test::NotThat(test) => Ok(!passes(test, alloc, here)?),
-        Test::ThereIs(plan) => Ok(is_some_value(&values_of_plan(plan, alloc, here)?)),
-        Test::LeadsThere(ways) => Ok(led_to(ways, here).is_some()),
-        Test::ThereWas { refused, is } => if *refused {
+        PlanFilter::SomeOf(parts) => some_pass(parts, alloc, here),
+        PlanFilter::AllOf(parts) => all_pass(parts, alloc, here),
+        PlanFilter::NotThat(test) => Ok(!passes(test, alloc, here)?),
+        PlanFilter::ThereIs(plan) => Ok(is_some_value(&values_of_plan(plan, alloc, here)?)),
+        PlanFilter::LeadsThere(ways) => Ok(led_to(ways, here).is_some()),
+        PlanFilter::ThereWas { refused, is } => if *refused {
             Err(Stop::TooMany)
         } else {
             Ok(*is)
         },
-        Test::Compared { op, left, right } => {
+        PlanFilter::Compared { op, left, right } => {
             let left = term(left, alloc, here)?;
             let right = term(right, alloc, here)?;
             Ok(compares(*op, lend(&left), lend(&right)))
@@ -68,7 +68,7 @@ fn passes_by_lists(test: &Test<'_>, alloc: Global, here: &Tree) -> Result<bool, 
 
 /// Whether it passes some of the tests.
 #[cycle(passing)]
-fn some_pass(parts: &Vec<Test<'_>>, alloc: Global, here: &Tree) -> Result<bool, Stop>
+fn some_pass(parts: &Vec<PlanFilter<'_>>, alloc: Global, here: &Tree) -> Result<bool, Stop>
     ensures { let ts = tests_view parts.now.items in
         Gives (λ b. b) result (planned.tests_refused ts (view here.now)) (planned.some_pass ts (view here.now)) }
 {
@@ -81,7 +81,7 @@ fn some_pass(parts: &Vec<Test<'_>>, alloc: Global, here: &Tree) -> Result<bool, 
 
 /// Whether it held already, or the value passes the test. Where it held, a test is tried only if it may be refused.
 #[cycle(passing)]
-fn or_passes(held: bool, test: &Test<'_>, alloc: Global, here: &Tree) -> Result<bool, Stop>
+fn or_passes(held: bool, test: &PlanFilter<'_>, alloc: Global, here: &Tree) -> Result<bool, Stop>
     ensures { let t = test_view test.now in
         Gives (λ b. b) result (planned.test_refused t (view here.now)) (held || planned.passes t (view here.now)) }
 {
@@ -94,7 +94,7 @@ fn or_passes(held: bool, test: &Test<'_>, alloc: Global, here: &Tree) -> Result<
 
 /// Whether it passes all of the tests.
 #[cycle(passing)]
-fn all_pass(parts: &Vec<Test<'_>>, alloc: Global, here: &Tree) -> Result<bool, Stop>
+fn all_pass(parts: &Vec<PlanFilter<'_>>, alloc: Global, here: &Tree) -> Result<bool, Stop>
     ensures { let ts = tests_view parts.now.items in
         Gives (λ b. b) result (planned.tests_refused ts (view here.now)) (planned.all_pass ts (view here.now)) }
 {
@@ -107,7 +107,7 @@ fn all_pass(parts: &Vec<Test<'_>>, alloc: Global, here: &Tree) -> Result<bool, S
 
 /// Whether it held so far, and the value passes the test. Where it didn't, a test is tried only if it may be refused.
 #[cycle(passing)]
-fn and_passes(held: bool, test: &Test<'_>, alloc: Global, here: &Tree) -> Result<bool, Stop>
+fn and_passes(held: bool, test: &PlanFilter<'_>, alloc: Global, here: &Tree) -> Result<bool, Stop>
     ensures { let t = test_view test.now in
         Gives (λ b. b) result (planned.test_refused t (view here.now)) (held && planned.passes t (view here.now)) }
 {
@@ -120,29 +120,37 @@ fn and_passes(held: bool, test: &Test<'_>, alloc: Global, here: &Tree) -> Result
 
 /// The value of a side of a comparison, or Nothing.
 #[cycle(passing)]
-pub fn term<'t>(side: &'t Term<'_>, alloc: Global, here: &'t Tree) -> Result<Option<Side<'t>>, Stop>
+pub fn term<'t>(
+    side: &'t PlanComparable<'_>,
+    alloc: Global,
+    here: &'t Tree,
+) -> Result<Option<Side<'t>>, Stop>
     ensures { let o = term_view side.now in
         Gives side_if result (planned.side_refused o (view here.now)) (planned.side_value o (view here.now)) }
 {
     match side {
-        Term::Known { refused, value } => if *refused {
+        PlanComparable::Known { refused, value } => if *refused {
             Err(Stop::TooMany)
         } else {
             Ok(lent_side(lend(value)))
         },
-        Term::OnlyOf(plan) => Ok(only(&values_of_plan(plan, alloc, here)?)),
-        Term::LedTo(ways) => Ok(lent_side(led_to(ways, here))),
-        Term::SizeOf(inner) => {
+        PlanComparable::OnlyOf(plan) => Ok(only(&values_of_plan(plan, alloc, here)?)),
+        PlanComparable::LedTo(ways) => Ok(lent_side(led_to(ways, here))),
+        PlanComparable::SizeOf(inner) => {
             let value = term(inner, alloc, here)?;
             Ok(length_value(lend(&value)))
         }
-        Term::NumberOf(plan) => Ok(count(&values_of_plan(plan, alloc, here)?)),
+        PlanComparable::NumberOf(plan) => Ok(count(&values_of_plan(plan, alloc, here)?)),
     }
 }
 
 /// The children that pass the test. It is tried on each.
 #[cycle(passing)]
-fn filtered<'t>(test: &Test<'_>, alloc: Global, here: &'t Tree) -> Result<Vec<Child<'t>>, Stop>
+fn filtered<'t>(
+    test: &PlanFilter<'_>,
+    alloc: Global,
+    here: &'t Tree,
+) -> Result<Vec<Child<'t>>, Stop>
     ensures { let t = test_view test.now in
         Gives (λ all. children_of all.items) result
         (list_any (λ c. planned.test_refused t c.1) (nodes.children (view here.now)))
@@ -157,7 +165,7 @@ fn filtered<'t>(test: &Test<'_>, alloc: Global, here: &'t Tree) -> Result<Vec<Ch
 
 #[cycle(passing)]
 fn filtered_elements<'t>(
-    test: &Test<'_>,
+    test: &PlanFilter<'_>,
     alloc: Global,
     items: &'t Vec<Tree>,
 ) -> Result<Vec<Child<'t>>, Stop>
@@ -178,7 +186,7 @@ fn filtered_elements<'t>(
 
 #[cycle(passing)]
 fn filtered_members<'t>(
-    test: &Test<'_>,
+    test: &PlanFilter<'_>,
     alloc: Global,
     members: &'t BTreeMap<String, Tree>,
 ) -> Result<Vec<Child<'t>>, Stop>
@@ -199,22 +207,28 @@ fn filtered_members<'t>(
 
 /// What the choice takes of the value.
 #[cycle(passing)]
-fn taken<'t>(choice: &Choice<'_>, alloc: Global, here: &'t Tree) -> Result<Vec<Child<'t>>, Stop>
+fn taken<'t>(
+    choice: &PlanSelector<'_>,
+    alloc: Global,
+    here: &'t Tree,
+) -> Result<Vec<Child<'t>>, Stop>
     ensures { let s = choice_view choice.now in
         Gives (λ all. children_of all.items) result (planned.choice_refused s (view here.now)) (planned.taken s (view here.now)) }
 {
     match choice {
-        Choice::Only(way) => Ok(and_one(Vec::new(alloc), child_on(*way, here))?),
-        Choice::Every => Ok(children(alloc, here)?),
-        Choice::Sliced { start, stop, step } => Ok(sliced(alloc, *start, *stop, *step, here)?),
-        Choice::Kept(test) => filtered(test, alloc, here),
+        PlanSelector::Only(way) => Ok(and_one(Vec::new(alloc), child_on(*way, here))?),
+        PlanSelector::Every => Ok(children(alloc, here)?),
+        PlanSelector::Sliced { start, stop, step } => Ok(sliced(
+            alloc, *start, *stop, *step, here,
+        )?),
+        PlanSelector::Kept(test) => filtered(test, alloc, here),
     }
 }
 
 /// What each of the choices takes of the value, in order.
 #[cycle(passing)]
 pub fn all_taken<'t>(
-    choices: &Vec<Choice<'_>>,
+    choices: &Vec<PlanSelector<'_>>,
     alloc: Global,
     here: &'t Tree,
 ) -> Result<Vec<Child<'t>>, Stop>
@@ -232,7 +246,7 @@ pub fn all_taken<'t>(
 /// The values that are listed, and what is taken of each of the others.
 #[cycle(passing)]
 fn and_each_taken<'t>(
-    choices: &Vec<Choice<'_>>,
+    choices: &Vec<PlanSelector<'_>>,
     alloc: Global,
     visited: &Vec<&'t Tree>,
     listed: Vec<&'t Tree>,
@@ -250,7 +264,7 @@ fn and_each_taken<'t>(
 /// What is taken of each of the values and of all values below it.
 #[cycle(passing)]
 fn each_taken_below<'t>(
-    choices: &Vec<Choice<'_>>,
+    choices: &Vec<PlanSelector<'_>>,
     alloc: Global,
     list: &Vec<&'t Tree>,
 ) -> Result<Vec<&'t Tree>, Stop>
@@ -267,16 +281,16 @@ fn each_taken_below<'t>(
 /// The list after the segment.
 #[cycle(passing)]
 fn values_after<'t>(
-    stride: &Stride<'_>,
+    segment: &PlanSegment<'_>,
     alloc: Global,
     list: &Vec<&'t Tree>,
 ) -> Result<Vec<&'t Tree>, Stop>
-    ensures { ListsPlanned (choices_view stride.now.choices.items) [] (visited_values stride.now.descend (docs_of list.now.items)) result }
+    ensures { ListsPlanned (choices_view segment.now.choices.items) [] (visited_values segment.now.descend (docs_of list.now.items)) result }
 {
-    if stride.descend {
-        each_taken_below(&stride.choices, alloc, list)
+    if segment.descend {
+        each_taken_below(&segment.choices, alloc, list)
     } else {
-        and_each_taken(&stride.choices, alloc, list, Vec::new(alloc))
+        and_each_taken(&segment.choices, alloc, list, Vec::new(alloc))
     }
 }
 
@@ -292,8 +306,8 @@ pub fn values_of_plan<'t>(
 {
     let mut list = Vec::new(alloc);
     list.push(start)?;
-    for stride in &plan.strides {
-        list = values_after(stride, alloc, &list)?;
+    for segment in &plan.segments {
+        list = values_after(segment, alloc, &list)?;
     }
     Ok(list)
 }
@@ -321,50 +335,50 @@ fn led_to<'t>(ways: &[Way<'_>], here: &'t Tree) -> Option<&'t Tree>
 }
 
 /// The value of a side of a comparison, or Nothing, where that is known or a way leads there: then it is not refused.
-fn at_hand<'t>(side: &'t Term<'_>, here: &'t Tree) -> Option<Option<&'t Tree>>
+fn at_hand<'t>(side: &'t PlanComparable<'_>, here: &'t Tree) -> Option<Option<&'t Tree>>
     ensures { let o = term_view side.now in let d = view here.now in
         IfSome result (λ v. (planned.side_refused o d ≡ false) × (doc_if v ≡ planned.side_value o d)) }
 {
     match side {
-        Term::Known {
+        PlanComparable::Known {
             refused: false,
             value,
         } => Some(lend(value)),
-        Term::LedTo(ways) => Some(led_to(ways, here)),
+        PlanComparable::LedTo(ways) => Some(led_to(ways, here)),
         _ => None,
     }
 }
 
 /// Whether the value passes a test that follows ways, or compares what is at hand: then it is not refused.
-fn passes_at_hand(test: &Test<'_>, here: &Tree) -> Option<bool>
+fn passes_at_hand(test: &PlanFilter<'_>, here: &Tree) -> Option<bool>
     ensures { let t = test_view test.now in let d = view here.now in
         IfSome result (λ holds. (planned.test_refused t d ≡ false) × (holds ≡ planned.passes t d)) }
 {
     match test {
-        Test::LeadsThere(ways) => Some(led_to(ways, here).is_some()),
-        Test::Compared { op, left, right } => compares_at_hand(*op, left, right, here),
+        PlanFilter::LeadsThere(ways) => Some(led_to(ways, here).is_some()),
+        PlanFilter::Compared { op, left, right } => compares_at_hand(*op, left, right, here),
         _ => None,
     }
 }
 
 /// Whether the test may be refused of some value: not where it only follows ways, or compares what is at hand.
-fn may_be_refused(test: &Test<'_>) -> bool
+fn may_be_refused(test: &PlanFilter<'_>) -> bool
     ensures { let t = test_view test.now in (d : Doc) → result ≡ false → planned.test_refused t d ≡ false }
 {
     match test {
-        Test::LeadsThere(_) => false,
-        Test::Compared { left, right, .. } => is_sought(left) || is_sought(right),
+        PlanFilter::LeadsThere(_) => false,
+        PlanFilter::Compared { left, right, .. } => is_sought(left) || is_sought(right),
         _ => true,
     }
 }
 
 /// Whether the side is neither known nor where ways lead.
-fn is_sought(side: &Term<'_>) -> bool
+fn is_sought(side: &PlanComparable<'_>) -> bool
     ensures { let o = term_view side.now in (d : Doc) → result ≡ false → planned.side_refused o d ≡ false }
 {
     match side {
-        Term::Known { refused, .. } => *refused,
-        Term::LedTo(_) => false,
+        PlanComparable::Known { refused, .. } => *refused,
+        PlanComparable::LedTo(_) => false,
         _ => true,
     }
 }
@@ -372,8 +386,8 @@ fn is_sought(side: &Term<'_>) -> bool
 /// Whether the comparison holds of the value, where both sides are at hand: then it is not refused.
 fn compares_at_hand<'x>(
     op: CompareOp,
-    left: &'x Term<'_>,
-    right: &'x Term<'_>,
+    left: &'x PlanComparable<'_>,
+    right: &'x PlanComparable<'_>,
     here: &'x Tree,
 ) -> Option<bool>
     ensures { let a = term_view left.now in let b = term_view right.now in let d = view here.now in

@@ -7,22 +7,22 @@ use path_select::compare::Side;
 #[cycle(plan)]
 #[derive(Drop)]
 pub struct Plan<'q> {
-    pub strides: Vec<Stride<'q>>,
+    pub segments: Vec<PlanSegment<'q>>,
 }
 
 /// A segment of a plan.
 #[cycle(plan)]
 #[derive(Drop)]
-pub struct Stride<'q> {
+pub struct PlanSegment<'q> {
     /// Whether it is a descendant segment.
     pub descend: bool,
-    pub choices: Vec<Choice<'q>>,
+    pub choices: Vec<PlanSelector<'q>>,
 }
 
 /// A selector of a plan.
 #[cycle(plan)]
 #[derive(Drop)]
-pub enum Choice<'q> {
+pub enum PlanSelector<'q> {
     /// The one child, if there is one.
     Only(Way<'q>),
     /// All children.
@@ -34,7 +34,7 @@ pub enum Choice<'q> {
         step: Option<i64>,
     },
     /// The children that pass the test.
-    Kept(Test<'q>),
+    Kept(PlanFilter<'q>),
 }
 
 /// A name, or an index; a negative one counts from the end.
@@ -47,10 +47,10 @@ pub enum Way<'q> {
 /// What a filter of a plan asks.
 #[cycle(plan)]
 #[derive(Drop)]
-pub enum Test<'q> {
-    SomeOf(Vec<Test<'q>>),
-    AllOf(Vec<Test<'q>>),
-    NotThat(Box<Test<'q>>),
+pub enum PlanFilter<'q> {
+    SomeOf(Vec<PlanFilter<'q>>),
+    AllOf(Vec<PlanFilter<'q>>),
+    NotThat(Box<PlanFilter<'q>>),
     ThereIs(Plan<'q>),
     /// Of a singular query.
     LeadsThere(Vec<Way<'q>>),
@@ -61,15 +61,15 @@ pub enum Test<'q> {
     },
     Compared {
         op: CompareOp,
-        left: Term<'q>,
-        right: Term<'q>,
+        left: PlanComparable<'q>,
+        right: PlanComparable<'q>,
     },
 }
 
 /// A side of a comparison of a plan.
 #[cycle(plan)]
 #[derive(Drop)]
-pub enum Term<'q> {
+pub enum PlanComparable<'q> {
     /// A literal, or what was found of an absolute query: whether it is refused, and its value.
     Known {
         refused: bool,
@@ -78,6 +78,6 @@ pub enum Term<'q> {
     OnlyOf(Plan<'q>),
     /// Of a singular query.
     LedTo(Vec<Way<'q>>),
-    SizeOf(Box<Term<'q>>),
+    SizeOf(Box<PlanComparable<'q>>),
     NumberOf(Plan<'q>),
 }

@@ -1,18 +1,18 @@
 //! Making plans. An absolute query in a filter is evaluated here, once, and stands in the plan as what was found of it.
 ghost use Rattle.std.specs.Prelude.{◌≡◌, false, length, option_map, IfOk, MatchOption, None, ⊤};
-ghost use Rattle.doc_tree.specs.View.{view};
+ghost use Rattle.doc_tree.specs.TreeView.{view};
 ghost use Rattle.path_grammar.specs.Syntax.{count_of, existence, no_selectors, selector, value_of};
-ghost use Rattle.path_parse.specs.View.{expression_view, expressions_view, operand_view, query_view, selector_view, selectors_view, source_query, source_root};
+ghost use Rattle.path_parse.specs.SyntaxView.{expression_view, expressions_view, operand_view, query_view, selector_view, selectors_view, source_query, source_root};
 ghost use Rattle.path_select.specs.Comparing.{number};
 ghost use Rattle.path_plans.specs.PlanView.{choice_view, choices_view, plan_view, term_view, test_view, tests_view, way_selector};
 ghost use Rattle.path_plans.specs.Planned as planned;
 ghost use Rattle.path_plans.specs.Planning.{FoundOf, GoesBy, KeptOf, made_of};
-ghost use Rattle.path_select.specs.View.{doc_if};
+ghost use Rattle.path_select.specs.ChildView.{doc_if};
 ghost use Rattle.path_select.specs.Values as found_values;
 ghost use Rattle.path_select.specs.Values.{is_some_value};
 
 use crate::passing::values_of_plan;
-use crate::plan::{Choice, Plan, Stride, Term, Test, Way};
+use crate::plan::{Plan, PlanComparable, PlanFilter, PlanSegment, PlanSelector, Way};
 use doc_tree::Tree;
 use path_grammar::CompareOp;
 use path_parse::{Expr, Operand, Query, Segment, Selector, Source};
@@ -26,14 +26,14 @@ use std::alloc::{AllocError, Global};
 pub fn plan_of<'q>(query: &'q Query, alloc: Global, root: &'q Tree) -> Result<Plan<'q>, AllocError>
     ensures { IfOk result (λ p. plan_view p ≡ planned.plan (view root.now) (query_view query.now)) }
 {
-    let mut strides = Vec::with_capacity(alloc, query.segments.len())?;
+    let mut segments = Vec::with_capacity(alloc, query.segments.len())?;
     for segment in &query.segments {
-        strides.push(Stride {
+        segments.push(PlanSegment {
             descend: segment.descend,
             choices: choices_of(&segment.selectors, alloc, root)?,
         })?;
     }
-    Ok(Plan { strides })
+    Ok(Plan { segments })
 }
 
 #[cycle(planning)]
@@ -42,7 +42,7 @@ fn choices_of<'q>(
     selectors: &'q Vec<Selector>,
     alloc: Global,
     root: &'q Tree,
-) -> Result<Vec<Choice<'q>>, AllocError>
+) -> Result<Vec<PlanSelector<'q>>, AllocError>
     ensures { IfOk result (λ cs. choices_view cs.items ≡ planned.plan_choices (view root.now) (selectors_view selectors.now.items)) }
 {
     let mut choices = Vec::with_capacity(alloc, selectors.len())?;
@@ -57,15 +57,15 @@ fn choice_of<'q>(
     selector: &'q Selector,
     alloc: Global,
     root: &'q Tree,
-) -> Result<Choice<'q>, AllocError>
+) -> Result<PlanSelector<'q>, AllocError>
     ensures { IfOk result (λ c. choice_view c ≡ planned.plan_choice (view root.now) (selector_view selector.now)) }
 {
     Ok(match selector {
-        Selector::Name(name) => Choice::Only(Way::Name(name)),
-        Selector::Wild => Choice::Every,
-        Selector::Index(index) => Choice::Only(Way::Index(*index)),
-        Selector::Filter(expression) => Choice::Kept(test_of(expression, alloc, root)?),
-        Selector::Slice { start, stop, step } => Choice::Sliced {
+        Selector::Name(name) => PlanSelector::Only(Way::Name(name)),
+        Selector::Wild => PlanSelector::Every,
+        Selector::Index(index) => PlanSelector::Only(Way::Index(*index)),
+        Selector::Filter(expression) => PlanSelector::Kept(test_of(expression, alloc, root)?),
+        Selector::Slice { start, stop, step } => PlanSelector::Sliced {
             start: *start,
             stop: *stop,
             step: *step,
@@ -74,13 +74,17 @@ fn choice_of<'q>(
 }
 
 #[cycle(planning)]
-fn test_of<'q>(expression: &'q Expr, alloc: Global, root: &'q Tree) -> Result<Test<'q>, AllocError>
+fn test_of<'q>(
+    expression: &'q Expr,
+    alloc: Global,
+    root: &'q Tree,
+) -> Result<PlanFilter<'q>, AllocError>
     ensures { IfOk result (λ t. test_view t ≡ planned.plan_test (view root.now) (expression_view expression.now)) }
 {
     match expression {
-        Expr::Or(parts) => Ok(Test::SomeOf(tests_of(parts, alloc, root)?)),
-        Expr::And(parts) => Ok(Test::AllOf(tests_of(parts, alloc, root)?)),
-        Expr::Not(part) => Ok(Test::NotThat(Box::new(alloc, test_of(part, alloc, root)?)?)),
+        Expr::Or(parts) => Ok(PlanFilter::SomeOf(tests_of(parts, alloc, root)?)),
+        Expr::And(parts) => Ok(PlanFilter::AllOf(tests_of(parts, alloc, root)?)),
+        Expr::Not(part) => Ok(PlanFilter::NotThat(Box::new(alloc, test_of(part, alloc, root)?)?)),
         Expr::Exists(source) => exists_of(source, alloc, root),
         Expr::Compare { op, left, right } => Ok(compared(
             *op,
@@ -96,7 +100,7 @@ fn tests_of<'q>(
     parts: &'q Vec<Expr>,
     alloc: Global,
     root: &'q Tree,
-) -> Result<Vec<Test<'q>>, AllocError>
+) -> Result<Vec<PlanFilter<'q>>, AllocError>
     ensures { IfOk result (λ ts. tests_view ts.items ≡ planned.plan_tests (view root.now) (expressions_view parts.now.items)) }
 {
     let mut tests = Vec::with_capacity(alloc, parts.len())?;
@@ -108,7 +112,11 @@ fn tests_of<'q>(
 
 /// Whether the query selects a node.
 #[cycle(planning)]
-fn exists_of<'q>(source: &'q Source, alloc: Global, root: &'q Tree) -> Result<Test<'q>, AllocError>
+fn exists_of<'q>(
+    source: &'q Source,
+    alloc: Global,
+    root: &'q Tree,
+) -> Result<PlanFilter<'q>, AllocError>
     ensures { IfOk result (λ t. test_view t ≡ planned.plan_test (view root.now) (existence (source_root source.now) (source_query source.now))) }
 {
     if source.from_root {
@@ -116,17 +124,21 @@ fn exists_of<'q>(source: &'q Source, alloc: Global, root: &'q Tree) -> Result<Te
         return Ok(there_was(found));
     }
     match ways_of(&source.query, alloc)? {
-        Some(ways) => Ok(Test::LeadsThere(ways)),
-        None => Ok(Test::ThereIs(plan_of(&source.query, alloc, root)?)),
+        Some(ways) => Ok(PlanFilter::LeadsThere(ways)),
+        None => Ok(PlanFilter::ThereIs(plan_of(&source.query, alloc, root)?)),
     }
 }
 
 #[cycle(planning)]
-fn term_of<'q>(operand: &'q Operand, alloc: Global, root: &'q Tree) -> Result<Term<'q>, AllocError>
+fn term_of<'q>(
+    operand: &'q Operand,
+    alloc: Global,
+    root: &'q Tree,
+) -> Result<PlanComparable<'q>, AllocError>
     ensures { IfOk result (λ t. term_view t ≡ planned.plan_side (view root.now) (operand_view operand.now)) }
 {
     match operand {
-        Operand::Literal(value) => Ok(Term::Known {
+        Operand::Literal(value) => Ok(PlanComparable::Known {
             refused: false,
             value: Some(Side::Lent(value)),
         }),
@@ -139,7 +151,11 @@ fn term_of<'q>(operand: &'q Operand, alloc: Global, root: &'q Tree) -> Result<Te
 
 /// The value of the one node of the query.
 #[cycle(planning)]
-fn only_of<'q>(source: &'q Source, alloc: Global, root: &'q Tree) -> Result<Term<'q>, AllocError>
+fn only_of<'q>(
+    source: &'q Source,
+    alloc: Global,
+    root: &'q Tree,
+) -> Result<PlanComparable<'q>, AllocError>
     ensures { IfOk result (λ t. term_view t ≡ planned.plan_side (view root.now) (value_of (source_root source.now) (source_query source.now))) }
 {
     if source.from_root {
@@ -147,21 +163,25 @@ fn only_of<'q>(source: &'q Source, alloc: Global, root: &'q Tree) -> Result<Term
         return Ok(was_only(found));
     }
     match ways_of(&source.query, alloc)? {
-        Some(ways) => Ok(Term::LedTo(ways)),
-        None => Ok(Term::OnlyOf(plan_of(&source.query, alloc, root)?)),
+        Some(ways) => Ok(PlanComparable::LedTo(ways)),
+        None => Ok(PlanComparable::OnlyOf(plan_of(&source.query, alloc, root)?)),
     }
 }
 
 /// How many nodes the query selects.
 #[cycle(planning)]
-fn number_of<'q>(source: &'q Source, alloc: Global, root: &'q Tree) -> Result<Term<'q>, AllocError>
+fn number_of<'q>(
+    source: &'q Source,
+    alloc: Global,
+    root: &'q Tree,
+) -> Result<PlanComparable<'q>, AllocError>
     ensures { IfOk result (λ t. term_view t ≡ planned.plan_side (view root.now) (count_of (source_root source.now) (source_query source.now))) }
 {
     if source.from_root {
         let found = found_of(&source.query, alloc, root)?;
         Ok(was_number(found))
     } else {
-        Ok(Term::NumberOf(plan_of(&source.query, alloc, root)?))
+        Ok(PlanComparable::NumberOf(plan_of(&source.query, alloc, root)?))
     }
 }
 
@@ -192,16 +212,16 @@ fn unless_too_many<'t>(
 }
 
 /// Whether the query selected a node.
-fn there_was<'q>(found: Option<Vec<&'q Tree>>) -> Test<'q>
+fn there_was<'q>(found: Option<Vec<&'q Tree>>) -> PlanFilter<'q>
     ensures { let made = made_of is_some_value false found.entry in
         test_view result ≡ planned.there_was made.0 made.1 }
 {
     match found {
-        Some(values) => Test::ThereWas {
+        Some(values) => PlanFilter::ThereWas {
             refused: false,
             is: is_some_value(&values),
         },
-        None => Test::ThereWas {
+        None => PlanFilter::ThereWas {
             refused: true,
             is: false,
         },
@@ -209,16 +229,16 @@ fn there_was<'q>(found: Option<Vec<&'q Tree>>) -> Test<'q>
 }
 
 /// The value of the one node that the query selected.
-fn was_only<'q>(found: Option<Vec<&'q Tree>>) -> Term<'q>
+fn was_only<'q>(found: Option<Vec<&'q Tree>>) -> PlanComparable<'q>
     ensures { let made = made_of found_values.only None found.entry in
         term_view result ≡ planned.known made.0 made.1 }
 {
     match found {
-        Some(values) => Term::Known {
+        Some(values) => PlanComparable::Known {
             refused: false,
             value: only(&values),
         },
-        None => Term::Known {
+        None => PlanComparable::Known {
             refused: true,
             value: None,
         },
@@ -226,16 +246,16 @@ fn was_only<'q>(found: Option<Vec<&'q Tree>>) -> Term<'q>
 }
 
 /// How many nodes the query selected.
-fn was_number<'q>(found: Option<Vec<&'q Tree>>) -> Term<'q>
+fn was_number<'q>(found: Option<Vec<&'q Tree>>) -> PlanComparable<'q>
     ensures { let made = made_of (λ ds. number (length ds)) None found.entry in
         term_view result ≡ planned.known made.0 made.1 }
 {
     match found {
-        Some(values) => Term::Known {
+        Some(values) => PlanComparable::Known {
             refused: false,
             value: count(&values),
         },
-        None => Term::Known {
+        None => PlanComparable::Known {
             refused: true,
             value: None,
         },
@@ -243,17 +263,25 @@ fn was_number<'q>(found: Option<Vec<&'q Tree>>) -> Term<'q>
 }
 
 /// A comparison, which is made here, once, where what both sides are is known.
-fn compared<'q>(op: CompareOp, left: Term<'q>, right: Term<'q>) -> Test<'q>
+fn compared<'q>(
+    op: CompareOp,
+    left: PlanComparable<'q>,
+    right: PlanComparable<'q>,
+) -> PlanFilter<'q>
     ensures { test_view result ≡ planned.compared_once op (term_view left.entry) (term_view right.entry) }
 {
     match decision(op, &left, &right) {
-        Some((refused, is)) => Test::ThereWas { refused, is },
-        None => Test::Compared { op, left, right },
+        Some((refused, is)) => PlanFilter::ThereWas { refused, is },
+        None => PlanFilter::Compared { op, left, right },
     }
 }
 
 /// Whether a comparison is refused, and whether it holds, where what both sides are is known.
-fn decision(op: CompareOp, left: &Term<'_>, right: &Term<'_>) -> Option<(bool, bool)>
+fn decision(
+    op: CompareOp,
+    left: &PlanComparable<'_>,
+    right: &PlanComparable<'_>,
+) -> Option<(bool, bool)>
     ensures { result ≡ planned.decision op (term_view left.now) (term_view right.now) }
 {
     let (refused, one) = known(left)?;
@@ -262,20 +290,20 @@ fn decision(op: CompareOp, left: &Term<'_>, right: &Term<'_>) -> Option<(bool, b
 }
 
 /// What is known of a side whatever the current value is: whether it is refused, and its value.
-fn known<'t>(term: &'t Term<'_>) -> Option<(bool, Option<&'t Tree>)>
+fn known<'t>(term: &'t PlanComparable<'_>) -> Option<(bool, Option<&'t Tree>)>
     ensures { option_map (λ found. (found.0, doc_if found.1)) result ≡ planned.known_of (term_view term.now) }
 {
     match term {
-        Term::Known { refused, value } => Some((*refused, lend(value))),
-        Term::OnlyOf(_) => None,
-        Term::LedTo(_) => None,
-        Term::SizeOf(_) => None,
-        Term::NumberOf(_) => None,
+        PlanComparable::Known { refused, value } => Some((*refused, lend(value))),
+        PlanComparable::OnlyOf(_) => None,
+        PlanComparable::LedTo(_) => None,
+        PlanComparable::SizeOf(_) => None,
+        PlanComparable::NumberOf(_) => None,
     }
 }
 
 /// The length of a side, which is taken here, once, where the side is known.
-fn sized<'q>(term: Term<'q>, alloc: Global) -> Result<Term<'q>, AllocError>
+fn sized<'q>(term: PlanComparable<'q>, alloc: Global) -> Result<PlanComparable<'q>, AllocError>
     ensures { IfOk result (λ t. term_view t ≡ planned.sized_once (term_view term.entry)) }
 {
     let length = match known(&term) {
@@ -283,8 +311,8 @@ fn sized<'q>(term: Term<'q>, alloc: Global) -> Result<Term<'q>, AllocError>
         None => None,
     };
     match length {
-        Some((refused, value)) => Ok(Term::Known { refused, value }),
-        None => Ok(Term::SizeOf(Box::new(alloc, term)?)),
+        Some((refused, value)) => Ok(PlanComparable::Known { refused, value }),
+        None => Ok(PlanComparable::SizeOf(Box::new(alloc, term)?)),
     }
 }
 

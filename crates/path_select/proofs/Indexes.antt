@@ -6,9 +6,9 @@ use Rattle.std.proofs.lemmas.Bool.{cases_lt}
 use Rattle.std.proofs.Math.Seq.{drop-append_seam, take-length, get_or-append_seam}
 use Rattle.doc_tree.specs.Doc.{Doc}
 use Rattle.path_select.specs.Nodes.{Located, child_at, children}
-use Rattle.path_select.specs.Trail.{seen, spot_of, stand}
-use Rattle.path_select.specs.declared.trail.Walk.{Walk}
-use Rattle.path_select.specs.declared.trail.Spot.{Spot}
+use Rattle.path_select.specs.Paths.{seen, spot_of, stand}
+use Rattle.path_select.specs.declared.paths.Walk.{Walk}
+use Rattle.path_select.specs.declared.paths.Spot.{Spot}
 use Rattle.path_select.specs.Indexed.{HasChildren, IsIndexed, children_at, node_at}
 use Rattle.path_select.specs.declared.index.Span.{Span}
 

@@ -3,13 +3,13 @@ use Rattle.std.proofs.Common.{◌≡◌, ◌≤◌, ◌<◌, ◌++◌, ◌+◌, 
 use Rattle.std.proofs.lemmas.List.{get_or_append_left, get_or_past, length-take-le, take-append-drop, map-append}
 use Rattle.std.proofs.Math.Seq.{get_or-append_seam}
 use Rattle.doc_tree.specs.Doc.{Place}
-use Rattle.doc_tree.specs.View.{view}
+use Rattle.doc_tree.specs.TreeView.{view}
 use Rattle.path_select.specs.Nodes.{Located}
-use Rattle.path_select.specs.Trail.{marked, locations, location, spot_of, all_spots, stand, GoesOn, seen}
+use Rattle.path_select.specs.Paths.{marked, locations, location, spot_of, all_spots, stand, GoesOn, seen}
 use Rattle.path_grammar.specs.Lent.{lent_place}
-use Rattle.path_select.specs.declared.trail.Mark.{Mark}
-use Rattle.path_select.specs.declared.trail.Spot.{Spot}
-use Rattle.path_select.specs.declared.trail.Walk.{Walk}
+use Rattle.path_select.specs.declared.paths.Mark.{Mark}
+use Rattle.path_select.specs.declared.paths.Spot.{Spot}
+use Rattle.path_select.specs.declared.paths.Walk.{Walk}
 
 pub locations-append : (ps : List (List Place)) (ms more : List Mark) → locations ps (ms ++ more) ≡ locations (locations ps ms) more
 locations-append ps [] more = refl

@@ -6,7 +6,7 @@ use Rattle.std.specs.Cmp.Lexicographic.{slice_cmp}
 use Rattle.std.specs.Map.{lookup}
 use Rattle.doc_tree.proofs.Views.{view-lookup}
 use Rattle.doc_tree.specs.Doc.{name, get_member}
-use Rattle.doc_tree.specs.View.{view, elements_view, members_view}
+use Rattle.doc_tree.specs.TreeView.{view, elements_view, members_view}
 use Rattle.doc_tree.specs.declared.tree.Tree.{Tree}
 use Rattle.path_select.specs.Selectors.{elements_count, found}
 use Rattle.path_select.specs.Comparing.{members_count}

@@ -2,8 +2,8 @@
 use Rattle.std.specs.Prelude.{◌≡◌, ◌≤◌, ◌+◌, ℕ, List, [], map, take, drop, get_or, length}
 use Rattle.doc_tree.specs.Doc.{Doc}
 use Rattle.path_select.specs.Nodes.{Located, child_at, children}
-use Rattle.doc_tree.specs.View.{view}
-use Rattle.path_select.specs.Trail.{seen}
+use Rattle.doc_tree.specs.TreeView.{view}
+use Rattle.path_select.specs.Paths.{seen}
 use Rattle.path_select.specs.declared.index.Index.{Index}
 use Rattle.path_select.specs.declared.index.Span.{Span}
 

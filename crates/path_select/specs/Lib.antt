@@ -6,5 +6,5 @@ pub mod Comparing
 pub mod Limit
 pub mod Gives
 pub mod Values
-pub mod View
-pub mod Trail
+pub mod ChildView
+pub mod Paths

@@ -1,10 +1,10 @@
 //! The values below a value, without their locations.
 ghost use Rattle.std.specs.Prelude.{◌≡◌, ◌++◌, IfOk};
-ghost use Rattle.doc_tree.specs.View.{elements_view, members_view, view};
+ghost use Rattle.doc_tree.specs.TreeView.{elements_view, members_view, view};
 ghost use Rattle.path_select.specs.Nodes.{element_descendants, member_descendants};
 ghost use Rattle.path_select.specs.Values as found;
 ghost use Rattle.path_select.specs.Values.{values};
-ghost use Rattle.path_select.specs.View.{docs_of};
+ghost use Rattle.path_select.specs.ChildView.{docs_of};
 
 use doc_tree::Tree;
 use std::alloc::{AllocError, Global};

@@ -1,9 +1,9 @@
 //! The children of a value (RFC 9535, section 1.1).
 ghost use Rattle.std.specs.Prelude.{◌≡◌, IfOk, map};
-ghost use Rattle.doc_tree.specs.View.{elements_view, members_view, view};
+ghost use Rattle.doc_tree.specs.TreeView.{elements_view, members_view, view};
 ghost use Rattle.path_select.specs.Nodes as nodes;
 ghost use Rattle.path_select.specs.Nodes.{element_children, member_children};
-ghost use Rattle.path_select.specs.View.{children_of};
+ghost use Rattle.path_select.specs.ChildView.{children_of};
 
 use doc_tree::Tree;
 use path_grammar::LentStep;

@@ -1,10 +1,10 @@
 //! Comparisons and functions of filters (RFC 9535, sections 2.3.5.2.2 and 2.4.4).
 ghost use Rattle.std.specs.Prelude.{◌≡◌, ◌<◌, ◌≤◌, ◌^◌, chars, length, option_map, Some};
 ghost use Rattle.doc_tree.specs.Doc as doc;
-ghost use Rattle.doc_tree.specs.View.{view};
+ghost use Rattle.doc_tree.specs.TreeView.{view};
 ghost use Rattle.path_select.specs.Comparing as comparing;
 ghost use Rattle.path_select.specs.Values as found;
-ghost use Rattle.path_select.specs.View.{doc_if, docs_of, side_if};
+ghost use Rattle.path_select.specs.ChildView.{doc_if, docs_of, side_if};
 
 use doc_tree::Tree;
 use path_grammar::CompareOp;

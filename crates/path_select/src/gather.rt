@@ -3,7 +3,7 @@ ghost use Rattle.std.specs.Prelude.{◌++◌, length};
 ghost use Rattle.path_select.specs.Gives.{Gives};
 ghost use Rattle.path_select.specs.Limit.{is_over};
 ghost use Rattle.path_select.specs.Values.{child_values};
-ghost use Rattle.path_select.specs.View.{children_of, docs_of};
+ghost use Rattle.path_select.specs.ChildView.{children_of, docs_of};
 
 use crate::children::Child;
 use crate::limits::NODES;

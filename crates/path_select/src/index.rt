@@ -1,12 +1,12 @@
 //! All nodes of a document, known by numbers.
 ghost use Rattle.std.specs.Prelude.{◌≡◌, ◌≤◌, ◌++◌, IfOk, length};
-ghost use Rattle.doc_tree.specs.View.{view};
+ghost use Rattle.doc_tree.specs.TreeView.{view};
 ghost use Rattle.path_select.specs.Indexed.{IsIndex, children_at};
 ghost use Rattle.path_select.specs.Nodes as nodes;
-ghost use Rattle.path_select.specs.Trail.{GoesOn, seen, spot_of, stand};
+ghost use Rattle.path_select.specs.Paths.{GoesOn, seen, spot_of, stand};
 
 use crate::children::children;
-use crate::trail::{Spot, Walk, with_child};
+use crate::paths::{Spot, Walk, with_child};
 use doc_tree::Tree;
 use std::alloc::{AllocError, Global};
 

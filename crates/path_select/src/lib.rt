@@ -15,6 +15,6 @@ pub mod index;
 pub mod limits;
 pub mod numbered_below;
 pub mod numbers;
+pub mod paths;
 pub mod select;
 pub mod stop;
-pub mod trail;

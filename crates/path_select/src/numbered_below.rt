@@ -1,6 +1,6 @@
 //! The numbers of a node and of all nodes below it.
 ghost use Rattle.std.specs.Prelude.{◌≡◌, ◌++◌, IfOk, map};
-ghost use Rattle.doc_tree.specs.View.{view};
+ghost use Rattle.doc_tree.specs.TreeView.{view};
 ghost use Rattle.path_select.specs.Indexed.{IsIndex, at_number, at_numbers};
 ghost use Rattle.path_select.specs.Nodes.{beneath, descendants};
 

@@ -3,17 +3,17 @@ ghost use Rattle.std.specs.Prelude.{◌≡◌, ◌≤◌, ◌+◌, IfOk, Some, d
 ghost use Rattle.std.specs.List.{AllByRecursion, slice_get};
 ghost use Rattle.doc_tree.specs.Doc as doc;
 ghost use Rattle.doc_tree.specs.Doc.{Doc, child, get_member};
-ghost use Rattle.doc_tree.specs.View.{members_view, view};
+ghost use Rattle.doc_tree.specs.TreeView.{members_view, view};
 ghost use Rattle.path_grammar.specs.Lent.{lent_place};
 ghost use Rattle.path_select.specs.Nodes as nodes;
 ghost use Rattle.path_select.specs.Nodes.{child_at, member_children};
-ghost use Rattle.path_select.specs.View.{children_of};
+ghost use Rattle.path_select.specs.ChildView.{children_of};
 ghost use Rattle.path_select.specs.Indexed.{HasChildren, IsIndex, at_number, at_numbers, children_at};
-ghost use Rattle.path_select.specs.Trail.{seen, spot_of};
+ghost use Rattle.path_select.specs.Paths.{seen, spot_of};
 
 use crate::children::Child;
 use crate::index::{Index, Span};
-use crate::trail::Spot;
+use crate::paths::Spot;
 use doc_tree::Tree;
 use path_grammar::LentStep;
 use std::alloc::{AllocError, Global};

@@ -1,11 +1,11 @@
 //! What selectors without a filter select of a value (RFC 9535, sections 2.3.1 to 2.3.4).
 ghost use Rattle.std.specs.Prelude.{◌≡◌, ◌<◌, ◌++◌, flat_map, IfOk, option_map, option_to_list, zero};
-ghost use Rattle.doc_tree.specs.View.{members_view, view};
+ghost use Rattle.doc_tree.specs.TreeView.{members_view, view};
 ghost use Rattle.doc_tree.specs.Doc.{get_member};
 ghost use Rattle.doc_tree.specs.Doc as place;
 ghost use Rattle.path_select.specs.Selectors as selectors;
 ghost use Rattle.path_select.specs.Slicing as slicing;
-ghost use Rattle.path_select.specs.View.{child_of, children_of};
+ghost use Rattle.path_select.specs.ChildView.{child_of, children_of};
 
 use crate::children::Child;
 use doc_tree::Tree;

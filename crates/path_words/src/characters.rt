@@ -1,7 +1,7 @@
 //! Single characters, fixed words and blanks.
 ghost use Rattle.std.specs.Prelude.{◌≡◌, option_map};
 ghost use Rattle.path_grammar.specs.Characters.{is_blank, is_digit};
-ghost use Rattle.path_grammar.specs.Reading.{after_character, after_doubled, after_word, skip, begins_blank, begins_int, begins_query, begins_segment, begins_string};
+ghost use Rattle.path_grammar.specs.Reading.{after_character, after_doubled, after_word, skip, starts_with_blank, begins_int, begins_query, begins_segment, begins_string};
 
 /// What follows the character, where the text begins with it.
 pub fn after(text: &[char], character: char) -> Option<&[char]>
@@ -62,8 +62,8 @@ pub fn is_digit(character: char) -> bool
 }
 
 /// Whether the text begins with a blank.
-pub fn begins_blank(text: &[char]) -> bool
-    ensures { result ≡ begins_blank text.now }
+pub fn starts_with_blank(text: &[char]) -> bool
+    ensures { result ≡ starts_with_blank text.now }
 {
     match text {
         [first, ..] => is_blank(*first),

@@ -1,6 +1,6 @@
 //! Number literals, and whether the profile leaves them out (RFC 9535, section 2.3.5.1).
 ghost use Rattle.std.specs.Prelude.{◌≡◌, option_map};
-ghost use Rattle.doc_tree.specs.View.{view};
+ghost use Rattle.doc_tree.specs.TreeView.{view};
 ghost use Rattle.path_grammar.specs.Characters.{is_digit};
 ghost use Rattle.path_grammar.specs.Reading.{after_e, read_number, read_run};
 ghost use Rattle.path_grammar.specs.Syntax.{json};

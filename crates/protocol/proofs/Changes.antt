@@ -3,7 +3,7 @@ use Rattle.std.proofs.Common.{◌≡◌, ◌≤◌, ℕ, suc, List, [], ◌∷�
 use Rattle.std.proofs.lemmas.List.{map-append}
 use Rattle.doc_tree.specs.Cursor.{IsNext}
 use Rattle.doc_tree.specs.Doc.{Doc, Elements, Members, element, member, no_elements, no_members, object}
-use Rattle.doc_tree.specs.View.{elements_of, elements_view, view}
+use Rattle.doc_tree.specs.TreeView.{elements_of, elements_view, view}
 use Rattle.doc_tree.specs.declared.tree.Tree.{Tree}
 use Rattle.record_text.specs.Change.{Change, command_object, object_of}
 use Rattle.doc_machine.specs.Transaction.{several, single}

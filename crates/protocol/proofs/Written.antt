@@ -7,7 +7,7 @@ use Rattle.std.proofs.lemmas.Option.{get_or_from_slice_get, slice_get_within}
 use Rattle.json.specs.Print.{escape_byte}
 use Rattle.serde_json.specs.Written.{comma_if}
 use Rattle.doc_tree.specs.Text.{elements_text, text_of}
-use Rattle.doc_tree.specs.View.{elements_of}
+use Rattle.doc_tree.specs.TreeView.{elements_of}
 use Rattle.path_eval.specs.Nodes.{Located}
 use Rattle.protocol.specs.Reply.{line_of, node_object, nodes_reply}
 use Rattle.protocol.specs.Rows.{AddsRow, rows_left}

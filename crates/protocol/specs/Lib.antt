@@ -6,4 +6,4 @@ pub mod Room
 pub mod Lines
 pub mod Request
 pub mod Read
-pub mod Held
+pub mod LineBuffer

@@ -2,7 +2,7 @@
 use Rattle.std.specs.Prelude.{ℕ, List, [], ◌∷◌, ◌++◌, map, flat_map, length, min, pos, true, false, codes, encode_utf8_all, Option, None, Some}
 use Rattle.doc_tree.specs.Doc.{Doc, boolean, int, text, list, object, member, no_members, Elements, no_elements, element, Members}
 use Rattle.doc_tree.specs.Text.{text_of}
-use Rattle.doc_tree.specs.View.{elements_of}
+use Rattle.doc_tree.specs.TreeView.{elements_of}
 use Rattle.path_eval.specs.Nodes.{Located}
 use Rattle.path_parse.specs.NormalPath.{normal_path}
 use Rattle.refusals.specs.Names.{name_of}

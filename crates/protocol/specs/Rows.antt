@@ -4,7 +4,7 @@ use Rattle.std.specs.List.{slice_get}
 use Rattle.serde_json.specs.Written.{comma_if}
 use Rattle.doc_tree.specs.Doc.{Doc, text, object, member, no_members}
 use Rattle.doc_tree.specs.Text.{elements_text, text_of}
-use Rattle.doc_tree.specs.View.{view, elements_of}
+use Rattle.doc_tree.specs.TreeView.{view, elements_of}
 use Rattle.path_eval.specs.Nodes.{Located}
 use Rattle.protocol.specs.Reply.{node_object}
 use Rattle.protocol.specs.declared.rows.Row.{Row}

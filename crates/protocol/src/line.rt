@@ -20,7 +20,7 @@ pub struct Line {
 }
 
 impl Line {
-    ghost use Rattle.protocol.specs.Held.{Holds};
+    ghost use Rattle.protocol.specs.LineBuffer.{Holds};
 
     pub fn new(alloc: Global) -> Result<Line, AllocError>
         ensures { IfOk result (λ line. Holds line []) }

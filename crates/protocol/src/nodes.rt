@@ -4,7 +4,7 @@ ghost use Rattle.serde_json.specs.Written.{comma_if};
 ghost use Rattle.doc_tree.specs.Text.{text_of};
 ghost use Rattle.refusals.specs.declared.numbers.TheConstants.{MEMORY, REPLY_LONG};
 ghost use Rattle.doc_changes.specs.Refusals.{plain};
-ghost use Rattle.path_eval.specs.View.{listed_of};
+ghost use Rattle.path_eval.specs.NodeView.{listed_of};
 ghost use Rattle.protocol.specs.Reply.{line_of, nodes_reply};
 ghost use Rattle.protocol.specs.Rows.{AddsRow};
 ghost use Rattle.protocol.specs.declared.limits.TheConstants.{REPLY_BYTES};

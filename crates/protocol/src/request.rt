@@ -2,7 +2,7 @@
 ghost use Rattle.std.specs.Prelude.{◌≡◌, ◌≤◌, ◌↔◌, length, codes, IfOk, IsTrue, MatchOption};
 ghost use Rattle.doc_tree.specs.Cursor.{IsNext, ahead};
 ghost use Rattle.doc_tree.specs.Doc.{Elements, object};
-ghost use Rattle.doc_tree.specs.View.{elements_view, view};
+ghost use Rattle.doc_tree.specs.TreeView.{elements_view, view};
 ghost use Rattle.protocol.specs.Read.{AreCommands, AsksWith, IsRequest, ReadsRequest, transaction_members};
 
 use crate::limits::{LINE_BYTES, PUMP_SECTORS};

@@ -2,7 +2,7 @@
 ghost use Rattle.std.specs.Prelude.{◌≡◌, ◌<◌, length, IfOk};
 ghost use Rattle.serde_json.specs.Events.{SendsValue};
 ghost use Rattle.doc_tree.specs.Text.{data_of, text_of};
-ghost use Rattle.path_eval.specs.View.{lent_node_of, listed_of};
+ghost use Rattle.path_eval.specs.NodeView.{lent_node_of, listed_of};
 ghost use Rattle.protocol.specs.Reply.{node_object};
 ghost use Rattle.protocol.specs.Rows.{IsRowOf, row_object};
 

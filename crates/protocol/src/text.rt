@@ -4,7 +4,7 @@ ghost use Rattle.serde.specs.Event.{Logs};
 ghost use Rattle.serde_json.specs.Events.{SendsValue};
 ghost use Rattle.doc_tree.specs.Doc.{list};
 ghost use Rattle.doc_tree.specs.Text.{data_of};
-ghost use Rattle.doc_tree.specs.View.{view};
+ghost use Rattle.doc_tree.specs.TreeView.{view};
 ghost use Rattle.protocol.specs.Reply.{line_of, names_reply, texts, value_reply};
 
 use crate::shown::shown_line;

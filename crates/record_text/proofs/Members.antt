@@ -2,7 +2,7 @@
 use Rattle.std.proofs.Common.{◌≡◌, ℕ, List, [], ◌∷◌, Some, String, string_bytes, slice_get}
 use Rattle.std.specs.declared.alloc.Global.{Global}
 use Rattle.doc_tree.specs.Doc.{Doc, Members, member}
-use Rattle.doc_tree.specs.View.{members_view}
+use Rattle.doc_tree.specs.TreeView.{members_view}
 use Rattle.doc_tree.specs.declared.tree.Tree.{Tree}
 
 pub first_named : (entries : List (String Global × Tree)) (p : String Global × Tree) → slice_get entries 0 ≡ Some p

@@ -1,7 +1,7 @@
 -- Changes: what a command asks for, and the object that spells it.
 use Rattle.std.specs.Prelude.{◌≡◌, ℕ, ◌<◌, ◌^◌, pos, List, Option, Some, None, string_bytes, codes, max, ⊤}
 use Rattle.doc_tree.specs.Doc.{Doc, int, text, object, Members, member, no_members, height}
-use Rattle.doc_tree.specs.View.{view}
+use Rattle.doc_tree.specs.TreeView.{view}
 use Rattle.record_text.specs.declared.command.Command.{Command}
 use Rattle.record_text.specs.declared.command.Command.TheVariants.{Create, Patch, Schema, Delete}
 

@@ -1,5 +1,5 @@
 -- For the clauses within the crate: the creation of a document whose parts are lent, as a change.
-use Rattle.doc_tree.specs.View.{view}
+use Rattle.doc_tree.specs.TreeView.{view}
 use Rattle.record_text.specs.Change.{Change, create}
 use Rattle.record_text.specs.declared.command.Creation.{Creation}
 

@@ -3,7 +3,7 @@ ghost use Rattle.std.specs.Prelude.{◌↔◌, IsTrue, OnOk, Some, None, string_
 ghost use Rattle.serde_json.specs.Events.{SendsValue};
 ghost use Rattle.doc_tree.specs.Sound.{IsSound};
 ghost use Rattle.doc_tree.specs.Text.{data_of};
-ghost use Rattle.doc_tree.specs.View.{view};
+ghost use Rattle.doc_tree.specs.TreeView.{view};
 ghost use Rattle.record_text.specs.Change.{AsksNone, IsSpelled, change_of, create, patch, set_schema, delete, object_of};
 
 use doc_tree::Tree;

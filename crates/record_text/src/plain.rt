@@ -5,12 +5,12 @@ ghost use Rattle.std.specs.Str.{IsUtf8};
 ghost use Rattle.doc_tree.specs.Doc.{Doc, height};
 ghost use Rattle.doc_tree.specs.Sound.{IsSound};
 ghost use Rattle.doc_tree.specs.Text.{text_of};
-ghost use Rattle.doc_tree.specs.View.{view};
+ghost use Rattle.doc_tree.specs.TreeView.{view};
 ghost use Rattle.record_text.specs.Change.{change_of, object_of, patch};
 ghost use Rattle.record_text.specs.Fault.{IsTextOf};
 
 use crate::command::Command;
-use doc_tree::{Tree, read_plain, strip_bytes, strip_quoted};
+use doc_tree::{Tree, read_unescaped, strip_bytes, strip_quoted};
 use std::alloc::Global;
 use std::str;
 
@@ -29,7 +29,7 @@ const TEXT_HEIGHT: u64 = 127;
 pub(crate) fn plain_patch(alloc: Global, body: &[u8]) -> Option<Command>
     ensures { IfSome result (λ c. IsTextOf body.now (object_of (change_of c))) }
 {
-    let (name, rest) = read_plain(alloc, body.strip_prefix(BEFORE_NAME)?)?;
+    let (name, rest) = read_unescaped(alloc, body.strip_prefix(BEFORE_NAME)?)?;
     let (ops, _) = Tree::read_compact(alloc, rest.strip_prefix(BEFORE_OPS)?)?;
     if !is_patch_text(name.as_str(), &ops, body) {
         return None;

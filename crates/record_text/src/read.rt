@@ -1,6 +1,6 @@
 // From bytes to the command whose frame they begin with.
 ghost use Rattle.std.specs.Prelude.{◌≡◌, ◌≢◌, ◌<◌, ◌≤◌, ℕ, IfOk, IfErr, MatchResult, length};
-ghost use Rattle.doc_tree.specs.View.{view};
+ghost use Rattle.doc_tree.specs.TreeView.{view};
 ghost use Rattle.record_text.specs.Change.{Change, change_of, object_of};
 ghost use Rattle.record_text.specs.Fault.{IsBodyFault, IsHeadFault, IsReadFault, IsReadFault_1, IsTextFault, IsTextOf, HasBody};
 ghost use Rattle.record_text.specs.Fault.{stated_body, stated_len, stated_seq};

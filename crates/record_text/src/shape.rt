@@ -3,7 +3,7 @@
 ghost use Rattle.std.specs.Prelude.{◌≡◌, ℕ, List, MatchOption, codes, string_bytes};
 ghost use Rattle.doc_tree.specs.Cursor.{ahead};
 ghost use Rattle.doc_tree.specs.Doc.{Doc};
-ghost use Rattle.doc_tree.specs.View.{view};
+ghost use Rattle.doc_tree.specs.TreeView.{view};
 ghost use Rattle.record_text.specs.Change.{command_object, name_and};
 ghost use Rattle.record_text.specs.Record.{IsCommand, ReadsCommand};
 

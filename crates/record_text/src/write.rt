@@ -2,7 +2,7 @@
 ghost use Rattle.std.specs.Prelude.{◌≡◌, ◌≤◌, ◌<◌, ◌^◌, ◌++◌, length, IfOk, MatchResult};
 ghost use Rattle.std.specs.Int.{w32, to_be_bytes};
 ghost use Rattle.doc_tree.specs.Sound.{IsSound};
-ghost use Rattle.doc_tree.specs.View.{view};
+ghost use Rattle.doc_tree.specs.TreeView.{view};
 ghost use Rattle.record_text.specs.Change.{AsksNone, change_of, create, object_of};
 ghost use Rattle.record_text.specs.Fault.{IsLong, IsWriteFault, IsWriteFault_1};
 ghost use Rattle.record_text.specs.Frame.{body_of, entry, frame_of, frame_1_of};

@@ -9,11 +9,11 @@ use Rattle.std.specs.List.{AllByRecursion}
 use Rattle.std.specs.List.Sorted.{IsStrictlySortedBy}
 use Rattle.std.specs.Map.{keys_of}
 use Rattle.doc_tree.specs.Sound.{IsBefore}
-use Rattle.doc_tree.specs.View.{members_view}
+use Rattle.doc_tree.specs.TreeView.{members_view}
 use Rattle.doc_tree.specs.declared.tree.Tree.{Tree}
 use Rattle.doc_tree.proofs.Members.{get_member-first, get_member-later}
 use Rattle.schema_graph.proofs.Numbers.{same_or_not}
-use Rattle.schema_levels.specs.Sites.{title}
+use Rattle.schema_levels.specs.PlaceInValue.{member_name}
 use Rattle.schema_levels.specs.Table.{Child, child_at, children, items_from, members_each, titles}
 use Rattle.schema_levels.proofs.Tables.{and_assoc}
 use Rattle.schema_changes.specs.Again.{AreSorted, IsSorted, site_of}
@@ -79,12 +79,12 @@ module _ (P : Child → Bool) where
   members_all (member l e ms) sorted h =
       both_true (P (child_at (site_of (name l)) e)) (each P (members_each ms)) (h l e (get_member-first l e ms)) (members_all ms sorted.1 (λ k d at. h k d (kept_later k l d e ms sorted.0 at)))
 
-  titles_all : (ms : Members) → AreSorted ms → ((k : List ℕ) (d : Doc) → get_member k ms ≡ Some d → P (child_at title (text k)) ≡ true) → each P (titles ms) ≡ true
+  titles_all : (ms : Members) → AreSorted ms → ((k : List ℕ) (d : Doc) → get_member k ms ≡ Some d → P (child_at member_name (text k)) ≡ true) → each P (titles ms) ≡ true
   titles_all no_members sorted h = refl
   titles_all (member l e ms) sorted h =
-      both_true (P (child_at title (text l))) (each P (titles ms)) (h l e (get_member-first l e ms)) (titles_all ms sorted.1 (λ k d at. h k d (kept_later k l d e ms sorted.0 at)))
+      both_true (P (child_at member_name (text l))) (each P (titles ms)) (h l e (get_member-first l e ms)) (titles_all ms sorted.1 (λ k d at. h k d (kept_later k l d e ms sorted.0 at)))
 
-  pub children_all : (t : Doc) → IsSorted t → ((q : Place) (d : Doc) → child q t ≡ Some d → P (child_at (site_of q) d) ≡ true) → ((k : List ℕ) (d : Doc) → child (name k) t ≡ Some d → P (child_at title (text k)) ≡ true) → each P (children t) ≡ true
+  pub children_all : (t : Doc) → IsSorted t → ((q : Place) (d : Doc) → child q t ≡ Some d → P (child_at (site_of q) d) ≡ true) → ((k : List ℕ) (d : Doc) → child (name k) t ≡ Some d → P (child_at member_name (text k)) ≡ true) → each P (children t) ≡ true
   children_all (list ds) sorted h g = items_all 0 ds (λ n d at. let z : n ≡ 0 + n = omega arith in subst (λ i. P (child_at (site_of (index i)) d) ≡ true) z (h (index n) d at))
   children_all (object ms) sorted h g = each_append (members_each ms) (titles ms) ∙ both_true (each P (members_each ms)) (each P (titles ms)) (members_all ms sorted (λ k d at. h (name k) d at)) (titles_all ms sorted (λ k d at. g k d at))
   children_all null sorted h g = refl
@@ -119,11 +119,11 @@ module _ (P : Child → Bool) where
       found (λ k d. P (child_at (site_of (name k)) d)) (slice_cmp nat_cmp k l) k l d e ms refl (left_true (P (child_at (site_of (name l)) e)) (each P (members_each ms)) all)
       (member_of k d ms (right_true (P (child_at (site_of (name l)) e)) (each P (members_each ms)) all)) at
 
-  title_of : (k : List ℕ) (d : Doc) (ms : Members) → each P (titles ms) ≡ true → get_member k ms ≡ Some d → P (child_at title (text k)) ≡ true
+  title_of : (k : List ℕ) (d : Doc) (ms : Members) → each P (titles ms) ≡ true → get_member k ms ≡ Some d → P (child_at member_name (text k)) ≡ true
   title_of k d no_members all at = absurd cc
   title_of k d (member l e ms) all at =
-      found (λ k d. P (child_at title (text k))) (slice_cmp nat_cmp k l) k l d e ms refl (left_true (P (child_at title (text l))) (each P (titles ms)) all)
-      (title_of k d ms (right_true (P (child_at title (text l))) (each P (titles ms)) all)) at
+      found (λ k d. P (child_at member_name (text k))) (slice_cmp nat_cmp k l) k l d e ms refl (left_true (P (child_at member_name (text l))) (each P (titles ms)) all)
+      (title_of k d ms (right_true (P (child_at member_name (text l))) (each P (titles ms)) all)) at
 
   pub child_of : (q : Place) (d t : Doc) → each P (children t) ≡ true → child q t ≡ Some d → P (child_at (site_of q) d) ≡ true
   child_of (index n) d (list ds) all at = let z : 0 + n ≡ n = omega arith in subst (λ i. P (child_at (site_of (index i)) d) ≡ true) z (item_of 0 n d ds all at)
@@ -139,7 +139,7 @@ module _ (P : Child → Bool) where
   child_of (index n) d (text s) all at = absurd cc
   child_of (index n) d (object ms) all at = absurd cc
 
-  pub named_of : (k : List ℕ) (d t : Doc) → each P (children t) ≡ true → child (name k) t ≡ Some d → P (child_at title (text k)) ≡ true
+  pub named_of : (k : List ℕ) (d t : Doc) → each P (children t) ≡ true → child (name k) t ≡ Some d → P (child_at member_name (text k)) ≡ true
   named_of k d (object ms) all at = title_of k d ms (right_true (each P (members_each ms)) (each P (titles ms)) (sym (each_append (members_each ms) (titles ms)) ∙ all)) at
   named_of k d null all at = absurd cc
   named_of k d (boolean b) all at = absurd cc

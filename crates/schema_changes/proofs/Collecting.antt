@@ -7,14 +7,14 @@ use Rattle.schema_graph.proofs.Among.{In-left, In-right, In-parts, none_in}
 use Rattle.schema_levels.specs.Below.{below}
 use Rattle.schema_levels.specs.Bits.{bit, size}
 use Rattle.schema_levels.specs.Nodes.{asked_below, AreOrdered}
-use Rattle.schema_levels.specs.Sites.{Site, title}
+use Rattle.schema_levels.specs.PlaceInValue.{PlaceInValue, member_name}
 use Rattle.schema_levels.specs.declared.node.Node.{Node}
 use Rattle.schema_levels.specs.declared.node.Rule.{Rule}
 use Rattle.schema_levels.specs.declared.node.Rule.TheVariants.{Says, Asserts, All, Any, One, Not, Then, Else, Refers, Properties, Others, Names, ByPlace, Rest, Contains, AtLeast, AtMost}
 use Rattle.schema_changes.specs.Again.{AllPass, NamePasses, Tells, ValuePasses, collect_must, mark_must_below, must_all_below, must_below}
 use Rattle.schema_changes.proofs.Marking.{mark_must_below_is, walk_in, walk_out}
 
-in_below : (x : Node) (p : Site) (r : Rule) (j : ℕ) → In j (option_to_list (must_below x r p)) → In j (option_to_list (below x r p))
+in_below : (x : Node) (p : PlaceInValue) (r : Rule) (j : ℕ) → In j (option_to_list (must_below x r p)) → In j (option_to_list (below x r p))
 in_below x p (Contains k) j at = none_in j at
 in_below x p (AtLeast k v) j at = none_in j at
 in_below x p (AtMost k v) j at = none_in j at
@@ -33,14 +33,14 @@ in_below x p (Names k) j at = at
 in_below x p (ByPlace v) j at = at
 in_below x p (Rest k) j at = at
 
-below_asked : (x : Node) (p : Site) (rs : List Rule) (j : ℕ) → In j (must_all_below x p rs) → In j (asked_below x p rs)
+below_asked : (x : Node) (p : PlaceInValue) (rs : List Rule) (j : ℕ) → In j (must_all_below x p rs) → In j (asked_below x p rs)
 below_asked x p [] j at = none_in j at
 below_asked x p (r ∷ rs) j at = ⊎_elim
     (λ h. In-left j (option_to_list (below x r p)) (asked_below x p rs) (in_below x p r j h))
     (λ h. In-right j (option_to_list (below x r p)) (asked_below x p rs) (below_asked x p rs j h))
     (In-parts j (option_to_list (must_below x r p)) (must_all_below x p rs) at)
 
-module _ (nodes : List Node) (order : AreOrdered nodes) (known : ℕ → Doc → Bool) (asked : List ℕ) (p : Site) (clear found : List ℕ) (room : length nodes ≤ size clear) (none : (j : ℕ) → bit clear j ≡ false)
+module _ (nodes : List Node) (order : AreOrdered nodes) (known : ℕ → Doc → Bool) (asked : List ℕ) (p : PlaceInValue) (clear found : List ℕ) (room : length nodes ≤ size clear) (none : (j : ℕ) → bit clear j ≡ false)
     (is : found ≡ collect_must asked p 0 nodes clear) (t : Doc) where
   pub from_set : AllPass known found t → ValuePasses known nodes asked p t
   from_set all i j x at on must =
@@ -57,9 +57,9 @@ module _ (nodes : List Node) (order : AreOrdered nodes) (known : ℕ → Doc →
       (sym (ap (λ bs. bit bs j) is) ∙ on)
 
 -- a name
-pub named : (known : ℕ → Doc → Bool) (nodes : List Node) (asked found s : List ℕ) (p : Place) (b : Bool) → p ≡ name s → Tells b (AllPass known found (text s)) → (AllPass known found (text s) → ValuePasses known nodes asked title (text s)) → (ValuePasses known nodes asked title (text s) → AllPass known found (text s))
+pub named : (known : ℕ → Doc → Bool) (nodes : List Node) (asked found s : List ℕ) (p : Place) (b : Bool) → p ≡ name s → Tells b (AllPass known found (text s)) → (AllPass known found (text s) → ValuePasses known nodes asked member_name (text s)) → (ValuePasses known nodes asked member_name (text s) → AllPass known found (text s))
     → Tells b (NamePasses known nodes asked p)
 named known nodes asked found s p b is told there back = record {
-  yes = λ e k same. (let names : s ≡ k = cc in subst (λ l. ValuePasses known nodes asked title (text l)) names (there (told.yes e)));
+  yes = λ e k same. (let names : s ≡ k = cc in subst (λ l. ValuePasses known nodes asked member_name (text l)) names (there (told.yes e)));
   all = λ all. told.all (back (all s is));
 }

@@ -1,11 +1,11 @@
 -- A step along the location: from the value to its child, and back.
 use Rattle.std.proofs.Common.{◌≡◌, ℕ, ◌<◌, ◌≤◌, inl, inr, List, ◌∷◌, Bool, true, false, length, Option, Some, None, option_map, Bor, refl, sym, ap, subst, ◌∙◌, arith}
 use Rattle.doc_tree.specs.Doc.{Doc, Place, child}
-use Rattle.doc_tree.specs.View.{view}
+use Rattle.doc_tree.specs.TreeView.{view}
 use Rattle.doc_tree.specs.declared.tree.Tree.{Tree}
 use Rattle.schema_levels.specs.Bits.{bit, size}
 use Rattle.schema_levels.specs.Nodes.{node_get, AreOrdered}
-use Rattle.schema_levels.specs.Sites.{Site}
+use Rattle.schema_levels.specs.PlaceInValue.{PlaceInValue}
 use Rattle.schema_levels.specs.Table.{IsTable}
 use Rattle.schema_levels.specs.declared.node.Node.{Node}
 use Rattle.schema_levels.proofs.Tables.{rules_at_get, within_get}
@@ -56,7 +56,7 @@ module _ (nodes : List Node) (order : AreOrdered nodes) (known : ℕ → Doc →
   pub step_below : (new d : Doc) (p : Place) → AllPass known asked new → child p new ≡ Some d → PassBelow known nodes closed p d
   step_below new d p all at = pass_below nodes known table closed new p d (to_closed new all) at
 
-module _ (nodes : List Node) (order : AreOrdered nodes) (known : ℕ → Doc → Bool) (asked clear found : List ℕ) (room : length nodes ≤ size clear) (none : (j : ℕ) → bit clear j ≡ false) (p : Place) (s : Site) (site_is : s ≡ site_of p)
+module _ (nodes : List Node) (order : AreOrdered nodes) (known : ℕ → Doc → Bool) (asked clear found : List ℕ) (room : length nodes ≤ size clear) (none : (j : ℕ) → bit clear j ≡ false) (p : Place) (s : PlaceInValue) (site_is : s ≡ site_of p)
     (is : found ≡ collect_must asked s 0 nodes clear) where
   collected : found ≡ collect_must asked (site_of p) 0 nodes clear
   collected = is ∙ ap (λ q. collect_must asked q 0 nodes clear) site_is

@@ -5,10 +5,10 @@ use Rattle.schema_graph.specs.Walks.{In, first, later}
 use Rattle.schema_graph.proofs.Among.{none_in}
 use Rattle.schema_graph.proofs.Numbers.{same_or_not}
 use Rattle.schema_levels.specs.Bits.{bit, mark_all, put, size}
-use Rattle.schema_levels.specs.Close.{rules_at}
+use Rattle.schema_levels.specs.Closure.{rules_at}
 use Rattle.schema_levels.specs.Nodes.{node_get}
-use Rattle.schema_levels.specs.Sites.{Site}
-use Rattle.schema_levels.specs.Sweep.{walk}
+use Rattle.schema_levels.specs.PlaceInValue.{PlaceInValue}
+use Rattle.schema_levels.specs.EachInSet.{walk}
 use Rattle.schema_levels.specs.declared.node.Node.{Node}
 use Rattle.schema_levels.specs.declared.node.Rule.{Rule}
 use Rattle.schema_levels.proofs.Marks.{bit_other, mark_append, mark_in, mark_len, mark_other, mark_stays}
@@ -31,7 +31,7 @@ pub mark_must_is : (rs : List Rule) (bs : List ℕ) → mark_must rs bs ≡ mark
 mark_must_is [] bs = refl
 mark_must_is (r ∷ rs) bs = mark_must_is rs (mark_all (must_here r) bs) ∙ sym (mark_append (must_here r) (must_all_here rs) bs)
 
-pub mark_must_below_is : (x : Node) (p : Site) (rs : List Rule) (bs : List ℕ) → mark_must_below x p rs bs ≡ mark_all (must_all_below x p rs) bs
+pub mark_must_below_is : (x : Node) (p : PlaceInValue) (rs : List Rule) (bs : List ℕ) → mark_must_below x p rs bs ≡ mark_all (must_all_below x p rs) bs
 mark_must_below_is x p [] bs = refl
 mark_must_below_is x p (r ∷ rs) bs =
     mark_must_below_is x p rs (mark_all (option_to_list (must_below x r p)) bs) ∙ sym (mark_append (option_to_list (must_below x r p)) (must_all_below x p rs) bs)

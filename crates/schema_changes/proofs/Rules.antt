@@ -8,8 +8,8 @@ use Rattle.schema_graph.proofs.Among.{In-left, In-right, In-parts, none_in}
 use Rattle.schema_rules.specs.Rules.{every, some, how_many}
 use Rattle.schema_levels.specs.Below.{found_passes, rule_below, rules_below}
 use Rattle.schema_levels.specs.Counters.{rule_says, rules_say}
-use Rattle.schema_levels.specs.Settle.{rule_here, rules_here}
-use Rattle.schema_levels.specs.Sites.{Site}
+use Rattle.schema_levels.specs.Conclude.{rule_here, rules_here}
+use Rattle.schema_levels.specs.PlaceInValue.{PlaceInValue}
 use Rattle.schema_levels.specs.Table.{Child, rules_lower, rules_together}
 use Rattle.schema_levels.specs.declared.node.Node.{Node}
 use Rattle.schema_levels.specs.declared.node.Rule.{Rule}
@@ -143,7 +143,7 @@ found_of f None j e i = none_in j i
 found_of f (Some _) j e first = e
 found_of f (Some k) j e (later i) = none_in j i
 
-module _ (f : ℕ → Bool) (x : Node) (p : Site) where
+module _ (f : ℕ → Bool) (x : Node) (p : PlaceInValue) where
   rule_below_is : (r : Rule) → rule_below f x r p ≡ found_passes f (must_below x r p)
   rule_below_is (Says b) = refl
   rule_below_is (Asserts a) = refl

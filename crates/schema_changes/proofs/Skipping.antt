@@ -1,7 +1,7 @@
 -- On the way down numbers that aren't in the set may be passed over; and nodes of a list by their index.
 use Rattle.std.proofs.Common.{◌≡◌, ℕ, zero, suc, ◌+◌, ◌-◌, ◌<◌, ◌≤◌, List, [], ◌∷◌, Some, true, false, length, get_or, refl, sym, ap, ◌∙◌, if◌then◌else◌, arith}
 use Rattle.schema_levels.specs.Bits.{bit}
-use Rattle.schema_levels.specs.Close.{rules_at}
+use Rattle.schema_levels.specs.Closure.{rules_at}
 use Rattle.schema_levels.specs.Nodes.{node_get}
 use Rattle.schema_levels.specs.declared.node.Node.{Node}
 use Rattle.schema_levels.proofs.Sets.{rules_at_index}

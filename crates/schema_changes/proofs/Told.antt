@@ -4,7 +4,7 @@ use Rattle.doc_tree.specs.Doc.{Doc}
 use Rattle.schema_graph.specs.Walks.{In, first}
 use Rattle.schema_graph.proofs.Among.{In-left, In-right, In-parts, none_in}
 use Rattle.schema_levels.specs.Bits.{bit, mark_all, size}
-use Rattle.schema_levels.specs.Close.{here}
+use Rattle.schema_levels.specs.Closure.{here}
 use Rattle.schema_levels.specs.Levels.{AreJudged}
 use Rattle.schema_levels.specs.Nodes.{asked_here, node_get, AreOrdered}
 use Rattle.schema_levels.specs.Table.{IsTable}

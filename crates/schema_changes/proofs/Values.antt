@@ -5,10 +5,10 @@ use Rattle.schema_graph.specs.Walks.{In}
 use Rattle.schema_graph.proofs.Among.{In-left, In-parts, In-right, none_in}
 use Rattle.schema_levels.specs.Below.{rules_below}
 use Rattle.schema_levels.specs.Bits.{bit}
-use Rattle.schema_levels.specs.Close.{here, rules_at}
+use Rattle.schema_levels.specs.Closure.{here, rules_at}
 use Rattle.schema_levels.specs.Nodes.{asked_here, node_get, AreOrdered}
-use Rattle.schema_levels.specs.Settle.{rules_here}
-use Rattle.schema_levels.specs.Sites.{title}
+use Rattle.schema_levels.specs.Conclude.{rules_here}
+use Rattle.schema_levels.specs.PlaceInValue.{member_name}
 use Rattle.schema_levels.specs.Table.{Child, child_at, children, IsTable, lower, rules_together, said}
 use Rattle.schema_levels.specs.declared.node.Node.{Node}
 use Rattle.schema_levels.specs.declared.node.Rule.{Rule}
@@ -95,7 +95,7 @@ module _ (nodes : List Node) (known : ℕ → Doc → Bool) (table : IsTable nod
     value = λ i j x found on must. (let low = sym (lower_each known x x.rules.items (children t)) ∙ (passes_parts i x t found (all i on)).0 in
         rules_below_must (λ j. known j d) x (site_of p) x.rules.items j (child_of (λ c. rules_below (λ j. known j c.value) x c.place x.rules.items) p d t low at) must);
     named = λ k is i j x found on must. (let low = sym (lower_each known x x.rules.items (children t)) ∙ (passes_parts i x t found (all i on)).0 in
-        rules_below_must (λ j. known j (text k)) x title x.rules.items j (named_of (λ c. rules_below (λ j. known j c.value) x c.place x.rules.items) k d t low (subst (λ q. child q t ≡ Some d) is at)) must);
+        rules_below_must (λ j. known j (text k)) x member_name x.rules.items j (named_of (λ c. rules_below (λ j. known j c.value) x c.place x.rules.items) k d t low (subst (λ q. child q t ≡ Some d) is at)) must);
   }
 
   -- ---- what passed the old value passes the new one
@@ -118,9 +118,9 @@ module _ (nodes : List Node) (known : ℕ → Doc → Bool) (table : IsTable nod
             (rules_below_from (λ j. known j d) x (site_of p) x.rules.items (λ j must. (below d (subst (λ r. child r new ≡ Some d) e found)).value i j x at on must))
         value q d found (inr ne) = child_of P q d old was (beside q ne ∙ found)
 
-        named : (k : List ℕ) (d : Doc) → child (name k) new ≡ Some d → (name k ≡ p) ⊎ (name k ≢ p) → P (child_at title (text k)) ≡ true
+        named : (k : List ℕ) (d : Doc) → child (name k) new ≡ Some d → (name k ≡ p) ⊎ (name k ≢ p) → P (child_at member_name (text k)) ≡ true
         named k d found (inl e) =
-            rules_below_from (λ j. known j (text k)) x title x.rules.items (λ j must. (below d (subst (λ r. child r new ≡ Some d) e found)).named k (sym e) i j x at on must)
+            rules_below_from (λ j. known j (text k)) x member_name x.rules.items (λ j must. (below d (subst (λ r. child r new ≡ Some d) e found)).named k (sym e) i j x at on must)
         named k d found (inr ne) = named_of P k d old was (beside (name k) ne ∙ found)
 
     node_holds : (i : ℕ) (x : Node) → node_get nodes i ≡ Some x → bit asked i ≡ true → ((j : ℕ) → j < i → bit asked j ≡ true → known j new ≡ true) → known i new ≡ true

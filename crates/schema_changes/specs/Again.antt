@@ -6,12 +6,12 @@ use Rattle.doc_tree.specs.Sound.{IsBefore}
 use Rattle.schema_graph.specs.Walks.{In}
 use Rattle.schema_levels.specs.Below.{below}
 use Rattle.schema_levels.specs.Bits.{bit, mark_all}
-use Rattle.schema_levels.specs.Close.{rules_at}
+use Rattle.schema_levels.specs.Closure.{rules_at}
 use Rattle.schema_levels.specs.Nodes.{node_get}
-use Rattle.schema_levels.specs.Settle.{rule_here}
-use Rattle.schema_levels.specs.Sites as sites
-use Rattle.schema_levels.specs.Sites.{Site}
-use Rattle.schema_levels.specs.Sweep.{walk}
+use Rattle.schema_levels.specs.Conclude.{rule_here}
+use Rattle.schema_levels.specs.PlaceInValue as sites
+use Rattle.schema_levels.specs.PlaceInValue.{PlaceInValue}
+use Rattle.schema_levels.specs.EachInSet.{walk}
 use Rattle.schema_levels.specs.declared.node.Node.{Node}
 use Rattle.schema_levels.specs.declared.node.Rule.{Rule}
 use Rattle.schema_levels.specs.declared.node.Rule.TheVariants.{All, Any, One, Not, Then, Else, Refers, Contains, AtLeast, AtMost}
@@ -34,13 +34,13 @@ must_all_here [] = []
 must_all_here (r ∷ rs) = must_here r ++ must_all_here rs
 
 -- the node that must pass the child at that place; one that counts elements rests on them together
-abbrev pub must_below : Node → Rule → Site → Option ℕ
+abbrev pub must_below : Node → Rule → PlaceInValue → Option ℕ
 must_below x (Contains j) p = None
 must_below x (AtLeast j v) p = None
 must_below x (AtMost j v) p = None
 must_below x r p = below x r p
 
-abbrev pub must_all_below : Node → Site → List Rule → List ℕ
+abbrev pub must_all_below : Node → PlaceInValue → List Rule → List ℕ
 must_all_below x p [] = []
 must_all_below x p (r ∷ rs) = option_to_list (must_below x r p) ++ must_all_below x p rs
 
@@ -55,12 +55,12 @@ abbrev pub close_must : List Node → ℕ → List ℕ → List ℕ
 close_must nodes zero bs = bs
 close_must nodes (suc i) bs = close_must nodes i (if bit bs i then mark_must (rules_at nodes i) bs else bs)
 
-abbrev pub mark_must_below : Node → Site → List Rule → List ℕ → List ℕ
+abbrev pub mark_must_below : Node → PlaceInValue → List Rule → List ℕ → List ℕ
 mark_must_below x p [] bs = bs
 mark_must_below x p (r ∷ rs) bs = mark_must_below x p rs (mark_all (option_to_list (must_below x r p)) bs)
 
 -- at a child
-abbrev pub collect_must : List ℕ → Site → ℕ → List Node → List ℕ → List ℕ
+abbrev pub collect_must : List ℕ → PlaceInValue → ℕ → List Node → List ℕ → List ℕ
 collect_must asked p i nodes bs = walk (λ n x now. mark_must_below x p x.rules.items now) asked i nodes bs
 
 -- ---- what is judged again
@@ -124,7 +124,7 @@ AllAgain known in_list t nodes asked = (i : ℕ) (x : Node) → node_get nodes i
 -- ---- places
 
 -- where the child at that place stands
-abbrev pub site_of : Place → Site
+abbrev pub site_of : Place → PlaceInValue
 site_of (name k) = sites.name k
 site_of (index n) = sites.index n
 
@@ -146,12 +146,12 @@ pub record Tells (result : Bool) (P : Type 0) : Type 0 where
 -- ---- along a location
 
 -- the nodes that must pass the child at that place pass this value
-abbrev pub ValuePasses : (ℕ → Doc → Bool) → List Node → List ℕ → Site → Doc → Type 0
+abbrev pub ValuePasses : (ℕ → Doc → Bool) → List Node → List ℕ → PlaceInValue → Doc → Type 0
 ValuePasses known nodes asked p d = (i j : ℕ) (x : Node) → node_get nodes i ≡ Some x → bit asked i ≡ true → In j (must_all_below x p x.rules.items) → known j d ≡ true
 
 -- the name that leads there passes what names must pass, where a name does
 abbrev pub NamePasses : (ℕ → Doc → Bool) → List Node → List ℕ → Place → Type 0
-NamePasses known nodes asked p = (k : List ℕ) → p ≡ name k → ValuePasses known nodes asked sites.title (text k)
+NamePasses known nodes asked p = (k : List ℕ) → p ≡ name k → ValuePasses known nodes asked sites.member_name (text k)
 
 -- a child at that place
 pub record PassBelow (known : ℕ → Doc → Bool) (nodes : List Node) (asked : List ℕ) (p : Place) (d : Doc) : Type 0 where

@@ -1,7 +1,7 @@
 //! What is judged again at one value.
 ghost use Rattle.std.specs.Prelude.{◌≡◌, ℕ, Bool, true, false, ◌*◌, ◌&&◌, ◌<◌, ◌≤◌, ◌^◌, if◌then◌else◌, length};
 ghost use Rattle.doc_tree.specs.Doc.{Doc};
-ghost use Rattle.doc_tree.specs.View.{view};
+ghost use Rattle.doc_tree.specs.TreeView.{view};
 ghost use Rattle.schema_levels.specs.Bits.{bit, mark_all};
 ghost use Rattle.schema_levels.specs.Counters.{AreCounted};
 ghost use Rattle.schema_levels.specs.Nodes.{AreOrdered};
@@ -11,7 +11,7 @@ ghost use Rattle.schema_changes.specs.Again.{AllAgain, Tells, anew_here, collect
 use crate::whole::judge_marked;
 use doc_tree::Tree;
 use schema_levels::bits::{bit, fill, mark_each, next, write};
-use schema_levels::settle::rule_here;
+use schema_levels::conclude::rule_here;
 use schema_levels::{Counters, Node, Rule};
 use schema_rules::Instance;
 

@@ -2,7 +2,7 @@
 ghost use Rattle.std.specs.Prelude.{◌≡◌, ℕ, Bool, true, Some, ◌*◌, ◌≤◌, length, map, option_map};
 ghost use Rattle.doc_tree.specs.Doc.{Doc};
 ghost use Rattle.doc_tree.specs.Place.{place_of};
-ghost use Rattle.doc_tree.specs.View.{view};
+ghost use Rattle.doc_tree.specs.TreeView.{view};
 ghost use Rattle.schema_levels.specs.Counters.{AreCounted};
 ghost use Rattle.schema_levels.specs.Nodes.{AreOrdered};
 ghost use Rattle.schema_levels.specs.Table.{IsTable};
@@ -14,7 +14,7 @@ use crate::places::{child, open_members, spot_of};
 use crate::whole::all_pass;
 use doc_tree::{Step, Tree};
 use schema_levels::bits::fill;
-use schema_levels::{Counters, Node, Spot};
+use schema_levels::{ChildPlace, Counters, Node};
 use schema_rules::Instance;
 
 /// Whether the value passes each node of the set, where it did before it changed at the location. All sets are written over.
@@ -135,7 +135,7 @@ fn name_passes(
     match step {
         Step::Name(name) => {
             fill(below, 0);
-            collect(nodes, asked, Spot::Title, below);
+            collect(nodes, asked, ChildPlace::MemberName, below);
             all_pass(
                 nodes,
                 counters,

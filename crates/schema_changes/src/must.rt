@@ -7,7 +7,7 @@ ghost use Rattle.schema_changes.specs.Again.{close_must, collect_must, mark_must
 
 use schema_levels::below::below;
 use schema_levels::bits::{bit, last, mark_each, next, write};
-use schema_levels::{Node, Rule, Spot};
+use schema_levels::{ChildPlace, Node, Rule};
 
 /// Adds all nodes that must pass the value because those of the set must.
 pub(crate) fn close(nodes: &[Node], asked: &mut [u64])
@@ -40,7 +40,7 @@ fn mark_rule(rule: &Rule, asked: &mut [u64])
 }
 
 /// Adds the nodes that must pass the child because those of the set must pass the value.
-pub(crate) fn collect(nodes: &[Node], asked: &[u64], spot: Spot<'_>, found: &mut [u64])
+pub(crate) fn collect(nodes: &[Node], asked: &[u64], spot: ChildPlace<'_>, found: &mut [u64])
     requires { length asked.now < 2 ^ 32 }
     ensures { found.new ≡ collect_must asked.now (seen spot.entry) 0 nodes.now found.old }
 {
@@ -51,7 +51,7 @@ pub(crate) fn collect(nodes: &[Node], asked: &[u64], spot: Spot<'_>, found: &mut
     }
 }
 
-fn collect_one(node: &Node, number: usize, asked: &[u64], spot: Spot<'_>, found: &mut [u64])
+fn collect_one(node: &Node, number: usize, asked: &[u64], spot: ChildPlace<'_>, found: &mut [u64])
     ensures { found.new ≡ (if bit asked.now number then mark_must_below node.now (seen spot.entry) node.now.rules.items found.old else found.old) }
 {
     if bit(asked, number) {
@@ -59,7 +59,7 @@ fn collect_one(node: &Node, number: usize, asked: &[u64], spot: Spot<'_>, found:
     }
 }
 
-fn collect_rules(node: &Node, spot: Spot<'_>, found: &mut [u64])
+fn collect_rules(node: &Node, spot: ChildPlace<'_>, found: &mut [u64])
     ensures { found.new ≡ mark_must_below node.now (seen spot.entry) node.now.rules.items found.old }
 {
     for rule in &node.rules {
@@ -67,7 +67,7 @@ fn collect_rules(node: &Node, spot: Spot<'_>, found: &mut [u64])
     }
 }
 
-fn collect_rule(node: &Node, rule: &Rule, spot: Spot<'_>, found: &mut [u64])
+fn collect_rule(node: &Node, rule: &Rule, spot: ChildPlace<'_>, found: &mut [u64])
     ensures { found.new ≡ mark_all (option_to_list (must_below node.now rule.now (seen spot.entry))) found.old }
 {
     if let Some(number) = must_below(node, rule, spot) {
@@ -76,7 +76,7 @@ fn collect_rule(node: &Node, rule: &Rule, spot: Spot<'_>, found: &mut [u64])
 }
 
 // The node that must pass the child; a rule that counts elements rests on them together.
-fn must_below(node: &Node, rule: &Rule, spot: Spot<'_>) -> Option<usize>
+fn must_below(node: &Node, rule: &Rule, spot: ChildPlace<'_>) -> Option<usize>
     ensures { result ≡ must_below node.now rule.now (seen spot.entry) }
 {
     match rule {

@@ -2,12 +2,12 @@
 ghost use Rattle.std.specs.Prelude.{◌≡◌, option_map};
 ghost use Rattle.doc_tree.specs.Doc.{child};
 ghost use Rattle.doc_tree.specs.Place.{place_of};
-ghost use Rattle.doc_tree.specs.View.{view};
+ghost use Rattle.doc_tree.specs.TreeView.{view};
 ghost use Rattle.schema_levels.specs.Below.{seen};
 ghost use Rattle.schema_changes.specs.Again.{IsSorted, site_of};
 
 use doc_tree::{Step, Tree};
-use schema_levels::Spot;
+use schema_levels::ChildPlace;
 
 /// The child of a value that a step leads to.
 pub fn child<'t>(value: &'t Tree, step: &Step) -> Option<&'t Tree>
@@ -29,11 +29,11 @@ pub(crate) fn open_members(value: &Tree)
 }
 
 /// Where the child stands.
-pub(crate) fn spot_of(step: &Step) -> Spot<'_>
+pub(crate) fn spot_of(step: &Step) -> ChildPlace<'_>
     ensures { seen result ≡ site_of (place_of step.now) }
 {
     match step {
-        Step::Name(name) => Spot::Name(name.as_str()),
-        Step::Index(index) => Spot::Index(*index as usize),
+        Step::Name(name) => ChildPlace::Name(name.as_str()),
+        Step::Index(index) => ChildPlace::Index(*index as usize),
     }
 }

@@ -2,7 +2,7 @@
 ghost use Rattle.std.specs.Prelude.{◌≡◌, ℕ, Bool, true, ◌*◌, ◌<◌, ◌≤◌, length, map};
 ghost use Rattle.doc_tree.specs.Doc.{Doc};
 ghost use Rattle.doc_tree.specs.Place.{place_of};
-ghost use Rattle.doc_tree.specs.View.{view};
+ghost use Rattle.doc_tree.specs.TreeView.{view};
 ghost use Rattle.schema_levels.specs.Counters.{AreCounted};
 ghost use Rattle.schema_levels.specs.Nodes.{AreOrdered};
 ghost use Rattle.schema_levels.specs.Table.{IsTable};

@@ -4,7 +4,7 @@ use Rattle.schema_graph.specs.Walks.{In}
 use Rattle.schema_graph.proofs.Among.{none_in}
 use Rattle.schema_graph.proofs.Numbers.{same_or_not}
 use Rattle.schema_levels.specs.Bits.{bit, mark_all, size}
-use Rattle.schema_levels.specs.Close.{rules_at, here, mark_rules, close}
+use Rattle.schema_levels.specs.Closure.{rules_at, here, mark_rules, close}
 use Rattle.schema_levels.specs.Nodes.{asked_here}
 use Rattle.schema_levels.specs.declared.node.Node.{Node}
 use Rattle.schema_levels.specs.declared.node.Rule.{Rule}

@@ -4,14 +4,14 @@ use Rattle.std.specs.Option.{option_to_list}
 use Rattle.std.proofs.lemmas.Option.{slice_get_within}
 use Rattle.doc_tree.specs.Doc.{Doc, list, Elements, no_elements, element}
 use Rattle.doc_tree.specs.Lists.{elements_list}
-use Rattle.doc_tree.specs.View.{view, elements_view}
+use Rattle.doc_tree.specs.TreeView.{view, elements_view}
 use Rattle.doc_tree.specs.declared.tree.Tree.{Tree}
 use Rattle.schema_graph.specs.Walks.{In, first, later}
 use Rattle.schema_graph.proofs.Among.{In-right, none_in}
 use Rattle.schema_graph.proofs.Numbers.{same_or_not}
 use Rattle.schema_rules.specs.Assertions.{at_least, at_most}
 use Rattle.schema_rules.specs.Rules.{some, how_many}
-use Rattle.schema_levels.specs.Sites.{index}
+use Rattle.schema_levels.specs.PlaceInValue.{index}
 use Rattle.schema_levels.specs.Bits.{bit, put, size}
 use Rattle.schema_levels.specs.Below.{below}
 use Rattle.schema_levels.specs.Counters.{counter, owns, HaveCounters, EachCounted, more, more_in_fourths, counted, count_of, fourth, held, most, one, unit, width, word_of, is_tallied, Tallied, rules_say, weigh, rules_count}

@@ -4,16 +4,16 @@ use Rattle.std.specs.Int.{bit_at}
 use Rattle.std.proofs.lemmas.List.{get_or-replicate}
 use Rattle.std.proofs.lemmas.Nat.Bits.{bit_at_ones, bit_at-zero}
 use Rattle.doc_tree.specs.Doc.{Doc, text, Members, no_members, member}
-use Rattle.schema_levels.specs.Sites.{Site, name, index, title}
-use Rattle.doc_tree.specs.View.{view, elements_view, members_view}
+use Rattle.schema_levels.specs.PlaceInValue.{PlaceInValue, name, index, member_name}
+use Rattle.doc_tree.specs.TreeView.{view, elements_view, members_view}
 use Rattle.doc_tree.specs.declared.tree.Tree.{Tree}
 use Rattle.schema_graph.specs.Walks.{In, first}
 use Rattle.schema_graph.proofs.Among.{In-left, In-right}
 use Rattle.std.specs.Option.{option_to_list}
 use Rattle.schema_levels.specs.Bits.{bit, size}
 use Rattle.schema_levels.specs.Below.{below, found_passes, rule_below, rules_below, collect, fold}
-use Rattle.schema_levels.specs.Close.{close}
-use Rattle.schema_levels.specs.Settle.{settle, rules_here}
+use Rattle.schema_levels.specs.Closure.{close}
+use Rattle.schema_levels.specs.Conclude.{conclude, rules_here}
 use Rattle.schema_levels.specs.Nodes.{node_get, asked_here, asked_below, AreOrdered}
 use Rattle.schema_levels.specs.Table.{Child, child_at, children, items_from, members_each, titles, IsTable, rules_together, lower, said}
 use Rattle.schema_levels.specs.Levels.{AreJudged, AreFolded, AreKept, AreLowered, AreTold, AskNothing}
@@ -36,7 +36,7 @@ found_none : (o : Option ℕ) (known : ℕ → Bool) → ((j : ℕ) → In j (op
 found_none None known h = refl
 found_none (Some j) known h = absurd (h j first)
 
-rule_none : (x : Node) (p : Site) (known : ℕ → Bool) (r : Rule) → ((j : ℕ) → In j (option_to_list (below x r p)) → ⊥) → rule_below known x r p ≡ true
+rule_none : (x : Node) (p : PlaceInValue) (known : ℕ → Bool) (r : Rule) → ((j : ℕ) → In j (option_to_list (below x r p)) → ⊥) → rule_below known x r p ≡ true
 rule_none x p known (Says b) h = found_none (below x (Says b) p) known h
 rule_none x p known (Asserts a) h = found_none (below x (Asserts a) p) known h
 rule_none x p known (All v) h = found_none (below x (All v) p) known h
@@ -55,7 +55,7 @@ rule_none x p known (Contains j) h = refl
 rule_none x p known (AtLeast j v) h = refl
 rule_none x p known (AtMost j v) h = refl
 
-rules_pass_all : (x : Node) (p : Site) (known : ℕ → Bool) (rs : List Rule) → ((j : ℕ) → In j (asked_below x p rs) → ⊥) → rules_below known x p rs ≡ true
+rules_pass_all : (x : Node) (p : PlaceInValue) (known : ℕ → Bool) (rs : List Rule) → ((j : ℕ) → In j (asked_below x p rs) → ⊥) → rules_below known x p rs ≡ true
 rules_pass_all x p known [] h = refl
 rules_pass_all x p known (r ∷ rs) h =
     ap₂ (λ a b. a && b) (rule_none x p known r (λ j i. h j (In-left j _ _ i))) (rules_pass_all x p known rs (λ j i. h j (In-right j (option_to_list (below x r p)) _ i)))
@@ -123,18 +123,18 @@ folded_append nodes asked cs ds a b d f g known table k x at on =
 
 module _ (nodes : List Node) (order : AreOrdered nodes) (asked passed clear : List ℕ) (room : length nodes ≤ size passed) (clear_room : length nodes ≤ size clear) where
   -- nothing is asked of any
-  pub titles_folded : (begun : List ℕ) → begun ≡ collect asked title 0 nodes clear → ((j : ℕ) → bit begun j ≡ false) → (ms : Members) → AreFolded nodes asked (titles ms) passed passed
+  pub titles_folded : (begun : List ℕ) → begun ≡ collect asked member_name 0 nodes clear → ((j : ℕ) → bit begun j ≡ false) → (ms : Members) → AreFolded nodes asked (titles ms) passed passed
   titles_folded begun e none no_members = nothing_below nodes asked passed
-  titles_folded begun e none (member k d ms) = folded_append nodes asked (child_at title (text k) ∷ []) (titles ms) passed passed passed
-      (none_folded nodes order asked passed clear room clear_room (child_at title (text k)) begun e none) (titles_folded begun e none ms)
+  titles_folded begun e none (member k d ms) = folded_append nodes asked (child_at member_name (text k) ∷ []) (titles ms) passed passed passed
+      (none_folded nodes order asked passed clear room clear_room (child_at member_name (text k)) begun e none) (titles_folded begun e none ms)
 
   -- one is judged with all that was asked of names, and maybe more
-  pub title_folded : (begun more child passed' s : List ℕ) → begun ≡ collect asked title 0 nodes clear → AreKept nodes begun more → AreJudged nodes (text s) more child → passed' ≡ fold (bit child) asked title 0 nodes passed
-      → AreFolded nodes asked (child_at title (text s) ∷ []) passed passed'
-  title_folded begun more child passed' s e kept judged is = one_folded nodes order asked passed clear room clear_room (child_at title (text s)) begun e child passed' (λ known table i lt on. judged known table i lt (kept i lt on)) is
+  pub title_folded : (begun more child passed' s : List ℕ) → begun ≡ collect asked member_name 0 nodes clear → AreKept nodes begun more → AreJudged nodes (text s) more child → passed' ≡ fold (bit child) asked member_name 0 nodes passed
+      → AreFolded nodes asked (child_at member_name (text s) ∷ []) passed passed'
+  title_folded begun more child passed' s e kept judged is = one_folded nodes order asked passed clear room clear_room (child_at member_name (text s)) begun e child passed' (λ known table i lt on. judged known table i lt (kept i lt on)) is
 
-pub title_next : (k : String Global) (s : List ℕ) (v : Tree) (es left : List (String Global × Tree)) → es ≡ (k, v) ∷ left → s ≡ string_bytes k → titles (members_view es) ≡ child_at title (text s) ∷ titles (members_view left)
-title_next k s v es left e f = ap (λ l. titles (members_view l)) e ∙ ap (λ n. child_at title (text n) ∷ titles (members_view left)) (sym f)
+pub title_next : (k : String Global) (s : List ℕ) (v : Tree) (es left : List (String Global × Tree)) → es ≡ (k, v) ∷ left → s ≡ string_bytes k → titles (members_view es) ≡ child_at member_name (text s) ∷ titles (members_view left)
+title_next k s v es left e f = ap (λ l. titles (members_view l)) e ∙ ap (λ n. child_at member_name (text n) ∷ titles (members_view left)) (sym f)
 
 -- what was asked is among what is asked once it is closed
 pub closed_keeps : (nodes : List Node) (asked asked' : List ℕ) → length nodes ≤ size asked → asked' ≡ close nodes (length nodes) asked → AreKept nodes asked asked'
@@ -142,7 +142,7 @@ closed_keeps nodes asked asked' len e i lt on = ap (λ bs. bit bs i) e ∙ close
 
 -- ---- one child, and what was asked of it
 
-module _ (nodes : List Node) (order : AreOrdered nodes) (asked clear : List ℕ) (clear_room : length nodes ≤ size clear) (p : Site) (begun : List ℕ) (begun_is : begun ≡ collect asked p 0 nodes clear) where
+module _ (nodes : List Node) (order : AreOrdered nodes) (asked clear : List ℕ) (clear_room : length nodes ≤ size clear) (p : PlaceInValue) (begun : List ℕ) (begun_is : begun ≡ collect asked p 0 nodes clear) where
   begun_in : (k j : ℕ) (x : Node) → node_get nodes k ≡ Some x → bit asked k ≡ true → In j (asked_below x p x.rules.items) → bit begun j ≡ true
   begun_in k j x at on at' =
       let z : k ≡ 0 + k = omega arith in
@@ -187,7 +187,7 @@ module _ (nodes : List Node) (order : AreOrdered nodes) (t : Doc) (asked passed 
     (len : length nodes ≤ size asked) (len-passed : length nodes ≤ size passed)
     (opened_asked : asked' ≡ close nodes (length nodes) asked) (opened_passed : passed' ≡ replicate (length passed) (2 ^ 64 - 1))
     (lowered : AreLowered nodes asked' t passed' passed'') (len' : length nodes ≤ size passed'')
-    (ends : result ≡ settle t asked' 0 nodes passed'') where
+    (ends : result ≡ conclude t asked' 0 nodes passed'') where
   pub judge_right : AreJudged nodes t asked result
   judge_right known table i lt on =
       let closed : (k : ℕ) → LeadsIn nodes asked' k = λ k. subst (λ bs. LeadsIn nodes bs k) (sym opened_asked) (close_leads nodes asked (falls nodes asked order len) k) in
@@ -197,5 +197,5 @@ module _ (nodes : List Node) (order : AreOrdered nodes) (t : Doc) (asked passed 
       lowered known table k x at at' ∙ ap (λ b. b && said known x t) (ap (λ bs. bit bs k) opened_passed ∙ all_in (length passed) k (omega (arith, less, len-passed))) in
       ap (λ bs. bit bs i) ends ∙ settled_is nodes known table order asked' closed t passed'' len' start i lt on'
 
-pub settle_len : (t : Doc) (asked : List ℕ) (nodes : List Node) (bs : List ℕ) → length (settle t asked 0 nodes bs) ≡ length bs
-settle_len t asked nodes bs = sweep_len (λ now x. rules_here (bit now) t x.rules.items) asked 0 nodes bs
+pub conclude_len : (t : Doc) (asked : List ℕ) (nodes : List Node) (bs : List ℕ) → length (conclude t asked 0 nodes bs) ≡ length bs
+conclude_len t asked nodes bs = sweep_len (λ now x. rules_here (bit now) t x.rules.items) asked 0 nodes bs

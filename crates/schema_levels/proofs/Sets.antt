@@ -1,7 +1,7 @@
 -- Sets of numbers and lists of nodes.
 use Rattle.std.proofs.Common.{◌≡◌, ℕ, zero, suc, ◌+◌, ◌-◌, ◌<◌, ◌≤◌, List, [], ◌∷◌, true, false, length, get_or, refl, sym, ap, ◌∙◌, if◌then◌else◌, arith}
 use Rattle.schema_levels.specs.Bits.{bit}
-use Rattle.schema_levels.specs.Close.{rules_at, mark_rules, close}
+use Rattle.schema_levels.specs.Closure.{rules_at, mark_rules, close}
 use Rattle.schema_levels.specs.declared.node.Node.{Node}
 
 pub rules_at_index : (nodes : List Node) (i : ℕ) (d : Node) → i < length nodes → rules_at nodes i ≡ (get_or nodes i d).rules.items

@@ -1,7 +1,7 @@
 -- Numbers that aren't in the set may be passed over.
 use Rattle.std.proofs.Common.{◌≡◌, ℕ, zero, suc, ◌+◌, ◌-◌, ◌<◌, ◌≤◌, ◌⊎◌, ⊎_elim, List, [], ◌∷◌, false, length, drop, drop-cons, get_or, refl, sym, ap, ◌∙◌, if◌then◌else◌, arith}
 use Rattle.schema_levels.specs.Bits.{bit}
-use Rattle.schema_levels.specs.Sweep.{walk}
+use Rattle.schema_levels.specs.EachInSet.{walk}
 use Rattle.schema_levels.specs.declared.node.Node.{Node}
 
 cases : (a b : ℕ) → (a < b) ⊎ (b ≤ a)

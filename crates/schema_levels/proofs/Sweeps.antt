@@ -2,15 +2,15 @@
 use Rattle.std.proofs.Common.{◌≡◌, ◌≢◌, ℕ, zero, suc, ◌+◌, ◌<◌, List, [], ◌∷◌, ◌++◌, map, Bool, true, false, ◌&&◌, length, Option, Some, None, refl, sym, ap, ap₂, subst, ◌∙◌, if◌then◌else◌, arith}
 use Rattle.std.specs.Option.{option_to_list}
 use Rattle.doc_tree.specs.Doc.{Doc}
-use Rattle.schema_levels.specs.Sites.{Site}
+use Rattle.schema_levels.specs.PlaceInValue.{PlaceInValue}
 use Rattle.schema_graph.specs.Walks.{In, first, later}
 use Rattle.schema_graph.proofs.Among.{In-left, In-right, none_in}
 use Rattle.schema_rules.specs.Rules.{every, some}
 use Rattle.schema_levels.specs.Bits.{bit, put, size}
-use Rattle.schema_levels.specs.Close.{here}
+use Rattle.schema_levels.specs.Closure.{here}
 use Rattle.schema_levels.specs.Below.{below, found_passes, rule_below, rules_below, mark_found, collect_rules, collect}
-use Rattle.schema_levels.specs.Settle.{rule_here, rules_here}
-use Rattle.schema_levels.specs.Sweep.{sweep}
+use Rattle.schema_levels.specs.Conclude.{rule_here, rules_here}
+use Rattle.schema_levels.specs.EachInSet.{sweep}
 use Rattle.schema_levels.specs.Nodes.{node_get, asked_here, asked_below}
 use Rattle.schema_levels.specs.declared.node.Node.{Node}
 use Rattle.schema_levels.specs.declared.node.Rule.{Rule}
@@ -73,7 +73,7 @@ found_in : (o : Option ℕ) (bs : List ℕ) (j : ℕ) → o ≡ Some j → j < s
 found_in None bs j e lt = absurd cc
 found_in (Some i) bs j e lt = let is : i ≡ j = cc in rw is (bit_same bs j true lt)
 
-module _ (x : Node) (p : Site) where
+module _ (x : Node) (p : PlaceInValue) where
   rules_len : (rs : List Rule) (bs : List ℕ) → length (collect_rules x p rs bs) ≡ length bs
   rules_len [] bs = refl
   rules_len (r ∷ rs) bs = rules_len rs (mark_found (below x r p) bs) ∙ found_len (below x r p) bs
@@ -92,7 +92,7 @@ module _ (x : Node) (p : Site) where
   rules_in [] bs j i lt = none_in j i
   rules_in (r ∷ rs) bs j i lt = found_or_later (below x r p) rs bs j (λ at. rules_in rs (mark_found (below x r p) bs) j at (rw (found_len (below x r p) bs) lt)) i lt
 
-module _ (asked : List ℕ) (p : Site) where
+module _ (asked : List ℕ) (p : PlaceInValue) where
   one_rules_len : (b : Bool) (x : Node) (bs : List ℕ) → length (if b then collect_rules x p x.rules.items bs else bs) ≡ length bs
   one_rules_len true x bs = rules_len x p x.rules.items bs
   one_rules_len false x bs = refl
@@ -158,7 +158,7 @@ found_agrees : (f g : ℕ → Bool) (o : Option ℕ) → ((j : ℕ) → In j (op
 found_agrees f g None h = refl
 found_agrees f g (Some j) h = h j first
 
-rule_below_agrees : (f g : ℕ → Bool) (x : Node) (p : Site) (r : Rule) → ((j : ℕ) → In j (option_to_list (below x r p)) → f j ≡ g j) → rule_below f x r p ≡ rule_below g x r p
+rule_below_agrees : (f g : ℕ → Bool) (x : Node) (p : PlaceInValue) (r : Rule) → ((j : ℕ) → In j (option_to_list (below x r p)) → f j ≡ g j) → rule_below f x r p ≡ rule_below g x r p
 rule_below_agrees f g x p (Says b) h = found_agrees f g (below x (Says b) p) h
 rule_below_agrees f g x p (Asserts a) h = found_agrees f g (below x (Asserts a) p) h
 rule_below_agrees f g x p (All v) h = found_agrees f g (below x (All v) p) h
@@ -177,6 +177,6 @@ rule_below_agrees f g x p (Contains j) h = refl
 rule_below_agrees f g x p (AtLeast j v) h = refl
 rule_below_agrees f g x p (AtMost j v) h = refl
 
-pub below_agrees : (f g : ℕ → Bool) (x : Node) (p : Site) (rs : List Rule) → ((j : ℕ) → In j (asked_below x p rs) → f j ≡ g j) → rules_below f x p rs ≡ rules_below g x p rs
+pub below_agrees : (f g : ℕ → Bool) (x : Node) (p : PlaceInValue) (rs : List Rule) → ((j : ℕ) → In j (asked_below x p rs) → f j ≡ g j) → rules_below f x p rs ≡ rules_below g x p rs
 below_agrees f g x p [] h = refl
 below_agrees f g x p (r ∷ rs) h = ap₂ (λ a b. a && b) (rule_below_agrees f g x p r (λ j i. h j (In-left j _ _ i))) (below_agrees f g x p rs (λ j i. h j (In-right j (option_to_list (below x r p)) _ i)))

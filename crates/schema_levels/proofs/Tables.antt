@@ -2,18 +2,18 @@
 use Rattle.std.proofs.Common.{◌≡◌, ◌≢◌, ℕ, zero, suc, ◌+◌, ◌==◌, ◌<◌, ◌≤◌, ⊎_elim, List, [], ◌∷◌, ◌++◌, map, Bool, true, false, not, ◌&&◌, length, Option, Some, None, refl, sym, ap, ap₂, subst, ◌∙◌, if◌then◌else◌, arith}
 use Rattle.doc_tree.specs.Doc.{Doc, null, boolean, int, text, list, object, Elements, no_elements, element}
 use Rattle.doc_tree.specs.Lists.{elements_list}
-use Rattle.doc_tree.specs.View.{view}
+use Rattle.doc_tree.specs.TreeView.{view}
 use Rattle.doc_tree.specs.declared.tree.Tree.{Tree}
 use Rattle.schema_rules.specs.Assertions.{at_least, at_most}
-use Rattle.schema_levels.specs.Sites.{Site, index}
+use Rattle.schema_levels.specs.PlaceInValue.{PlaceInValue, index}
 use Rattle.schema_levels.specs.Counters.{rule_says}
 use Rattle.schema_graph.specs.Walks.{In}
 use Rattle.schema_graph.proofs.Numbers.{same_or_not}
 use Rattle.schema_rules.specs.Rules.{every, some, how_many, where_true, where_false}
 use Rattle.schema_levels.specs.Bits.{bit, put, size}
-use Rattle.schema_levels.specs.Close.{here, rules_at}
+use Rattle.schema_levels.specs.Closure.{here, rules_at}
 use Rattle.schema_levels.specs.Below.{below, found_passes, rule_below, rules_below, collect, fold}
-use Rattle.schema_levels.specs.Settle.{rule_here, rules_here, settle}
+use Rattle.schema_levels.specs.Conclude.{rule_here, rules_here, conclude}
 use Rattle.schema_levels.specs.Nodes.{node_get, asked_here, AreOrdered}
 use Rattle.schema_levels.specs.Table.{Child, children, ask_found, ask_children, ask_here, joined_by, rule_of, told_by, rules_pass, node_passes, passes_at, IsTable, items_from, rules_lower, rules_together, lower, said}
 use Rattle.schema_levels.specs.declared.node.Node.{Node}
@@ -75,18 +75,18 @@ module _ (known : ℕ → Doc → Bool) (x : Node) where
   every_found None d rest = refl
   every_found (Some j) d rest = refl
 
-  every_lower : (r : Rule) → ((f : ℕ → Bool) (p : Site) → rule_below f x r p ≡ found_passes f (below x r p)) → (cs : List Child) → every (told_by known (ask_children x r cs)) ≡ rule_lower known x r cs
+  every_lower : (r : Rule) → ((f : ℕ → Bool) (p : PlaceInValue) → rule_below f x r p ≡ found_passes f (below x r p)) → (cs : List Child) → every (told_by known (ask_children x r cs)) ≡ rule_lower known x r cs
   every_lower r h [] = refl
   every_lower r h (c ∷ cs) =
       every_found (below x r c.place) c.value (ask_children x r cs) ∙ ap (λ b. found_passes (λ j. known j c.value) (below x r c.place) && b) (every_lower r h cs)
       ∙ ap (λ b. b && rule_lower known x r cs) (sym (h (λ j. known j c.value) c.place))
 
   -- a rule that speaks of the value itself alone
-  asks_none : (r : Rule) → ((p : Site) → below x r p ≡ None) → (cs : List Child) → ask_children x r cs ≡ []
+  asks_none : (r : Rule) → ((p : PlaceInValue) → below x r p ≡ None) → (cs : List Child) → ask_children x r cs ≡ []
   asks_none r h [] = refl
   asks_none r h (c ∷ cs) = ap (λ o. ask_found o c.value (ask_children x r cs)) (h c.place) ∙ asks_none r h cs
 
-  lower_true : (r : Rule) → ((f : ℕ → Bool) (p : Site) → rule_below f x r p ≡ true) → (cs : List Child) → rule_lower known x r cs ≡ true
+  lower_true : (r : Rule) → ((f : ℕ → Bool) (p : PlaceInValue) → rule_below f x r p ≡ true) → (cs : List Child) → rule_lower known x r cs ≡ true
   lower_true r h [] = refl
   lower_true r h (c ∷ cs) = ap (λ b. b && rule_lower known x r cs) (h (λ j. known j c.value) c.place) ∙ lower_true r h cs
 
@@ -95,7 +95,7 @@ module _ (known : ℕ → Doc → Bool) (x : Node) where
   told_items r j h n no_elements = refl
   told_items r j h n (element d ds) = ap (λ o. told_by known (ask_found o d (ask_children x r (items_from (suc n) ds)))) (h n) ∙ ap (λ bs. known j d ∷ bs) (told_items r j h (suc n) ds)
 
-  items_join : (r : Rule) (j : ℕ) (test : List Bool → Bool) → ((n : ℕ) → below x r (index n) ≡ Some j) → ((f : ℕ → Bool) (p : Site) → rule_below f x r p ≡ true) → (ds : Elements)
+  items_join : (r : Rule) (j : ℕ) (test : List Bool → Bool) → ((n : ℕ) → below x r (index n) ≡ Some j) → ((f : ℕ → Bool) (p : PlaceInValue) → rule_below f x r p ≡ true) → (ds : Elements)
       → test (told_by known (ask_children x r (items_from 0 ds))) ≡ (rule_lower known x r (items_from 0 ds) && test (map (known j) (elements_list ds)))
   items_join r j test h g ds = ap test (told_items r j h 0 ds) ∙ sym (ap (λ b. b && test (map (known j) (elements_list ds))) (lower_true r g (items_from 0 ds)))
 
@@ -152,10 +152,10 @@ module _ (known : ℕ → Doc → Bool) (x : Node) where
   at_most_join (object ms) j v = sym (ap (λ b. b && true) (lower_true (AtMost j v) (λ f p. refl) (children (object ms))))
 
   module _ (t : Doc) where
-    told_alone : (r : Rule) → ((p : Site) → below x r p ≡ None) → told_by known (ask_here (here r) t ++ ask_children x r (children t)) ≡ map (λ j. known j t) (here r)
+    told_alone : (r : Rule) → ((p : PlaceInValue) → below x r p ≡ None) → told_by known (ask_here (here r) t ++ ask_children x r (children t)) ≡ map (λ j. known j t) (here r)
     told_alone r h = ap (λ l. told_by known (ask_here (here r) t ++ l)) (asks_none r h (children t)) ∙ ap (told_by known) (append_nil (ask_here (here r) t)) ∙ told_here (here r) t
 
-    alone : (r : Rule) (b : Bool) → ((f : ℕ → Bool) (p : Site) → rule_below f x r p ≡ true) → b ≡ (b && rule_lower known x r (children t))
+    alone : (r : Rule) (b : Bool) → ((f : ℕ → Bool) (p : PlaceInValue) → rule_below f x r p ≡ true) → b ≡ (b && rule_lower known x r (children t))
     alone r b h = sym (ap (λ c. b && c) (lower_true r h (children t)) ∙ and_true b)
 
     -- a rule that doesn't speak of the elements together
@@ -238,7 +238,7 @@ module _ (nodes : List Node) (known : ℕ → Doc → Bool) (table : IsTable nod
     pub settle_right : (i : ℕ) (xs : List Node) (bs : List ℕ) → ((k : ℕ) (x : Node) → node_get xs k ≡ Some x → node_get nodes (i + k) ≡ Some x)
         → ((m : ℕ) → m < i → bit asked m ≡ true → bit bs m ≡ known m t)
         → ((k : ℕ) (x : Node) → node_get xs k ≡ Some x → bit asked (i + k) ≡ true → bit bs (i + k) ≡ said known x t)
-        → i + length xs ≤ size bs → (m : ℕ) → m < i + length xs → bit asked m ≡ true → bit (settle t asked i xs bs) m ≡ known m t
+        → i + length xs ≤ size bs → (m : ℕ) → m < i + length xs → bit asked m ≡ true → bit (conclude t asked i xs bs) m ≡ known m t
     settle_right i [] bs part done start len m lt on = done m (omega (arith, lt)) on
     settle_right i (y ∷ ys) bs part done start len m lt on =
         let says : List ℕ → Node → Bool = λ now x. rules_here (bit now) t x.rules.items in
@@ -263,7 +263,7 @@ module _ (nodes : List Node) (known : ℕ → Doc → Bool) (table : IsTable nod
         (let l = one_len says asked (bit asked i) i y bs in omega (arith, l, len)) m (omega (arith, lt)) on
 
     pub settled_is : (bs : List ℕ) → length nodes ≤ size bs → ((k : ℕ) (x : Node) → node_get nodes k ≡ Some x → bit asked k ≡ true → bit bs k ≡ said known x t)
-        → (m : ℕ) → m < length nodes → bit asked m ≡ true → bit (settle t asked 0 nodes bs) m ≡ known m t
+        → (m : ℕ) → m < length nodes → bit asked m ≡ true → bit (conclude t asked 0 nodes bs) m ≡ known m t
     settled_is bs len start m lt on =
         settle_right 0 nodes bs
         (λ k x e. let z : k ≡ 0 + k = omega arith in subst (λ n. node_get nodes n ≡ Some x) z e)

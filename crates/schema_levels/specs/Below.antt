@@ -6,19 +6,19 @@ use Rattle.std.specs.Cmp.Lexicographic.{slice_cmp}
 use Rattle.std.specs.Ordering.{nat_cmp}
 use Rattle.std.specs.Prelude.{string_bytes}
 use Rattle.std.specs.declared.alloc.Global.{Global}
-use Rattle.schema_levels.specs.Sites.{Site, name, index, title}
+use Rattle.schema_levels.specs.PlaceInValue.{PlaceInValue, name, index, member_name}
 use Rattle.schema_levels.specs.Bits.{put}
-use Rattle.schema_levels.specs.Sweep.{sweep, walk}
+use Rattle.schema_levels.specs.EachInSet.{sweep, walk}
 use Rattle.schema_levels.specs.declared.node.Node.{Node}
 use Rattle.schema_levels.specs.declared.node.Rule.{Rule}
 use Rattle.schema_levels.specs.declared.node.Rule.TheVariants.{Properties, Others, Names, ByPlace, Rest, Contains, AtLeast, AtMost}
-use Rattle.schema_levels.specs.declared.node.Spot.{Spot}
-use Rattle.schema_levels.specs.declared.node.Spot.TheVariants.{Name, Index, Title}
+use Rattle.schema_levels.specs.declared.node.ChildPlace.{ChildPlace}
+use Rattle.schema_levels.specs.declared.node.ChildPlace.TheVariants.{Name, Index, MemberName}
 
-abbrev pub seen : Spot → Site
+abbrev pub seen : ChildPlace → PlaceInValue
 seen (Name s) = name s.now
 seen (Index i) = index i
-seen Title = title
+seen MemberName = member_name
 
 -- the number at a name
 abbrev pub number_named : List ℕ → List (String Global × ℕ) → Option ℕ
@@ -33,15 +33,15 @@ unless true j = None
 unless false j = Some j
 
 -- of each element
-abbrev pub at_index : ℕ → Site → Option ℕ
+abbrev pub at_index : ℕ → PlaceInValue → Option ℕ
 at_index j (index n) = Some j
 at_index j _ = None
 
 -- the node that a rule asks of the child that stands there
-abbrev pub below : Node → Rule → Site → Option ℕ
+abbrev pub below : Node → Rule → PlaceInValue → Option ℕ
 below x Properties (name k) = number_named k x.named.entries
 below x (Others j) (name k) = unless (is_some (number_named k x.named.entries)) j
-below x (Names j) title = Some j
+below x (Names j) member_name = Some j
 below x (ByPlace v) (index n) = number_at v.items n
 below x (Rest j) (index n) = unless (nat_lt n x.prefix) j
 below x (Contains j) p = at_index j p
@@ -53,12 +53,12 @@ abbrev pub mark_found : Option ℕ → List ℕ → List ℕ
 mark_found None bs = bs
 mark_found (Some j) bs = put bs j true
 
-abbrev pub collect_rules : Node → Site → List Rule → List ℕ → List ℕ
+abbrev pub collect_rules : Node → PlaceInValue → List Rule → List ℕ → List ℕ
 collect_rules x p [] bs = bs
 collect_rules x p (r ∷ rs) bs = collect_rules x p rs (mark_found (below x r p) bs)
 
 -- what the nodes from the number i on ask, of those in the set
-abbrev pub collect : List ℕ → Site → ℕ → List Node → List ℕ → List ℕ
+abbrev pub collect : List ℕ → PlaceInValue → ℕ → List Node → List ℕ → List ℕ
 collect asked p i nodes bs = walk (λ n x now. collect_rules x p x.rules.items now) asked i nodes bs
 
 abbrev pub found_passes : (ℕ → Bool) → Option ℕ → Bool
@@ -66,15 +66,15 @@ found_passes known None = true
 found_passes known (Some j) = known j
 
 -- what a rule says of that child alone: one that speaks of the elements together says nothing
-abbrev pub rule_below : (ℕ → Bool) → Node → Rule → Site → Bool
+abbrev pub rule_below : (ℕ → Bool) → Node → Rule → PlaceInValue → Bool
 rule_below known x (Contains j) p = true
 rule_below known x (AtLeast j v) p = true
 rule_below known x (AtMost j v) p = true
 rule_below known x r p = found_passes known (below x r p)
 
-abbrev pub rules_below : (ℕ → Bool) → Node → Site → List Rule → Bool
+abbrev pub rules_below : (ℕ → Bool) → Node → PlaceInValue → List Rule → Bool
 rules_below known x p [] = true
 rules_below known x p (r ∷ rs) = rule_below known x r p && rules_below known x p rs
 
-abbrev pub fold : (ℕ → Bool) → List ℕ → Site → ℕ → List Node → List ℕ → List ℕ
+abbrev pub fold : (ℕ → Bool) → List ℕ → PlaceInValue → ℕ → List Node → List ℕ → List ℕ
 fold known asked p i nodes bs = sweep (λ _ x. rules_below known x p x.rules.items) asked i nodes bs

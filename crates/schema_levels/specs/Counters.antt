@@ -1,9 +1,9 @@
 -- Which nodes have their passing elements counted, by which counter, and what rules say of the counts.
 use Rattle.std.specs.Prelude.{◌≡◌, ⊤, ℕ, zero, suc, ◌+◌, ◌*◌, ◌-◌, ◌/◌, ◌%◌, ◌^◌, ◌<◌, ◌≤◌, List, [], ◌∷◌, Bool, true, false, ◌&&◌, ◌||◌, Option, Some, None, if◌then◌else◌, length, nat_eq, nat_lt, set, slice_get, slice_index_or}
-use Rattle.doc_tree.specs.View.{view}
+use Rattle.doc_tree.specs.TreeView.{view}
 use Rattle.schema_rules.specs.Assertions.{at_least, at_most}
 use Rattle.schema_levels.specs.Bits.{bit, size}
-use Rattle.schema_levels.specs.Sweep.{sweep}
+use Rattle.schema_levels.specs.EachInSet.{sweep}
 use Rattle.schema_levels.specs.declared.counters.Counters.{Counters}
 use Rattle.schema_levels.specs.declared.counters.TheConstants.{MOST_COUNTERS}
 use Rattle.schema_levels.specs.declared.node.Node.{Node}

@@ -3,7 +3,7 @@ use Rattle.std.specs.Prelude.{◌≡◌, ℕ, ◌<◌, List, length, Bool, true,
 use Rattle.doc_tree.specs.Doc.{Doc}
 use Rattle.schema_graph.specs.Walks.{In}
 use Rattle.schema_levels.specs.Bits.{bit}
-use Rattle.schema_levels.specs.Sites.{Site}
+use Rattle.schema_levels.specs.PlaceInValue.{PlaceInValue}
 use Rattle.schema_levels.specs.Nodes.{node_get, asked_below}
 use Rattle.schema_levels.specs.Table.{Child, IsTable, lower, said}
 use Rattle.schema_levels.specs.declared.node.Node.{Node}
@@ -25,10 +25,10 @@ abbrev pub AreLowered : List Node → List ℕ → Doc → List ℕ → List ℕ
 AreLowered nodes asked t old new = (known : ℕ → Doc → Bool) → IsTable nodes known → (k : ℕ) (x : Node) → node_get nodes k ≡ Some x → bit asked k ≡ true → bit new k ≡ (bit old k && said known x t)
 
 -- of each node that an asked one asks of a child it is told that it was asked, and whether the child passes
-abbrev pub AreTold : List Node → List ℕ → Site → Doc → List ℕ → List ℕ → Type 0
+abbrev pub AreTold : List Node → List ℕ → PlaceInValue → Doc → List ℕ → List ℕ → Type 0
 AreTold nodes asked p t child_asked child_passed = (known : ℕ → Doc → Bool) → IsTable nodes known → (k j : ℕ) (x : Node) → node_get nodes k ≡ Some x → bit asked k ≡ true → In j (asked_below x p x.rules.items)
     → (bit child_asked j ≡ true) × (bit child_passed j ≡ known j t)
 
 -- the asked nodes ask nothing of a child
-abbrev pub AskNothing : List Node → List ℕ → Site → Type 0
+abbrev pub AskNothing : List Node → List ℕ → PlaceInValue → Type 0
 AskNothing nodes asked p = (k j : ℕ) (x : Node) → node_get nodes k ≡ Some x → bit asked k ≡ true → In j (asked_below x p x.rules.items) → ⊥

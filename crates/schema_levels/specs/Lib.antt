@@ -1,9 +1,9 @@
 pub mod Bits
-pub mod Sites
+pub mod PlaceInValue
 pub mod Rules
-pub mod Close
-pub mod Sweep
-pub mod Settle
+pub mod Closure
+pub mod EachInSet
+pub mod Conclude
 pub mod Below
 pub mod Counters
 pub mod Nodes

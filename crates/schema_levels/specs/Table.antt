@@ -1,15 +1,15 @@
 -- What numbered nodes say of a value, where it is known what each says of each value.
 use Rattle.std.specs.Prelude.{◌≡◌, ◌==◌, ℕ, zero, suc, List, [], ◌∷◌, ◌++◌, map, Bool, true, not, ◌&&◌, Option, Some, None}
 use Rattle.doc_tree.specs.Doc.{Doc, text, list, object, Elements, no_elements, element, Members, no_members, member}
-use Rattle.schema_levels.specs.Sites.{Site, name, index, title}
+use Rattle.schema_levels.specs.PlaceInValue.{PlaceInValue, name, index, member_name}
 use Rattle.doc_tree.specs.Lists.{elements_list}
-use Rattle.doc_tree.specs.View.{view}
+use Rattle.doc_tree.specs.TreeView.{view}
 use Rattle.schema_rules.specs.Holds.{holds}
 use Rattle.schema_rules.specs.Assertions.{at_least, at_most, on_list}
 use Rattle.schema_rules.specs.Rules.{every, some, how_many, where_true, where_false}
 use Rattle.schema_levels.specs.Counters.{rules_say}
 use Rattle.schema_levels.specs.Rules as alone
-use Rattle.schema_levels.specs.Close.{here}
+use Rattle.schema_levels.specs.Closure.{here}
 use Rattle.schema_levels.specs.Below.{below, rules_below}
 use Rattle.schema_levels.specs.declared.node.Node.{Node}
 use Rattle.schema_levels.specs.declared.node.Rule.{Rule}
@@ -18,10 +18,10 @@ use Rattle.schema_levels.specs.declared.node.Rule.TheVariants.{Says, Asserts, An
 -- ---- children
 
 pub record Child : Type 0 where
-  pub place : Site
+  pub place : PlaceInValue
   pub value : Doc
 
-abbrev pub child_at : Site → Doc → Child
+abbrev pub child_at : PlaceInValue → Doc → Child
 child_at p d = record { place = p; value = d }
 
 -- elements, the first of which has the index n
@@ -36,7 +36,7 @@ members_each (member k d ms) = child_at (name k) d ∷ members_each ms
 -- the names of the members, as texts
 abbrev pub titles : Members → List Child
 titles no_members = []
-titles (member k d ms) = child_at title (text k) ∷ titles ms
+titles (member k d ms) = child_at member_name (text k) ∷ titles ms
 
 abbrev pub children : Doc → List Child
 children (list ds) = items_from 0 ds

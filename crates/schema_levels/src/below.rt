@@ -5,20 +5,20 @@ ghost use Rattle.schema_levels.specs.Bits.{bit, put};
 ghost use Rattle.schema_levels.specs.Below.{at_index, collect, collect_rules, fold, rule_below, rules_below, below, number_named, number_at, seen};
 
 use crate::bits::{bit, next, write};
-use crate::node::{Node, Rule, Spot};
+use crate::node::{ChildPlace, Node, Rule};
 use std::collections::BTreeMap;
 
 /// The node that a rule asks of the child, if any.
-pub fn below(node: &Node, rule: &Rule, spot: Spot<'_>) -> Option<usize>
+pub fn below(node: &Node, rule: &Rule, spot: ChildPlace<'_>) -> Option<usize>
     ensures { result ≡ below node.now rule.now (seen spot.entry) }
 {
     match rule {
         Rule::Properties => match spot {
-            Spot::Name(name) => number_named(&node.named, name),
+            ChildPlace::Name(name) => number_named(&node.named, name),
             _ => None,
         },
         Rule::Others(number) => match spot {
-            Spot::Name(name) => if number_named(&node.named, name).is_some() {
+            ChildPlace::Name(name) => if number_named(&node.named, name).is_some() {
                 None
             } else {
                 Some(*number)
@@ -26,15 +26,15 @@ pub fn below(node: &Node, rule: &Rule, spot: Spot<'_>) -> Option<usize>
             _ => None,
         },
         Rule::Names(number) => match spot {
-            Spot::Title => Some(*number),
+            ChildPlace::MemberName => Some(*number),
             _ => None,
         },
         Rule::ByPlace(numbers) => match spot {
-            Spot::Index(index) => number_at(numbers, index),
+            ChildPlace::Index(index) => number_at(numbers, index),
             _ => None,
         },
         Rule::Rest(number) => match spot {
-            Spot::Index(index) => if index < node.prefix {
+            ChildPlace::Index(index) => if index < node.prefix {
                 None
             } else {
                 Some(*number)
@@ -48,11 +48,11 @@ pub fn below(node: &Node, rule: &Rule, spot: Spot<'_>) -> Option<usize>
     }
 }
 
-fn at_index(number: usize, spot: Spot<'_>) -> Option<usize>
+fn at_index(number: usize, spot: ChildPlace<'_>) -> Option<usize>
     ensures { result ≡ at_index number (seen spot.entry) }
 {
     match spot {
-        Spot::Index(_) => Some(number),
+        ChildPlace::Index(_) => Some(number),
         _ => None,
     }
 }
@@ -76,7 +76,12 @@ fn number_named(named: &BTreeMap<String, usize>, name: &str) -> Option<usize>
 }
 
 // Adds the nodes that the asked ones ask of the child, and answers whether they ask any.
-pub(crate) fn collect(nodes: &[Node], asked: &[u64], spot: Spot<'_>, found: &mut [u64]) -> bool
+pub(crate) fn collect(
+    nodes: &[Node],
+    asked: &[u64],
+    spot: ChildPlace<'_>,
+    found: &mut [u64],
+) -> bool
     requires { length asked.now < 2 ^ 32 }
     ensures found { found.new ≡ collect asked.now (seen spot.entry) 0 nodes.now found.old }
     ensures none { result ≡ false → found.new ≡ found.old }
@@ -90,14 +95,20 @@ pub(crate) fn collect(nodes: &[Node], asked: &[u64], spot: Spot<'_>, found: &mut
     asks
 }
 
-fn collect_one(node: &Node, number: usize, asked: &[u64], spot: Spot<'_>, found: &mut [u64]) -> bool
+fn collect_one(
+    node: &Node,
+    number: usize,
+    asked: &[u64],
+    spot: ChildPlace<'_>,
+    found: &mut [u64],
+) -> bool
     ensures found { found.new ≡ (if bit asked.now number then collect_rules node.now (seen spot.entry) node.now.rules.items found.old else found.old) }
     ensures none { result ≡ false → found.new ≡ found.old }
 {
     bit(asked, number) && collect_rules(node, spot, found)
 }
 
-fn collect_rules(node: &Node, spot: Spot<'_>, found: &mut [u64]) -> bool
+fn collect_rules(node: &Node, spot: ChildPlace<'_>, found: &mut [u64]) -> bool
     ensures found { found.new ≡ collect_rules node.now (seen spot.entry) node.now.rules.items found.old }
     ensures none { result ≡ false → found.new ≡ found.old }
 {
@@ -112,7 +123,13 @@ fn collect_rules(node: &Node, spot: Spot<'_>, found: &mut [u64]) -> bool
 }
 
 // Joins the child's answers to those of the asked nodes.
-pub(crate) fn fold(nodes: &[Node], asked: &[u64], spot: Spot<'_>, child: &[u64], passed: &mut [u64])
+pub(crate) fn fold(
+    nodes: &[Node],
+    asked: &[u64],
+    spot: ChildPlace<'_>,
+    child: &[u64],
+    passed: &mut [u64],
+)
     requires { length asked.now < 2 ^ 32 }
     ensures { passed.new ≡ fold (bit child.now) asked.now (seen spot.entry) 0 nodes.now passed.old }
 {
@@ -127,7 +144,7 @@ fn fold_one(
     node: &Node,
     number: usize,
     asked: &[u64],
-    spot: Spot<'_>,
+    spot: ChildPlace<'_>,
     child: &[u64],
     passed: &mut [u64],
 )
@@ -141,7 +158,7 @@ fn fold_one(
     }
 }
 
-fn rules_below(node: &Node, spot: Spot<'_>, child: &[u64]) -> bool
+fn rules_below(node: &Node, spot: ChildPlace<'_>, child: &[u64]) -> bool
     ensures { result ≡ rules_below (bit child.now) node.now (seen spot.entry) node.now.rules.items }
 {
     for rule in &node.rules {
@@ -153,7 +170,7 @@ fn rules_below(node: &Node, spot: Spot<'_>, child: &[u64]) -> bool
 }
 
 // What a rule says of the child alone.
-fn rule_below(node: &Node, rule: &Rule, spot: Spot<'_>, child: &[u64]) -> bool
+fn rule_below(node: &Node, rule: &Rule, spot: ChildPlace<'_>, child: &[u64]) -> bool
     ensures { result ≡ rule_below (bit child.now) node.now rule.now (seen spot.entry) }
 {
     match rule {

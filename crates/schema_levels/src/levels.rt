@@ -2,7 +2,7 @@
 //! free; where too few are, it opens a block of its own.
 ghost use Rattle.std.specs.Prelude.{◌≡◌, ◌+◌, ◌*◌, ◌<◌, ◌≤◌, ◌^◌, [], ◌∷◌, true, false, length, nat_lt, replicate};
 ghost use Rattle.doc_tree.specs.Doc.{list, object};
-ghost use Rattle.doc_tree.specs.View.{view, elements_view, members_view};
+ghost use Rattle.doc_tree.specs.TreeView.{view, elements_view, members_view};
 ghost use Rattle.schema_rules.specs.Instances.{seen};
 ghost use Rattle.schema_levels.specs.Below.{seen as place};
 ghost use Rattle.schema_levels.specs.Counters.{AreCounted, most, width};
@@ -12,12 +12,12 @@ ghost use Rattle.schema_levels.specs.Table.{child_at, members_each};
 
 use crate::below::{collect, fold};
 use crate::bits::fill;
-use crate::close::close;
+use crate::closure::close;
+use crate::conclude::conclude;
 use crate::counters::Counters;
 use crate::counts::{tally, weigh, width};
 use crate::named::{fold_names, judge_name};
-use crate::node::{Node, Spot};
-use crate::settle::settle;
+use crate::node::{ChildPlace, Node};
 use doc_tree::Tree;
 use schema_rules::Instance;
 use std::collections::BTreeMap;
@@ -71,7 +71,7 @@ fn judge(
     close(nodes, asked);
     fill(passed, u64::MAX);
     lower(nodes, counters, instance, asked, passed, free);
-    settle(nodes, Instance::Value(instance), asked, passed);
+    conclude(nodes, Instance::Value(instance), asked, passed);
 }
 
 // Judges the children, and joins what is said of them to the answers of the asked nodes.
@@ -231,7 +231,7 @@ fn fold_each_item(
             nodes,
             counters,
             item,
-            Spot::Index(index),
+            ChildPlace::Index(index),
             asked,
             below_asked,
             below_passed,
@@ -326,7 +326,7 @@ fn fold_each_member(
             nodes,
             counters,
             member,
-            Spot::Name(name.as_str()),
+            ChildPlace::Name(name.as_str()),
             asked,
             below_asked,
             below_passed,
@@ -344,7 +344,7 @@ fn fold_child(
     nodes: &[Node],
     counters: &Counters,
     child: &Tree,
-    spot: Spot<'_>,
+    spot: ChildPlace<'_>,
     asked: &[u64],
     below_asked: &mut [u64],
     below_passed: &mut [u64],

@@ -4,16 +4,16 @@
 
 pub mod below;
 pub mod bits;
-mod close;
+mod closure;
+pub mod conclude;
 mod counters;
 mod counts;
 mod levels;
 mod named;
 mod node;
 mod run;
-pub mod settle;
 
 pub use counters::{Counters, counters_of};
 pub use levels::judge_instance;
-pub use node::{Node, Rule, Spot};
+pub use node::{ChildPlace, Node, Rule};
 pub use run::{MOST_WORDS, passes};

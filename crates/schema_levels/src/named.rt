@@ -1,6 +1,6 @@
 //! Judging the names of members, which have no children.
 ghost use Rattle.std.specs.Prelude.{◌≡◌, ◌*◌, ◌≤◌, length, replicate};
-ghost use Rattle.doc_tree.specs.View.{members_view};
+ghost use Rattle.doc_tree.specs.TreeView.{members_view};
 ghost use Rattle.doc_tree.specs.Doc.{text};
 ghost use Rattle.schema_levels.specs.Levels.{AreFolded, AreJudged, AreKept};
 ghost use Rattle.schema_levels.specs.Nodes.{AreOrdered};
@@ -8,9 +8,9 @@ ghost use Rattle.schema_levels.specs.Table.{titles};
 
 use crate::below::{collect, fold};
 use crate::bits::fill;
-use crate::close::close;
-use crate::node::{Node, Spot};
-use crate::settle::settle;
+use crate::closure::close;
+use crate::conclude::conclude;
+use crate::node::{ChildPlace, Node};
 use doc_tree::Tree;
 use schema_rules::Instance;
 use std::collections::BTreeMap;
@@ -26,7 +26,7 @@ pub(crate) fn judge_name(nodes: &[Node], name: &str, asked: &mut [u64], passed: 
 {
     close(nodes, asked);
     fill(passed, u64::MAX);
-    settle(nodes, Instance::Name(name), asked, passed);
+    conclude(nodes, Instance::Name(name), asked, passed);
 }
 
 /// Judges the name of each member, where anything is asked of names, and joins what is said of it. Two sets are needed.
@@ -68,11 +68,11 @@ fn fold_each_name(
     requires below_len { length below_passed.old ≡ length asked.now }
     ensures folded { AreFolded nodes.now asked.now (titles (members_view members.now.entries)) passed.old passed.new }
 {
-    if !collect(nodes, asked, Spot::Title, below_asked) {
+    if !collect(nodes, asked, ChildPlace::MemberName, below_asked) {
         return;
     }
     for (name, _) in members.iter() {
         judge_name(nodes, name.as_str(), below_asked, below_passed);
-        fold(nodes, asked, Spot::Title, below_passed, passed);
+        fold(nodes, asked, ChildPlace::MemberName, below_passed, passed);
     }
 }

@@ -3,14 +3,14 @@ use Rattle.std.proofs.Common.{◌≡◌, ℕ, suc, ◌+◌, ◌≤◌, List, [],
 use Rattle.std.specs.Prelude.{pos}
 use Rattle.std.proofs.lemmas.Bool.{le-leb}
 use Rattle.doc_tree.specs.Doc.{Doc, null, boolean, int, text, list, object, Elements, no_elements, element, Members, get_member}
-use Rattle.doc_tree.specs.View.{view}
+use Rattle.doc_tree.specs.TreeView.{view}
 use Rattle.doc_tree.specs.declared.tree.Tree.{Tree}
 use Rattle.schema_rules.specs.Assertions.{at_least, at_most, on_list}
 use Rattle.schema_rules.specs.Parts.{elements_in}
 use Rattle.schema_rules.specs.Rules.{ask, of_each, of_contained, with_schema, or_one, some, how_many}
 use Rattle.schema_rules.specs.declared.keyword.Keyword.TheVariants.{Contains as contains_keyword, MaxContains as max_keyword}
 use Rattle.schema_levels.specs.Below.{below}
-use Rattle.schema_levels.specs.Sites.{name, index, title}
+use Rattle.schema_levels.specs.PlaceInValue.{name, index, member_name}
 use Rattle.schema_levels.specs.Table.{children, items_from, ask_children, ask_found}
 use Rattle.schema_levels.specs.declared.node.Node.{Node}
 use Rattle.schema_levels.specs.declared.node.Rule.{Rule}
@@ -20,7 +20,7 @@ use Rattle.schema_nodes.specs.Rules.{schemas_asked}
 use Rattle.schema_nodes.proofs.RuleKinds.{in_place, no_named, of_members}
 
 -- each element is asked
-module _ (schema : ℕ → Doc) (x : Node) (r : Rule) (j : ℕ) (each : (n : ℕ) → below x r (index n) ≡ Some j) (no_name : (k : List ℕ) → below x r (name k) ≡ None) (no_title : below x r title ≡ None) where
+module _ (schema : ℕ → Doc) (x : Node) (r : Rule) (j : ℕ) (each : (n : ℕ) → below x r (index n) ≡ Some j) (no_name : (k : List ℕ) → below x r (name k) ≡ None) (no_title : below x r member_name ≡ None) where
   each_from : (n : ℕ) (ts : Elements) → schemas_asked schema (ask_children x r (items_from n ts)) ≡ of_each (schema j) ts
   each_from n no_elements = refl
   each_from n (element t ts) = ap (λ o. schemas_asked schema (ask_found o t (ask_children x r (items_from (suc n) ts)))) (each n) ∙ ap (λ l. ask (schema j) t ∷ l) (each_from (suc n) ts)

@@ -6,7 +6,7 @@ use Rattle.schema_graph.specs.Orders.{IsOrder}
 use Rattle.schema_graph.specs.declared.walk.Order.{Order}
 use Rattle.doc_tree.specs.Doc.{Doc, null, boolean, Members, no_members, member}
 use Rattle.doc_tree.specs.Lists.{elements_list}
-use Rattle.doc_tree.specs.View.{view}
+use Rattle.doc_tree.specs.TreeView.{view}
 use Rattle.schema_graph.specs.Numbered.{Graph, row_at, IsClosed, IsCyclic, numbers_of}
 use Rattle.schema_graph.specs.Walks.{In, first, later, Walk, IsLooped}
 use Rattle.schema_graph.proofs.Among.{In-left, In-right, In-parts, none_in}

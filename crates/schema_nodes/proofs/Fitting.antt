@@ -7,7 +7,7 @@ use Rattle.std.specs.Option.{option_and_then}
 use Rattle.std.specs.Str.{bytes_eq}
 use Rattle.doc_tree.specs.Doc.{Doc, null, boolean, int, text, list, object, Members, no_members, member, get_member}
 use Rattle.doc_tree.specs.Sound.{IsBefore}
-use Rattle.doc_tree.specs.View.{members_view}
+use Rattle.doc_tree.specs.TreeView.{members_view}
 use Rattle.doc_tree.specs.declared.tree.Tree.{Tree}
 use Rattle.schema_rules.specs.Keywords.{keyword_of, shape_of}
 use Rattle.schema_rules.specs.Parts.{members_in, beside, or_null}
@@ -30,7 +30,7 @@ use Rattle.schema_levels.specs.declared.node.Rule.{Rule}
 use Rattle.schema_levels.specs.declared.node.Rule.TheVariants.{Asserts, Then, Else}
 use Rattle.schema_nodes.specs.declared.rules.Targets.{Targets}
 use Rattle.schema_nodes.specs.Nodes.{Suits, IsRule, IsNodeFor, Finds, HaveRows}
-use Rattle.schema_nodes.specs.Fits.{AreTargets, IsBuilt, number_by, if_found, target_number, first_of, IsReference, IsChoice, IsCount, IsLimit, IsAlone, Around, Fits, around, AreFitting, AsMany, AreSorted}
+use Rattle.schema_nodes.specs.Fits.{AreTargets, IsBuilt, number_by, if_found, target_number, first_of, IsReference, IsChoice, IsCount, IsLimit, AsksNoSchema, Around, Fits, around, AreFitting, AsMany, AreSorted}
 use Rattle.schema_nodes.proofs.Conditions.{contains_held, if_held, single_is}
 use Rattle.schema_nodes.proofs.RuleKinds.{is_all, is_any, is_one, is_not, is_then, is_no_then, is_else, is_no_else, is_reference, is_no_reference, is_assertion, is_nothing, is_properties, is_others, is_names, is_by_place, is_rest}
 use Rattle.schema_nodes.proofs.Counting.{is_contains, is_at_least, is_at_most, is_no_limit}
@@ -128,7 +128,7 @@ first_is schema (j ∷ row) d e = cc
 
 -- ---- a keyword that asks no schema
 
-pub fits_alone : (ts : Targets) (ranks : List ℕ) (root : Doc) (near : Around) (k : Keyword) (v : Doc) (row : List ℕ) (r : Rule) → AsksNone k → IsAlone k v r → Fits ts ranks root near k v row r
+pub fits_alone : (ts : Targets) (ranks : List ℕ) (root : Doc) (near : Around) (k : Keyword) (v : Doc) (row : List ℕ) (r : Rule) → AsksNone k → AsksNoSchema k v r → Fits ts ranks root near k v row r
 fits_alone ts ranks root near keywords.Properties v row r none h = absurd (none.not_properties refl)
 fits_alone ts ranks root near keywords.AdditionalProperties v row r none h = absurd (none.not_additional_properties refl)
 fits_alone ts ranks root near keywords.PropertyNames v row r none h = absurd (none.not_property_names refl)
@@ -155,7 +155,7 @@ pub record Asserting (k : Keyword) : Type 0 where
   pub not_left_out : k ≡ keywords.LeftOut → ⊥
   pub not_unknown : k ≡ keywords.Unknown → ⊥
 
-pub asserts_alone : (k : Keyword) (v : Doc) (r : Rule) → Asserting k → (a : Assertion) → r ≡ Asserts a → ((t : Doc) → holds a t ≡ asserts k v t) → IsAlone k v r
+pub asserts_alone : (k : Keyword) (v : Doc) (r : Rule) → Asserting k → (a : Assertion) → r ≡ Asserts a → ((t : Doc) → holds a t ≡ asserts k v t) → AsksNoSchema k v r
 asserts_alone keywords.MinContains v r is a e h = absurd (is.not_min_contains refl)
 asserts_alone keywords.If v r is a e h = absurd (is.not_if refl)
 asserts_alone keywords.Defs v r is a e h = absurd (is.not_defs refl)

@@ -2,7 +2,7 @@
 use Rattle.std.proofs.Common.{◌≡◌, ℕ, zero, suc, List, [], ◌∷◌, ◌++◌, length, get_or, drop, drop-cons, arith, ◌<◌, ◌+◌, Option, Some, Vec, Global, refl, sym, ap, subst, ◌∙◌, append_assoc, append-nil, length-append, Bor}
 use Rattle.std.specs.Prelude.{IfOk, Result, Ok, Err}
 use Rattle.doc_tree.specs.Doc.{Doc, null, boolean, int, text, list, object, element, Members, no_members, member}
-use Rattle.doc_tree.specs.View.{view, elements_view}
+use Rattle.doc_tree.specs.TreeView.{view, elements_view}
 use Rattle.doc_tree.specs.declared.tree.Tree.{Tree}
 use Rattle.schema_graph.specs.Walks.{In, first, later}
 use Rattle.schema_graph.proofs.Among.{In-left, In-right}

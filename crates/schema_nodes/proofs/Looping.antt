@@ -3,7 +3,7 @@ use Rattle.std.proofs.Common.{◌≡◌, ℕ, zero, suc, ◌<◌, ⊎_elim, List
 use Rattle.std.specs.Option.{option_to_list}
 use Rattle.doc_tree.specs.Doc.{Doc, null, boolean, int, text, list, object, Elements, no_elements, element, Members, no_members, member}
 use Rattle.doc_tree.specs.Lists.{elements_list, values_list}
-use Rattle.doc_tree.specs.View.{view}
+use Rattle.doc_tree.specs.TreeView.{view}
 use Rattle.schema_graph.specs.Numbered.{Graph, row_at, IsCyclic, numbers_of}
 use Rattle.schema_graph.specs.Walks.{In, first, later, Walk, IsLooped}
 use Rattle.schema_graph.proofs.Among.{In-left, In-right, In-parts, none_in}

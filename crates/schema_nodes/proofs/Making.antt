@@ -2,7 +2,7 @@
 use Rattle.std.proofs.Common.{◌≡◌, ℕ, zero, suc, ◌<◌, ◌⊎◌, inl, inr, List, [], ◌∷◌, ◌++◌, length, true, Option, Some, None, Vec, Global, refl, sym, ap, subst, ◌∙◌, append-nil, append_assoc, arith, slice_get, get_or}
 use Rattle.std.specs.Option.{option_and_then}
 use Rattle.doc_tree.specs.Doc.{Doc, boolean}
-use Rattle.doc_tree.specs.View.{view}
+use Rattle.doc_tree.specs.TreeView.{view}
 use Rattle.schema_graph.specs.Orders.{at, IsOrder}
 use Rattle.schema_graph.specs.Walks.{In}
 use Rattle.schema_rules.specs.Parts.{members_in}

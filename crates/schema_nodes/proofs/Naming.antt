@@ -9,7 +9,7 @@ use Rattle.std.specs.Ordering.{match_ordering}
 use Rattle.std.specs.Str.{bytes_eq}
 use Rattle.doc_tree.specs.Doc.{Doc, Members, no_members, member, get_member, put}
 use Rattle.doc_tree.specs.Lists.{values_list}
-use Rattle.doc_tree.specs.View.{view, members_view, members_of}
+use Rattle.doc_tree.specs.TreeView.{view, members_view, members_of}
 use Rattle.doc_tree.proofs.Members.{get_member-first, get_member-later}
 use Rattle.doc_tree.proofs.Views.{Entry, put_last}
 use Rattle.schema_rules.specs.Keywords.{keyword_of, shape_of}

@@ -3,8 +3,8 @@ use Rattle.std.proofs.Common.{◌≡◌, ℕ, zero, suc, ◌<◌, ◌⊎◌, inl
 use Rattle.std.specs.Option.{option_and_then, option_to_list}
 use Rattle.std.specs.Prelude.{nat_lt, codes}
 use Rattle.doc_tree.specs.Doc.{Doc, null, boolean, int, text, list, object, Members, no_members, member, get_member}
-use Rattle.schema_levels.specs.Sites.{Site, name, index, title}
-use Rattle.doc_tree.specs.View.{view}
+use Rattle.schema_levels.specs.PlaceInValue.{PlaceInValue, name, index, member_name}
+use Rattle.doc_tree.specs.TreeView.{view}
 use Rattle.schema_graph.specs.Numbered.{row_at}
 use Rattle.schema_graph.specs.Orders.{at, IsOrder}
 use Rattle.schema_graph.specs.Walks.{In, first, later}
@@ -15,7 +15,7 @@ use Rattle.schema_rules.specs.Schemas.{held_in}
 use Rattle.schema_rules.specs.declared.keyword.Keyword.{Keyword}
 use Rattle.schema_rules.specs.declared.keyword.Keyword.TheVariants as keywords
 use Rattle.schema_levels.specs.Below.{below, number_named, unless}
-use Rattle.schema_levels.specs.Close.{here}
+use Rattle.schema_levels.specs.Closure.{here}
 use Rattle.schema_levels.specs.Nodes.{AreOrdered, asked_here, asked_below}
 use Rattle.schema_levels.specs.declared.node.Node.{Node}
 use Rattle.schema_levels.specs.declared.node.Rule.{Rule}
@@ -58,10 +58,10 @@ from_unless : (b : Bool) (j k n : ℕ) → unless b j ≡ Some k → j < n → k
 from_unless true j k n e lt = absurd cc
 from_unless false j k n e lt = let same : j ≡ k = cc in omega (arith, same, lt)
 
-below_is : (x : Node) (r : Rule) (p : Site) (j n : ℕ) → below x r p ≡ Some j → AllBelow (children_of r) n → NamedBelow x n → j < n
+below_is : (x : Node) (r : Rule) (p : PlaceInValue) (j n : ℕ) → below x r p ≡ Some j → AllBelow (children_of r) n → NamedBelow x n → j < n
 below_is x Properties (name k) j n e h named = named k j e
 below_is x (Others i) (name k) j n e h named = from_unless (is_some (number_named k x.named.entries)) i j n e (h i first)
-below_is x (Names i) title j n e h named = let same : i ≡ j = cc in h j (subst (λ y. In j (y ∷ [])) (sym same) first)
+below_is x (Names i) member_name j n e h named = let same : i ≡ j = cc in h j (subst (λ y. In j (y ∷ [])) (sym same) first)
 below_is x (ByPlace v) (index m) j n e h named = h j (got v.items m j e)
 below_is x (Rest i) (index m) j n e h named = from_unless (nat_lt m x.prefix) i j n e (h i first)
 below_is x (Contains i) (index m) j n e h named = let same : i ≡ j = cc in h j (subst (λ y. In j (y ∷ [])) (sym same) first)
@@ -225,7 +225,7 @@ module _ (ts : Targets) (ranks : List ℕ) (root : Doc) (near : Around) (at' : �
   here_of no_members [] [] (r ∷ rs) h m f j i = absurd f
   here_of (member k v ms) (row ∷ rows) (js ∷ moved) [] h m f j i = none_in j i
 
-  pub below_of : (x : Node) → NamedBelow x n → (p : Site) (ms : Members) (rows moved : List (Vec ℕ Global)) (rs : List Rule) → AreRows at' ms rows → AreMoved ranks rows moved → AreFitting ts ranks root near ms moved rs
+  pub below_of : (x : Node) → NamedBelow x n → (p : PlaceInValue) (ms : Members) (rows moved : List (Vec ℕ Global)) (rs : List Rule) → AreRows at' ms rows → AreMoved ranks rows moved → AreFitting ts ranks root near ms moved rs
       → (j : ℕ) → In j (asked_below x p rs) → j < n
   below_of x named p no_members [] [] [] h m f j i = none_in j i
   below_of x named p (member k v ms) (row ∷ rows) (js ∷ moved) (r ∷ rs) h m f j i =
@@ -290,7 +290,7 @@ module _ (ts : Targets) (root : Doc) (es : List Entry) (g : List (Vec ℕ Global
   built_falls n e rows x (text s) at_n is h m built j i = none_in j (subst (λ rs. In j (asked_here rs)) built i)
   built_falls n e rows x (list ds) at_n is h m built j i = none_in j (subst (λ rs. In j (asked_here rs)) built i)
 
-  built_among : (rows moved : List (Vec ℕ Global)) (x : Node) (p : Site) (d : Doc) → AreRows (doc_at es) (members_in d) rows → AreMoved ranks rows moved → IsBuilt ts ranks root moved x d
+  built_among : (rows moved : List (Vec ℕ Global)) (x : Node) (p : PlaceInValue) (d : Doc) → AreRows (doc_at es) (members_in d) rows → AreMoved ranks rows moved → IsBuilt ts ranks root moved x d
       → (j : ℕ) → In j (asked_below x p x.rules.items) → j < length places
   built_among rows moved x p (object ms) h m b j i =
       below_of ts ranks root (around ms moved) (doc_at es) (length places) bound (contained_below ms rows moved h m) x (named_below ts ranks root places es back ms rows moved x h m b) p ms rows moved x.rules.items h m b.fits j i

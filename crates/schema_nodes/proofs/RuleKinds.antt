@@ -2,9 +2,9 @@
 use Rattle.std.proofs.Common.{◌≡◌, ℕ, zero, suc, ◌+◌, ◌-◌, ◌<◌, ◌≤◌, List, [], ◌∷◌, ◌++◌, map, length, Bool, true, false, is_some, Option, Some, None, option_map, refl, sym, ap, ap₂, subst, ◌∙◌, arith, if◌then◌else◌, codes, append-nil, slice_get, Vec, Global}
 use Rattle.std.specs.Prelude.{nat_lt}
 use Rattle.doc_tree.specs.Doc.{Doc, null, boolean, int, text, list, object, Elements, no_elements, element, Members, no_members, member, get_member}
-use Rattle.schema_levels.specs.Sites.{name, index, title}
+use Rattle.schema_levels.specs.PlaceInValue.{name, index, member_name}
 use Rattle.doc_tree.specs.Lists.{elements_list}
-use Rattle.doc_tree.specs.View.{view}
+use Rattle.doc_tree.specs.TreeView.{view}
 use Rattle.schema_rules.specs.Holds.{holds}
 use Rattle.schema_rules.specs.Assertions.{asserts}
 use Rattle.schema_rules.specs.Parts.{elements_in, members_in, beside, after}
@@ -16,7 +16,7 @@ use Rattle.schema_rules.specs.declared.keyword.Keyword.TheVariants.{Properties a
 use Rattle.schema_rules.proofs.Others.{AsksNone, asks-none, joins-none}
 use Rattle.schema_nodes.specs.Rules.{schemas_asked}
 use Rattle.schema_levels.specs.Below.{below, number_named, unless}
-use Rattle.schema_levels.specs.Close.{here}
+use Rattle.schema_levels.specs.Closure.{here}
 use Rattle.schema_levels.specs.Table.{Child, children, items_from, members_each, titles, ask_children, ask_found, ask_here, rule_of}
 use Rattle.schema_levels.specs.declared.node.Node.{Node}
 use Rattle.schema_levels.specs.declared.node.Rule.{Rule}
@@ -63,19 +63,19 @@ children_append : (x : Node) (r : Rule) (cs ds : List Child) → ask_children x 
 children_append x r [] ds = refl
 children_append x r (c ∷ cs) ds = ap (ask_found (below x r c.place) c.value) (children_append x r cs ds) ∙ found_append (below x r c.place) c.value (ask_children x r cs) (ask_children x r ds)
 
-no_titles : (x : Node) (r : Rule) → below x r title ≡ None → (ts : Members) → ask_children x r (titles ts) ≡ []
+no_titles : (x : Node) (r : Rule) → below x r member_name ≡ None → (ts : Members) → ask_children x r (titles ts) ≡ []
 no_titles x r h no_members = refl
 no_titles x r h (member k t ts) = rw h (no_titles x r h ts)
 
 -- of members alone, not of their names
-pub of_members : (x : Node) (r : Rule) → below x r title ≡ None → (ts : Members) → ask_children x r (members_each ts ++ titles ts) ≡ ask_children x r (members_each ts)
+pub of_members : (x : Node) (r : Rule) → below x r member_name ≡ None → (ts : Members) → ask_children x r (members_each ts ++ titles ts) ≡ ask_children x r (members_each ts)
 of_members x r h ts = children_append x r (members_each ts) (titles ts) ∙ ap (λ l. ask_children x r (members_each ts) ++ l) (no_titles x r h ts) ∙ append-nil (ask_children x r (members_each ts))
 
 -- of their names alone
 of_titles : (x : Node) (r : Rule) → ((k : List ℕ) → below x r (name k) ≡ None) → (ts : Members) → ask_children x r (members_each ts ++ titles ts) ≡ ask_children x r (titles ts)
 of_titles x r h ts = children_append x r (members_each ts) (titles ts) ∙ ap (λ l. l ++ ask_children x r (titles ts)) (no_named x r h ts)
 
-no_children : (x : Node) (r : Rule) → ((n : ℕ) → below x r (index n) ≡ None) → ((k : List ℕ) → below x r (name k) ≡ None) → below x r title ≡ None → (t : Doc) → ask_children x r (children t) ≡ []
+no_children : (x : Node) (r : Rule) → ((n : ℕ) → below x r (index n) ≡ None) → ((k : List ℕ) → below x r (name k) ≡ None) → below x r member_name ≡ None → (t : Doc) → ask_children x r (children t) ≡ []
 no_children x r f g h null = refl
 no_children x r f g h (boolean b) = refl
 no_children x r f g h (int z) = refl
@@ -84,7 +84,7 @@ no_children x r f g h (list ts) = no_items x r f 0 ts
 no_children x r f g h (object ts) = of_members x r h ts ∙ no_named x r g ts
 
 -- what a rule that asks no child asks
-pub in_place : (schema : ℕ → Doc) (x : Node) (r : Rule) (t : Doc) (asked : List Ask) → ((n : ℕ) → below x r (index n) ≡ None) → ((k : List ℕ) → below x r (name k) ≡ None) → below x r title ≡ None → schemas_asked schema (ask_here (here r) t) ≡ asked
+pub in_place : (schema : ℕ → Doc) (x : Node) (r : Rule) (t : Doc) (asked : List Ask) → ((n : ℕ) → below x r (index n) ≡ None) → ((k : List ℕ) → below x r (name k) ≡ None) → below x r member_name ≡ None → schemas_asked schema (ask_here (here r) t) ≡ asked
     → schemas_asked schema ((rule_of x r).asked t) ≡ asked
 in_place schema x r t asked f g n h = ap (λ l. schemas_asked schema (ask_here (here r) t ++ l)) (no_children x r f g n t) ∙ ap (schemas_asked schema) (append-nil (ask_here (here r) t)) ∙ h
 

@@ -1,7 +1,7 @@
 -- The nodes want no more counters than their schemas do.
 use Rattle.std.proofs.Common.{◌≡◌, ℕ, zero, suc, ◌+◌, ◌<◌, ◌≤◌, List, [], ◌∷◌, length, true, Option, Some, None, Vec, Global, refl, sym, ap, ap₂, arith, set, slice_get, get_or-set_other, length-set, option_map}
 use Rattle.doc_tree.specs.Doc.{Doc, null, boolean, int, text, list, object, Members, no_members, member}
-use Rattle.doc_tree.specs.View.{view}
+use Rattle.doc_tree.specs.TreeView.{view}
 use Rattle.schema_graph.specs.Numbered.{Graph}
 use Rattle.schema_graph.specs.Orders.{at, IsOrder}
 use Rattle.schema_rules.specs.Keywords.{keyword_of}

@@ -2,7 +2,7 @@
 use Rattle.std.specs.Prelude.{◌≡◌, ⊤, ℕ, zero, suc, List, [], ◌∷◌, ◌++◌, ◌+◌, length, Option, Some, None, slice_get}
 use Rattle.std.specs.Global.{Vec}
 use Rattle.doc_tree.specs.Doc.{Doc, Members, no_members, member}
-use Rattle.doc_tree.specs.View.{view}
+use Rattle.doc_tree.specs.TreeView.{view}
 use Rattle.schema_graph.specs.Walks.{In}
 use Rattle.schema_rules.specs.Keywords.{keyword_of, shape_of}
 use Rattle.schema_rules.specs.Parts.{members_in}

@@ -5,7 +5,7 @@ use Rattle.std.specs.Option.{option_and_then}
 use Rattle.std.specs.Str.{bytes_eq}
 use Rattle.doc_tree.specs.Doc.{Doc, boolean, object, text, Members, no_members, member, get_member}
 use Rattle.doc_tree.specs.Sound.{IsBefore}
-use Rattle.doc_tree.specs.View.{view}
+use Rattle.doc_tree.specs.TreeView.{view}
 use Rattle.doc_tree.specs.declared.tree.Tree.{Tree}
 use Rattle.schema_rules.specs.Holds.{holds}
 use Rattle.schema_rules.specs.Assertions.{asserts}
@@ -73,15 +73,15 @@ IsLimit None v r = r ≡ Says true
 IsLimit (Some j) v r = (a : Tree) × (r ≡ AtMost j a) × (view a ≡ v)
 
 -- of a keyword that asks no schema: that everything passes, where it asserts nothing, or what it asserts
-abbrev pub IsAlone : Keyword → Doc → Rule → Type 0
-IsAlone keywords.MinContains v r = r ≡ Says true
-IsAlone keywords.If v r = r ≡ Says true
-IsAlone keywords.Defs v r = r ≡ Says true
-IsAlone keywords.Id v r = r ≡ Says true
-IsAlone keywords.Dialect v r = r ≡ Says true
-IsAlone keywords.LeftOut v r = r ≡ Says true
-IsAlone keywords.Unknown v r = r ≡ Says true
-IsAlone k v r = (a : Assertion) × (r ≡ Asserts a) × ((t : Doc) → holds a t ≡ asserts k v t)
+abbrev pub AsksNoSchema : Keyword → Doc → Rule → Type 0
+AsksNoSchema keywords.MinContains v r = r ≡ Says true
+AsksNoSchema keywords.If v r = r ≡ Says true
+AsksNoSchema keywords.Defs v r = r ≡ Says true
+AsksNoSchema keywords.Id v r = r ≡ Says true
+AsksNoSchema keywords.Dialect v r = r ≡ Says true
+AsksNoSchema keywords.LeftOut v r = r ≡ Says true
+AsksNoSchema keywords.Unknown v r = r ≡ Says true
+AsksNoSchema k v r = (a : Assertion) × (r ≡ Asserts a) × ((t : Doc) → holds a t ≡ asserts k v t)
 
 -- what a rule needs to know of the members beside its own: the numbers of the schemas of `if` and of `contains`, and the value of `minContains`
 pub record Around : Type 0 where
@@ -108,7 +108,7 @@ Fits ts ranks root near keywords.Else v row r = IsChoice Else near.condition row
 Fits ts ranks root near keywords.Ref v row r = IsReference (option_map (at ranks) (target_number ts root v)) r
 Fits ts ranks root near keywords.Contains v row r = IsCount near.least row r
 Fits ts ranks root near keywords.MaxContains v row r = IsLimit near.contained v r
-Fits ts ranks root near k v row r = IsAlone k v r
+Fits ts ranks root near k v row r = AsksNoSchema k v r
 
 -- one for each member
 abbrev pub AreFitting : Targets → List ℕ → Doc → Around → Members → List (Vec ℕ) → List Rule → Type 0

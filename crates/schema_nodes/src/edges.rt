@@ -1,7 +1,7 @@
 //! Which schemas a schema applies to the instance itself, by numbers.
 ghost use Rattle.std.specs.Prelude.{◌≡◌, ◌++◌, IfOk};
 ghost use Rattle.std.specs.Option.{option_to_list};
-ghost use Rattle.doc_tree.specs.View.{view, members_view};
+ghost use Rattle.doc_tree.specs.TreeView.{view, members_view};
 ghost use Rattle.schema_rules.specs.Parts.{members_in};
 ghost use Rattle.schema_nodes.specs.Edges.{AreEdges, edges_at, edges_in};
 

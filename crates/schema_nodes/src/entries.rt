@@ -1,6 +1,6 @@
 //! The schemas in a schema by numbers, those in a value before the one that holds it.
 ghost use Rattle.std.specs.Prelude.{◌≡◌, IfOk, ◌++◌, [], ◌∷◌, length};
-ghost use Rattle.doc_tree.specs.View.{view, elements_view, members_view};
+ghost use Rattle.doc_tree.specs.TreeView.{view, elements_view, members_view};
 ghost use Rattle.doc_tree.specs.Lists.{elements_list, values_list};
 ghost use Rattle.schema_rules.specs.Parts.{members_in};
 ghost use Rattle.schema_rules.specs.Schemas.{schemas, schemas_in, schemas_each, schemas_named, schemas_below, held_in};

@@ -1,6 +1,6 @@
 //! The node of a schema.
 ghost use Rattle.std.specs.Prelude.{◌≡◌, ◌<◌, ℕ, IfOk, length};
-ghost use Rattle.doc_tree.specs.View.{view, members_view};
+ghost use Rattle.doc_tree.specs.TreeView.{view, members_view};
 ghost use Rattle.schema_graph.specs.Orders.{at};
 ghost use Rattle.schema_rules.specs.Parts.{members_in};
 ghost use Rattle.schema_nodes.specs.Entries.{HasRows};

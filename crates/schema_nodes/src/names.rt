@@ -2,7 +2,7 @@
 ghost use Rattle.std.specs.Prelude.{◌≡◌, ℕ, IfOk, codes, length, map, slice_get};
 ghost use Rattle.doc_tree.specs.Doc.{Doc};
 ghost use Rattle.doc_tree.specs.Lists.{elements_list, values_list};
-ghost use Rattle.doc_tree.specs.View.{view, members_view};
+ghost use Rattle.doc_tree.specs.TreeView.{view, members_view};
 ghost use Rattle.schema_rules.specs.Keywords.{keyword_of, shape_of};
 ghost use Rattle.schema_rules.specs.Parts.{beside, members_in, elements_in};
 ghost use Rattle.schema_rules.specs.declared.keyword.Shape.TheVariants as shapes;

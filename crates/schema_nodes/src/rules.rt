@@ -1,11 +1,11 @@
 //! The rules of a schema object's members.
 ghost use Rattle.std.specs.Prelude.{◌≡◌, IfOk, Some, codes, option_map};
 ghost use Rattle.doc_tree.specs.Doc.{text};
-ghost use Rattle.doc_tree.specs.View.{view, members_view};
+ghost use Rattle.doc_tree.specs.TreeView.{view, members_view};
 ghost use Rattle.schema_rules.specs.References.{without_front};
 ghost use Rattle.schema_graph.specs.Orders.{at};
 ghost use Rattle.schema_levels.specs.Below.{number_named};
-ghost use Rattle.schema_nodes.specs.Fits.{Fits, AreFitting, AsMany, AreSorted, AreTargets, IsAlone, IsCount, IsLimit, IsReference, around, first_of, known_near, number_by, target_number};
+ghost use Rattle.schema_nodes.specs.Fits.{Fits, AreFitting, AsMany, AreSorted, AreTargets, AsksNoSchema, IsCount, IsLimit, IsReference, around, first_of, known_near, number_by, target_number};
 
 use crate::names::single_number;
 use crate::ranks::rank_of;
@@ -116,7 +116,7 @@ fn rule_of(
 
 // Of a keyword that asks no schema: what it asserts, if it asserts something.
 fn alone(keyword: Keyword, value: &Tree, alloc: Global) -> Result<Rule, AllocError>
-    ensures { IfOk result (IsAlone keyword (view value.now)) }
+    ensures { IfOk result (AsksNoSchema keyword (view value.now)) }
 {
     match keyword {
         Keyword::If

@@ -1,7 +1,7 @@
 //! From a schema's tree to nodes.
 ghost use Rattle.std.specs.Prelude.{◌≡◌, ◌*◌, ◌<◌, ◌≤◌, ℕ, IfOk, Some, codes, length};
 ghost use Rattle.doc_tree.specs.Doc.{Doc};
-ghost use Rattle.doc_tree.specs.View.{view};
+ghost use Rattle.doc_tree.specs.TreeView.{view};
 ghost use Rattle.schema_rules.specs.Parts.{beside, members_in};
 ghost use Rattle.schema_rules.specs.Schemas.{schemas};
 ghost use Rattle.schema_nodes.specs.Compiled.{IsFound};

@@ -3,7 +3,7 @@ use Rattle.std.proofs.Common.{◌≡◌, ℕ, suc, Bool, true, not, ◌==◌, Li
 use Rattle.std.proofs.lemmas.Bool.Decides.{nat_tests}
 use Rattle.doc_tree.specs.Doc.{list}
 use Rattle.doc_tree.specs.Lists.{names_list}
-use Rattle.doc_tree.specs.View.{view, elements_view, members_view}
+use Rattle.doc_tree.specs.TreeView.{view, elements_view, members_view}
 use Rattle.doc_tree.specs.declared.tree.Tree.{Tree, List as the_list, Object}
 use Rattle.doc_tree.proofs.Elements.{length-elements_list}
 use Rattle.doc_tree.proofs.Views.{view-List, view-Object}

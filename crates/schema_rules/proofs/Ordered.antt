@@ -6,7 +6,7 @@ use Rattle.std.specs.Cmp.{IsTotalOrder}
 use Rattle.std.specs.Cmp.Lexicographic.{slice_cmp}
 use Rattle.std.specs.Ordering.{ordering_then, ordering_reverse, on, then_cmp}
 use Rattle.doc_tree.specs.Doc.{Doc, null, boolean, int, text, list, object, Elements, no_elements, element, Members, no_members, member, height, elements_height, members_height}
-use Rattle.schema_rules.specs.Order.{kind, doc_cmp, elements_cmp, members_cmp}
+use Rattle.schema_rules.specs.Order.{kind_rank, doc_cmp, elements_cmp, members_cmp}
 
 -- ---- what a document has of each kind, by which documents of all kinds compare alike
 
@@ -37,14 +37,14 @@ child_cmp R = then_cmp (on (λ p. p.0) (slice_cmp nat_cmp)) (on (λ p. p.1) R)
 -- the order of documents that are less than n high
 abbrev order_at : ℕ → Doc → Doc → Ordering
 order_at zero = λ a b. Equal
-order_at (suc n) = then_cmp (on kind nat_cmp) (then_cmp (on number int_cmp) (then_cmp (on string (slice_cmp nat_cmp)) (on children (slice_cmp (child_cmp (order_at n))))))
+order_at (suc n) = then_cmp (on kind_rank nat_cmp) (then_cmp (on number int_cmp) (then_cmp (on string (slice_cmp nat_cmp)) (on children (slice_cmp (child_cmp (order_at n))))))
 
 flat_total : IsTotalOrder {K = Doc} (λ a b. Equal)
 flat_total = record { antisymm = λ x y. refl; trans = λ x y z h k. h; congr = λ x y z h. refl }
 
 order_total : (n : ℕ) → IsTotalOrder (order_at n)
 order_total zero = flat_total
-order_total (suc n) = then_total (on_total kind nat_cmp_total) (then_total (on_total number int_cmp_total) (then_total (on_total string nat_list_cmp_total)
+order_total (suc n) = then_total (on_total kind_rank nat_cmp_total) (then_total (on_total number int_cmp_total) (then_total (on_total string nat_list_cmp_total)
     (on_total children (lists_total (then_total (on_total (λ (p : List ℕ × Doc). p.0) nat_list_cmp_total) (on_total (λ (p : List ℕ × Doc). p.1) (order_total n)))))))
 
 then_equal : (o : Ordering) → ordering_then o Equal ≡ o

@@ -10,7 +10,7 @@ use Rattle.std.specs.Ordering.{is_lt, ordering_reverse}
 use Rattle.doc_tree.specs.Doc.{Doc}
 use Rattle.doc_tree.specs.Lists.{elements_list}
 use Rattle.doc_tree.specs.Same.{same}
-use Rattle.doc_tree.specs.View.{view, elements_view}
+use Rattle.doc_tree.specs.TreeView.{view, elements_view}
 use Rattle.doc_tree.specs.declared.tree.Tree.{Tree}
 use Rattle.doc_tree.proofs.Sameness.{same-Decides}
 use Rattle.schema_rules.specs.Assertions.{are_distinct}

@@ -4,7 +4,7 @@ use Rattle.std.specs.List.{list_any}
 use Rattle.doc_tree.specs.Doc.{Doc}
 use Rattle.doc_tree.specs.Lists.{elements_list}
 use Rattle.doc_tree.specs.Same.{same}
-use Rattle.doc_tree.specs.View.{view, elements_view}
+use Rattle.doc_tree.specs.TreeView.{view, elements_view}
 use Rattle.schema_rules.specs.Assertions.{asserts}
 use Rattle.schema_rules.specs.declared.assertion.Assertion.{Assertion}
 use Rattle.schema_rules.specs.declared.assertion.Assertion.TheVariants.{Stated, Among}

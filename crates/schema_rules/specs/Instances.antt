@@ -1,6 +1,6 @@
 -- The document that an instance stands for: a name is a text.
 use Rattle.doc_tree.specs.Doc.{Doc, text}
-use Rattle.doc_tree.specs.View.{view}
+use Rattle.doc_tree.specs.TreeView.{view}
 use Rattle.schema_rules.specs.declared.instance.Instance.{Instance}
 use Rattle.schema_rules.specs.declared.instance.Instance.TheVariants.{Value, Name}
 

@@ -6,14 +6,14 @@ use Rattle.std.specs.declared.cmp.Ordering.{Ordering}
 use Rattle.doc_tree.specs.Doc.{Doc, null, boolean, int, text, list, object, Elements, no_elements, element, Members, no_members, member}
 
 -- a number for each kind of document
-abbrev pub kind : Doc → ℕ
-kind null = 0
-kind (boolean false) = 1
-kind (boolean true) = 2
-kind (int z) = 3
-kind (text s) = 4
-kind (list ds) = 5
-kind (object ms) = 6
+abbrev pub kind_rank : Doc → ℕ
+kind_rank null = 0
+kind_rank (boolean false) = 1
+kind_rank (boolean true) = 2
+kind_rank (int z) = 3
+kind_rank (text s) = 4
+kind_rank (list ds) = 5
+kind_rank (object ms) = 6
 
 -- numbers by value, texts by their bytes, lists and objects part by part, other kinds by their numbers
 abbrev mutual
@@ -22,7 +22,7 @@ abbrev mutual
   doc_cmp (text a) (text b) = slice_cmp nat_cmp a b
   doc_cmp (list a) (list b) = elements_cmp a b
   doc_cmp (object a) (object b) = members_cmp a b
-  doc_cmp a b = nat_cmp (kind a) (kind b)
+  doc_cmp a b = nat_cmp (kind_rank a) (kind_rank b)
 
   pub elements_cmp : Elements → Elements → Ordering
   elements_cmp no_elements no_elements = Ordering.Equal

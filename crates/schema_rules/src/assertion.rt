@@ -1,7 +1,7 @@
 //! What a keyword asserts, made ready to be asked of many instances.
 ghost use Rattle.std.specs.Prelude.{◌≡◌, IfOk};
 ghost use Rattle.doc_tree.specs.Doc.{Doc};
-ghost use Rattle.doc_tree.specs.View.{view};
+ghost use Rattle.doc_tree.specs.TreeView.{view};
 ghost use Rattle.schema_rules.specs.Assertions.{asserts, is_among};
 ghost use Rattle.schema_rules.specs.Holds.{holds};
 ghost use Rattle.schema_rules.specs.Instances.{seen};

@@ -1,7 +1,7 @@
 //! What a keyword asserts of an instance by itself.
 ghost use Rattle.std.specs.Prelude.{◌≡◌};
 ghost use Rattle.doc_tree.specs.Doc.{text};
-ghost use Rattle.doc_tree.specs.View.{view};
+ghost use Rattle.doc_tree.specs.TreeView.{view};
 ghost use Rattle.schema_rules.specs.Assertions.{asserts};
 ghost use Rattle.schema_rules.specs.Instances.{seen};
 

@@ -5,7 +5,7 @@ ghost use Rattle.std.specs.List.Sorted.{IsPermutation, IsSortedBy};
 ghost use Rattle.std.specs.Ordering.{is_lt};
 ghost use Rattle.doc_tree.specs.Lists.{elements_list};
 ghost use Rattle.doc_tree.specs.Same.{same};
-ghost use Rattle.doc_tree.specs.View.{view, elements_view};
+ghost use Rattle.doc_tree.specs.TreeView.{view, elements_view};
 ghost use Rattle.schema_rules.specs.Instances.{seen};
 ghost use Rattle.schema_rules.specs.Order.{doc_cmp};
 

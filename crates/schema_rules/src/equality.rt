@@ -3,7 +3,7 @@ ghost use Rattle.std.specs.Prelude.{◌≡◌};
 ghost use Rattle.std.specs.List.{list_any};
 ghost use Rattle.doc_tree.specs.Lists.{elements_list};
 ghost use Rattle.doc_tree.specs.Same.{same};
-ghost use Rattle.doc_tree.specs.View.{view, elements_view};
+ghost use Rattle.doc_tree.specs.TreeView.{view, elements_view};
 ghost use Rattle.schema_rules.specs.Assertions.{is_among, is_unique};
 ghost use Rattle.schema_rules.specs.Instances.{seen};
 

@@ -2,7 +2,7 @@
 ghost use Rattle.std.specs.Prelude.{◌≡◌};
 ghost use Rattle.std.specs.List.{list_all};
 ghost use Rattle.doc_tree.specs.Lists.{elements_list, values_list};
-ghost use Rattle.doc_tree.specs.View.{view, elements_view, members_view};
+ghost use Rattle.doc_tree.specs.TreeView.{view, elements_view, members_view};
 ghost use Rattle.schema_rules.specs.Forms.{has_form, is_text, is_boolean, is_list, is_some_list, is_object, is_number, is_number_from, is_type, is_list_of_distinct, is_object_of};
 
 use crate::distinct::are_distinct;

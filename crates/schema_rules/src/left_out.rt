@@ -1,6 +1,6 @@
 //! Which members are left out.
 ghost use Rattle.std.specs.Prelude.{◌≡◌};
-ghost use Rattle.doc_tree.specs.View.{view};
+ghost use Rattle.doc_tree.specs.TreeView.{view};
 ghost use Rattle.schema_rules.specs.Forms.{is_left_out, is_draft};
 
 use crate::keyword::Keyword;

@@ -1,7 +1,7 @@
 //! A member by its name.
 ghost use Rattle.std.specs.Prelude.{◌≡◌, option_map};
 ghost use Rattle.doc_tree.specs.Doc.{get_member};
-ghost use Rattle.doc_tree.specs.View.{view, members_view};
+ghost use Rattle.doc_tree.specs.TreeView.{view, members_view};
 
 use doc_tree::Tree;
 use std::collections::BTreeMap;

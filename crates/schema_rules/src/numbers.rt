@@ -1,6 +1,6 @@
 //! What the keywords on numbers assert.
 ghost use Rattle.std.specs.Prelude.{◌≡◌, int_le, int_lt};
-ghost use Rattle.doc_tree.specs.View.{view};
+ghost use Rattle.doc_tree.specs.TreeView.{view};
 ghost use Rattle.schema_rules.specs.Assertions.{on_numbers, divides};
 
 use doc_tree::Tree;

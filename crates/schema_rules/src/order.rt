@@ -1,8 +1,8 @@
 //! A total order of trees, by which equal ones come to stand side by side.
 ghost use Rattle.std.specs.Prelude.{◌≡◌};
 ghost use Rattle.doc_tree.specs.Doc.{text};
-ghost use Rattle.doc_tree.specs.View.{view, elements_view, members_view};
-ghost use Rattle.schema_rules.specs.Order.{doc_cmp, elements_cmp, members_cmp, kind};
+ghost use Rattle.doc_tree.specs.TreeView.{view, elements_view, members_view};
+ghost use Rattle.schema_rules.specs.Order.{doc_cmp, elements_cmp, members_cmp, kind_rank};
 
 use doc_tree::Tree;
 use std::cmp::Ordering;
@@ -18,7 +18,7 @@ pub(crate) fn compare(a: &Tree, b: &Tree) -> Ordering
         (Tree::Text(x), Tree::Text(y)) => x.cmp(y),
         (Tree::List(x), Tree::List(y)) => compare_elements(x, y),
         (Tree::Object(x), Tree::Object(y)) => compare_members(x, y),
-        _ => kind(a).cmp(&kind(b)),
+        _ => kind_rank(a).cmp(&kind_rank(b)),
     }
 }
 
@@ -80,8 +80,8 @@ pub(crate) fn compare_to_text(a: &Tree, b: &str) -> Ordering
 }
 
 // A number for each kind of tree.
-fn kind(tree: &Tree) -> u8
-    ensures { result ≡ kind (view tree.now) }
+fn kind_rank(tree: &Tree) -> u8
+    ensures { result ≡ kind_rank (view tree.now) }
 {
     match tree {
         Tree::Null => 0,

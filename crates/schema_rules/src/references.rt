@@ -2,7 +2,7 @@
 ghost use Rattle.std.specs.Prelude.{◌≡◌, ◌<◌, option_map, Some, codes};
 ghost use Rattle.std.specs.List.{list_all};
 ghost use Rattle.doc_tree.specs.Doc.{get_member};
-ghost use Rattle.doc_tree.specs.View.{view};
+ghost use Rattle.doc_tree.specs.TreeView.{view};
 ghost use Rattle.schema_rules.specs.Parts.{members_in};
 ghost use Rattle.schema_rules.specs.References.{target, target_of, definition, is_dangling, is_name, is_name_byte, without_front};
 

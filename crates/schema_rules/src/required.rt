@@ -3,7 +3,7 @@ ghost use Rattle.std.specs.Prelude.{◌≡◌, is_some};
 ghost use Rattle.std.specs.List.{list_all};
 ghost use Rattle.doc_tree.specs.Doc.{get_member};
 ghost use Rattle.doc_tree.specs.Lists.{elements_list};
-ghost use Rattle.doc_tree.specs.View.{view, elements_view, members_view};
+ghost use Rattle.doc_tree.specs.TreeView.{view, elements_view, members_view};
 ghost use Rattle.schema_rules.specs.Assertions.{each_dependent, has_dependents, has_each, is_member};
 ghost use Rattle.schema_rules.specs.Parts.{members_in};
 

@@ -2,7 +2,7 @@
 ghost use Rattle.std.specs.Prelude.{◌≡◌, length};
 ghost use Rattle.std.specs.Str.{chars};
 ghost use Rattle.doc_tree.specs.Lists.{names_list};
-ghost use Rattle.doc_tree.specs.View.{view, members_view};
+ghost use Rattle.doc_tree.specs.TreeView.{view, members_view};
 ghost use Rattle.schema_rules.specs.Assertions.{at_least, at_most, on_text, on_list, on_object};
 ghost use Rattle.schema_rules.specs.Instances.{seen};
 

@@ -2,7 +2,7 @@
 ghost use Rattle.std.specs.Prelude.{◌≡◌};
 ghost use Rattle.std.specs.List.{list_any};
 ghost use Rattle.doc_tree.specs.Lists.{elements_list};
-ghost use Rattle.doc_tree.specs.View.{view, elements_view};
+ghost use Rattle.doc_tree.specs.TreeView.{view, elements_view};
 ghost use Rattle.schema_rules.specs.Assertions.{has_type, is_of, is_of_text};
 ghost use Rattle.schema_rules.specs.Forms.{is_type_name};
 ghost use Rattle.schema_rules.specs.Instances.{seen};

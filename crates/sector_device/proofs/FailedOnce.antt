@@ -19,14 +19,14 @@ pub record Below (old new : Disk) : Type 0 where
   size : new.sectors ≡ old.sectors
   honest : new.honest → old.honest
   later : old.failures ≤ new.failures
-  later_faults : old.faults ≤ new.faults
-  stays_worn : old.worn → new.worn
+  later_faults : old.own_failures ≤ new.own_failures
+  stays_saturated : old.failures_saturated → new.failures_saturated
 
 pub called : {T E : Type 0} (old new : Disk) (answer : Result T E) → Counts old new answer → Below old new
-called old new answer counts = record { size = counts.size; honest = counts.honest; later = counts.later; later_faults = counts.later_faults; stays_worn = counts.stays_worn }
+called old new answer counts = record { size = counts.size; honest = counts.honest; later = counts.later; later_faults = counts.later_faults; stays_saturated = counts.stays_saturated }
 
 pub untouched : (disk : Disk) → Below disk disk
-untouched disk = record { size = refl; honest = λ h. h; later = omega arith; later_faults = omega arith; stays_worn = λ worn. worn }
+untouched disk = record { size = refl; honest = λ h. h; later = omega arith; later_faults = omega arith; stays_saturated = λ saturated. saturated }
 
 -- a device that did what it did for an answer did it for an error, too
 pub reads_err : {T E : Type 0} (old new : Disk) (at : ℕ) (content : List ℕ) (answer : Result T E) (fault : E) → Reads old new at content answer → Reads {T = T} old new at content (Err fault)
@@ -59,30 +59,30 @@ over below failed = record {
   moment = below.moment;
   left_since = below.left_since;
   failures = below.failures + own_failure failed;
-  faults = below.faults + own_failure failed;
-  worn = below.worn;
-  passes = None;
+  own_failures = below.own_failures + own_failure failed;
+  failures_saturated = below.failures_saturated;
+  calls_left = None;
 }
 
 module _ (old new : Disk) (was is : Bool) where
   -- a call that was not due
-  pub other_counts : {T E : Type 0} (result : Result T E) → old.passes ≡ None → is ≡ was → Counts old new result → Counts (over old was) (over new is) result
+  pub other_counts : {T E : Type 0} (result : Result T E) → old.calls_left ≡ None → is ≡ was → Counts old new result → Counts (over old was) (over new is) result
   other_counts result unlimited same counts =
       let own = ap own_failure same in
       record {
         size = counts.size;
         honest = counts.honest;
-        passes = refl;
+        calls_left = refl;
         passed = on_ok_weaker result (λ one. tt) counts.passed;
         ok = on_ok_weaker result (λ still. omega (arith, still, own)) counts.ok;
         ok_faults = on_ok_weaker result (λ still. omega (arith, still, own)) counts.ok_faults;
         later = omega (arith, counts.later, own);
         later_faults = omega (arith, counts.later_faults, own);
         err = on_err_weaker result (⊎_elim (λ more. inl (omega (arith, more, own))) inr) counts.err;
-        err_faults = on_err_weaker result (⊎_elim (λ none. absurd (cc (none, unlimited))) (⊎_elim (λ more. inr (inl (omega (arith, more, own)))) (λ worn. inr (inr worn)))) counts.err_faults;
+        err_faults = on_err_weaker result (⊎_elim (λ none. absurd (cc (none, unlimited))) (⊎_elim (λ more. inr (inl (omega (arith, more, own)))) (λ saturated. inr (inr saturated)))) counts.err_faults;
         spent = λ none. absurd (cc none);
-        stays_worn = counts.stays_worn;
-        wears = λ worn. ⊎_elim inl (λ more. inr (omega (arith, more, own))) (counts.wears worn);
+        stays_saturated = counts.stays_saturated;
+        saturates = λ saturated. ⊎_elim inl (λ more. inr (omega (arith, more, own))) (counts.saturates saturated);
       }
 
   -- the one that was due: its own failure is counted, whatever the device below did
@@ -91,11 +91,11 @@ module _ (old new : Disk) (was is : Bool) where
       let none = ap own_failure before in
       let one = ap own_failure after in
       let rose : old.failures + own_failure was < new.failures + own_failure is = omega (arith, below.later, none, one) in
-      let faults_rose : old.faults + own_failure was < new.faults + own_failure is = omega (arith, below.later_faults, none, one) in
+      let faults_rose : old.own_failures + own_failure was < new.own_failures + own_failure is = omega (arith, below.later_faults, none, one) in
       record {
         size = below.size;
         honest = below.honest;
-        passes = refl;
+        calls_left = refl;
         passed = tt;
         ok = tt;
         ok_faults = tt;
@@ -104,8 +104,8 @@ module _ (old new : Disk) (was is : Bool) where
         err = inl rose;
         err_faults = inr (inl faults_rose);
         spent = λ none. absurd (cc none);
-        stays_worn = below.stays_worn;
-        wears = λ worn. inr rose;
+        stays_saturated = below.stays_saturated;
+        saturates = λ saturated. inr rose;
       }
 
   -- what holds of the device below holds of the one over it, too

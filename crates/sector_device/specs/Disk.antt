@@ -21,11 +21,11 @@ pub record Disk : Type 1 where
   -- the calls that failed
   pub failures : ℕ
   -- those of them that the limit of calls did not make
-  pub faults : ℕ
+  pub own_failures : ℕ
   -- the stored count of its failures can rise no more
-  pub worn : Type 0
+  pub failures_saturated : Type 0
   -- the calls that still pass, or no limit
-  pub passes : Option ℕ
+  pub calls_left : Option ℕ
 
 -- one call less
 abbrev pub less_one : Option ℕ → Option ℕ
@@ -47,19 +47,19 @@ pub record Counts {T E : Type 0} (old new : Disk) (result : Result T E) : Type 0
   -- none makes a device honest
   pub honest : new.honest → old.honest
   -- each call uses one that passes, also one that fails, and Ok says that there was one
-  pub passes : new.passes ≡ less_one old.passes
-  pub passed : OnOk result (AtLeast 1 old.passes)
-  -- an Ok leaves the counts; an Err raises them, but for a worn device, and where the limit was spent
+  pub calls_left : new.calls_left ≡ less_one old.calls_left
+  pub passed : OnOk result (AtLeast 1 old.calls_left)
+  -- an Ok leaves the counts; an Err raises them, but on a device whose count is at its end, and where the limit was spent
   pub ok : OnOk result (new.failures ≡ old.failures)
-  pub ok_faults : OnOk result (new.faults ≡ old.faults)
+  pub ok_faults : OnOk result (new.own_failures ≡ old.own_failures)
   pub later : old.failures ≤ new.failures
-  pub later_faults : old.faults ≤ new.faults
-  pub err : OnErr result ((old.failures < new.failures) ⊎ old.worn)
-  pub err_faults : OnErr result ((old.passes ≡ Some 0) ⊎ (old.faults < new.faults) ⊎ old.worn)
-  pub spent : old.passes ≡ Some 0 → new.faults ≡ old.faults
-  -- wear goes on, and comes with a failure alone
-  pub stays_worn : old.worn → new.worn
-  pub wears : new.worn → old.worn ⊎ (old.failures < new.failures)
+  pub later_faults : old.own_failures ≤ new.own_failures
+  pub err : OnErr result ((old.failures < new.failures) ⊎ old.failures_saturated)
+  pub err_faults : OnErr result ((old.calls_left ≡ Some 0) ⊎ (old.own_failures < new.own_failures) ⊎ old.failures_saturated)
+  pub spent : old.calls_left ≡ Some 0 → new.own_failures ≡ old.own_failures
+  -- a count at its end stays there, and comes there by a failure alone
+  pub stays_saturated : old.failures_saturated → new.failures_saturated
+  pub saturates : new.failures_saturated → old.failures_saturated ⊎ (old.failures < new.failures)
 
 -- so many sectors, each of 512 bytes
 pub record HasShape (sectors : ℕ) (image : Image) : Type 0 where

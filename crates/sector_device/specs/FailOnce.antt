@@ -22,9 +22,9 @@ fail_once_disk {D} {G} device =
       moment = inner.moment;
       left_since = inner.left_since;
       failures = inner.failures + own_failure device.failed;
-      faults = inner.faults + own_failure device.failed;
-      worn = inner.worn;
-      passes = None;
+      own_failures = inner.own_failures + own_failure device.failed;
+      failures_saturated = inner.failures_saturated;
+      calls_left = None;
     }
 
 -- which of its calls fail: the one that is due, and any other as the device below fails
@@ -33,7 +33,7 @@ pub record FailsOnce {D : Type 0} {G : Ghosts D} (old new : FailOnce D G) (resul
   pub due : old.left ≡ 1 → IsErr result
   -- it doesn't touch the device, unless it is passed on
   pub withheld : old.left ≡ 1 → old.pass ≡ false → new.device ≡ old.device
-  pub others : old.left ≢ 1 → OnErr result (((G.disk old.device).failures < (G.disk new.device).failures) ⊎ (G.disk old.device).worn)
+  pub others : old.left ≢ 1 → OnErr result (((G.disk old.device).failures < (G.disk new.device).failures) ⊎ (G.disk old.device).failures_saturated)
 
 -- the call that is due, where it is passed on: the device below was called once, and did this
 abbrev pub IsPassedOn : {D : Type 0} {G : Ghosts D} → FailOnce D G → FailOnce D G → (Result (Unit {0}) DeviceFault → Type 0) → Type 0

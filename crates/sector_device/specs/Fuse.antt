@@ -20,7 +20,7 @@ fuse_disk disk fuse =
       moment = inner.moment;
       left_since = inner.left_since;
       failures = inner.failures + fuse.failures;
-      faults = inner.faults;
-      worn = inner.worn ⊎ (fuse.failures ≡ 2 ^ 64 - 1);
-      passes = Some (at_most inner.passes fuse.calls);
+      own_failures = inner.own_failures;
+      failures_saturated = inner.failures_saturated ⊎ (fuse.failures ≡ 2 ^ 64 - 1);
+      calls_left = Some (at_most inner.calls_left fuse.calls);
     }

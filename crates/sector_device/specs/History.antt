@@ -68,7 +68,7 @@ disk_after sectors history failures =
       moment = moment_of history;
       left_since = left_since history;
       failures = failures;
-      faults = failures;
-      worn = failures ≡ 2 ^ 64 - 1;
-      passes = None;
+      own_failures = failures;
+      failures_saturated = failures ≡ 2 ^ 64 - 1;
+      calls_left = None;
     }

@@ -11,7 +11,7 @@ pub struct FailOnce<D: SectorDevice> {
     left: u64,
     pass: bool,
     failed: bool,
-    ghost unlimited: { (D.disk device).passes ≡ None },
+    ghost unlimited: { (D.disk device).calls_left ≡ None },
     ghost once: { failed ≡ true → left ≡ 0 },
 }
 
@@ -21,7 +21,7 @@ impl<D: SectorDevice> FailOnce<D> {
     /// Fails the call number `call`, counted from 1 (0: none). With `pass` that call takes effect and is answered
     /// as failed; without it the device is not touched.
     pub fn new(device: D, call: u64, pass: bool) -> Self
-        requires unlimited { (D.disk device).passes ≡ None }
+        requires unlimited { (D.disk device).calls_left ≡ None }
         ensures device { result.device ≡ device }
         ensures call { result.left ≡ call }
         ensures pass { result.pass ≡ pass }

@@ -19,7 +19,7 @@ impl<D: SectorDevice> Fuse<D> {
     pub fn new(device: D, calls: u64) -> Self
         ensures device { result.device ≡ device }
         ensures calls { result.calls ≡ calls }
-        ensures passes { (fuse_disk D.disk result).passes ≡ Some (at_most (D.disk device).passes calls) }
+        ensures passes { (fuse_disk D.disk result).calls_left ≡ Some (at_most (D.disk device).calls_left calls) }
         ensures failures { (fuse_disk D.disk result).failures ≡ (D.disk device).failures }
     {
         Fuse {

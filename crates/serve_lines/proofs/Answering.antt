@@ -5,7 +5,7 @@ use Rattle.doc_tree.specs.Doc as docs
 use Rattle.doc_tree.specs.Doc.{Doc, Members, boolean, get_member, int, member, text}
 use Rattle.doc_tree.specs.Read.{Reading, document, not_json, not_whole, read_of}
 use Rattle.doc_tree.specs.Text.{text_of}
-use Rattle.doc_tree.specs.View.{elements_of}
+use Rattle.doc_tree.specs.TreeView.{elements_of}
 use Rattle.doc_pointer.specs.Place.{resolve}
 use Rattle.doc_pointer.proofs.Cuts.{pointer_text_injective}
 use Rattle.path_grammar.specs.Answers.{SpellsOnly}

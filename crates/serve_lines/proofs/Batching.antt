@@ -22,7 +22,7 @@ use Rattle.store_commits.proofs.Running.{ran_joined}
 use Rattle.protocol.specs.Reply.{refusal_reply}
 use Rattle.protocol.specs.declared.reply.Reply.{Reply}
 use Rattle.protocol.specs.declared.reply.Reply.TheVariants as shown
-use Rattle.serve_lines.specs.Said.{AllSay, BatchIsAnswered, EndsBatch, FollowsBatch, MakesCopyStep, IsBatchMade, IsRunFrom, shown_as}
+use Rattle.serve_lines.specs.LineReplies.{AllSay, BatchIsAnswered, EndsBatch, FollowsBatch, MakesCopyStep, IsBatchMade, IsRunFrom, shown_as}
 use Rattle.serve_lines.specs.Session.{Follows, HasDone, WantsStep, shown_reply}
 use Rattle.serve_lines.specs.declared.options.Options.{Options}
 

@@ -19,8 +19,8 @@ use Rattle.protocol.specs.Reply.{refusal_reply}
 use Rattle.protocol.specs.Request.{Asks, change}
 use Rattle.protocol.specs.Lines.{line_feed, onto, onto_ended, cut, ended, answered, is_blank, lines_of, HasNoBreak}
 use Rattle.serve_lines.specs.Session.{AreGroups, no_groups, one_alone, one_full, one_short, AskFor, Does, Session, begun, one_more, one_refused, alone, together, most_of}
-use Rattle.serve_lines.specs.Said.{BatchIsAnswered, EndsBatch, IsRunFrom, LineIsAnswered}
-use Rattle.serve_lines.specs.Ends.{with_feeds, Ends, LineIsWaitingOrDone, Fills, IsAlone, IsPassed, HasCut, HasAnswered, Waits}
+use Rattle.serve_lines.specs.LineReplies.{BatchIsAnswered, EndsBatch, IsRunFrom, LineIsAnswered}
+use Rattle.serve_lines.specs.LineEnds.{with_feeds, LineEnds, LineIsWaitingOrDone, Fills, LineByItself, IsPassed, HasCut, HasAnswered, Waits}
 use Rattle.serve_lines.specs.Serve.{BreaksOff, IsSession}
 use Rattle.serve_lines.specs.declared.options.Options.{Options}
 use Rattle.serve_lines.proofs.Batching.{true_false}
@@ -110,18 +110,18 @@ module _ {D : Type 0} (disk : D → Disk) (options : Options) where
         lines = r.settles.done;
         later = r.settles.waiting ++ later;
         replies = replies;
-        sits = r.settles.sits;
+        session = r.settles.session;
         first = inl (all ∙ ap (λ x. x ++ later) r.settles.parts ∙ append_assoc r.settles.done r.settles.waiting later, r.settles.whole);
       }
 
   -- all of the input was read, and all its lines are answered
   pub breaks_off_end : (start : StoreView D) (bytes : List ℕ) (left : Option (List ℕ)) (now : StoreView D) (replies : List Doc) → IsAtEnd left → IsSession disk options start (lines_of bytes) replies now
       → BreaksOff disk options start bytes left now
-  breaks_off_end start bytes left now replies end sits = record {
+  breaks_off_end start bytes left now replies end session = record {
     lines = lines_of bytes;
     later = [];
     replies = replies;
-    sits = sits;
+    session = session;
     first = inr (end, sym (append-nil (lines_of bytes)));
   }
 
@@ -185,9 +185,9 @@ or_false false = refl
 
 -- a session over the lines, whether no batch is the last that may take more lines, and whether it has halted
 pub record Sat {D : Type 0} (disk : D → Disk) (options : Options) (start : StoreView D) (lines : List (List ℕ)) (replies : List Doc) (new : StoreView D) (whole halted : Bool) : Type 0 where
-  pub sits : IsSession disk options start lines replies new
-  pub whole_is : sits.whole ≡ whole
-  pub halted_is : sits.halted ≡ halted
+  pub session : IsSession disk options start lines replies new
+  pub whole_is : session.whole ≡ whole
+  pub halted_is : session.halted ≡ halted
 
 -- the same after a batch: whether no batch is the last that may take more lines, if all of it was judged
 pub record SatAfter {D : Type 0} (disk : D → Disk) (options : Options) (start : StoreView D) (lines : List (List ℕ)) (replies : List Doc) (new : StoreView D) (whole halted : Bool) : Type 0 where
@@ -207,8 +207,8 @@ some_lines (l ∷ lines) c cs h = record { line = l; more = lines; lines_are = r
 
 -- a session over the lines, and whether it has halted
 pub record SatSo {D : Type 0} (disk : D → Disk) (options : Options) (start : StoreView D) (lines : List (List ℕ)) (replies : List Doc) (new : StoreView D) (halted : Bool) : Type 0 where
-  pub sits : IsSession disk options start lines replies new
-  pub halted_is : sits.halted ≡ halted
+  pub session : IsSession disk options start lines replies new
+  pub halted_is : session.halted ≡ halted
 
 module _ {D : Type 0} (disk : D → Disk) (options : Options) (coherent : (device : D) → (disk device).honest → IsCoherent (disk device)) where
   -- a run goes on by what lines led to
@@ -222,10 +222,10 @@ module _ {D : Type 0} (disk : D → Disk) (options : Options) (coherent : (devic
   ]
 
   -- one line more, by itself
-  sits_alone : (start old new : StoreView D) (lines : List (List ℕ)) (line : List ℕ) (replies : List Doc) (reply : Doc) (halted : Bool) (s : IsSession disk options start lines replies old) → s.halted ≡ false
+  session_alone : (start old new : StoreView D) (lines : List (List ℕ)) (line : List ℕ) (replies : List Doc) (reply : Doc) (halted : Bool) (s : IsSession disk options start lines replies old) → s.halted ≡ false
       → LineIsAnswered disk options old line reply halted new → Sat disk options start (lines ++ line ∷ []) (replies ++ reply ∷ []) new true halted
-  sits_alone start old new lines line replies reply halted s goes_on answer = record {
-    sits = record {
+  session_alone start old new lines line replies reply halted s goes_on answer = record {
+    session = record {
       groups = s.groups ++ alone line ∷ [];
       whole = true;
       grouped = one_alone lines s.groups s.whole line s.grouped;
@@ -241,10 +241,10 @@ module _ {D : Type 0} (disk : D → Disk) (options : Options) (coherent : (devic
   }
 
   -- one that is refused, since the session has halted
-  sits_refused : (start old : StoreView D) (lines : List (List ℕ)) (line : List ℕ) (replies : List Doc) (s : IsSession disk options start lines replies old) → s.halted ≡ true
+  session_refused : (start old : StoreView D) (lines : List (List ℕ)) (line : List ℕ) (replies : List Doc) (s : IsSession disk options start lines replies old) → s.halted ≡ true
       → Sat disk options start (lines ++ line ∷ []) (replies ++ refusal_reply (plain BROKEN) ∷ []) old true true
-  sits_refused start old lines line replies s halted = record {
-    sits = record {
+  session_refused start old lines line replies s halted = record {
+    session = record {
       groups = s.groups ++ alone line ∷ [];
       whole = true;
       grouped = one_alone lines s.groups s.whole line s.grouped;
@@ -258,20 +258,20 @@ module _ {D : Type 0} (disk : D → Disk) (options : Options) (coherent : (devic
     halted_is = refl;
   }
 
-  sits_refused_all : (start old : StoreView D) (lines : List (List ℕ)) (line : List ℕ) (more : List (List ℕ)) (replies : List Doc) (s : IsSession disk options start lines replies old) → s.halted ≡ true
+  session_refused_all : (start old : StoreView D) (lines : List (List ℕ)) (line : List ℕ) (more : List (List ℕ)) (replies : List Doc) (s : IsSession disk options start lines replies old) → s.halted ≡ true
       → Sat disk options start (lines ++ line ∷ more) (replies ++ refused_each (line ∷ more)) old true true
-  sits_refused_all start old lines line [] replies s halted = sits_refused start old lines line replies s halted
-  sits_refused_all start old lines line (l ∷ more) replies s halted =
-      let one = sits_refused start old lines line replies s halted in
-      let all = sits_refused_all start old (lines ++ line ∷ []) l more (replies ++ refusal_reply (plain BROKEN) ∷ []) one.sits one.halted_is in
+  session_refused_all start old lines line [] replies s halted = session_refused start old lines line replies s halted
+  session_refused_all start old lines line (l ∷ more) replies s halted =
+      let one = session_refused start old lines line replies s halted in
+      let all = session_refused_all start old (lines ++ line ∷ []) l more (replies ++ refusal_reply (plain BROKEN) ∷ []) one.session one.halted_is in
       subst (λ (ls : List (List ℕ)). Sat disk options start ls (replies ++ refused_each (line ∷ l ∷ more)) old true true) (append_assoc lines (line ∷ []) (l ∷ more))
       (subst (λ (rs : List Doc). Sat disk options start ((lines ++ line ∷ []) ++ l ∷ more) rs old true true) (append_assoc replies (refusal_reply (plain BROKEN) ∷ []) (refused_each (l ∷ more))) all)
 
   -- one batch more, of which all transactions were judged
-  sits_judged : (start old new : StoreView D) (lines batch : List (List ℕ)) (cs : List Transaction) (replies docs : List Doc) (halted : Bool) (s : IsSession disk options start lines replies old) → s.halted ≡ false
+  session_judged : (start old new : StoreView D) (lines batch : List (List ℕ)) (cs : List Transaction) (replies docs : List Doc) (halted : Bool) (s : IsSession disk options start lines replies old) → s.halted ≡ false
       → (b : BatchIsAnswered disk options old cs docs halted new) → AskFor batch b.first → (whole : Bool) → AreGroups options (lines ++ batch) (s.groups ++ together batch ∷ []) whole
       → Sat disk options start (lines ++ batch) (replies ++ b.told) new whole halted
-  sits_judged start old new lines batch cs replies docs halted s goes_on b asked whole grouped =
+  session_judged start old new lines batch cs replies docs halted s goes_on b asked whole grouped =
       let does : Does options old.account (together batch) (b.own ++ b.more) (b.own_said ++ b.more_said) b.told halted new.account = record {
         mid = b.mid;
         own = b.own;
@@ -287,7 +287,7 @@ module _ {D : Type 0} (disk : D → Disk) (options : Options) (coherent : (devic
         said_are = refl;
       } in
       record {
-        sits = record {
+        session = record {
           groups = s.groups ++ together batch ∷ [];
           whole = whole;
           grouped = grouped;
@@ -303,10 +303,10 @@ module _ {D : Type 0} (disk : D → Disk) (options : Options) (coherent : (devic
       }
 
   -- of which not all were judged, since the session halted: the other lines are refused
-  sits_cut : (start old new : StoreView D) (lines batch : List (List ℕ)) (cs : List Transaction) (c : Transaction) (rest : List Transaction) (replies docs : List Doc) (halted : Bool) (s : IsSession disk options start lines replies old)
+  session_cut : (start old new : StoreView D) (lines batch : List (List ℕ)) (cs : List Transaction) (c : Transaction) (rest : List Transaction) (replies docs : List Doc) (halted : Bool) (s : IsSession disk options start lines replies old)
       → s.whole ≡ true → s.halted ≡ false → AskFor batch cs → (b : BatchIsAnswered disk options old cs docs halted new) → length batch ≤ most_of options → b.rest ≡ c ∷ rest → halted ≡ true → 0 < length b.first
       → Sat disk options start (lines ++ batch) (replies ++ docs) new true halted
-  sits_cut start old new lines batch cs c rest replies docs halted s was_whole goes_on asked b few some halts some_first =
+  session_cut start old new lines batch cs c rest replies docs halted s was_whole goes_on asked b few some halts some_first =
       let apart = asked_apart batch b.first b.rest (subst (λ (l : List Transaction). AskFor batch l) b.parts asked) in
       let left = some_lines apart.lines_rest c rest (subst (λ (l : List Transaction). AskFor apart.lines_rest l) some apart.asked_rest) in
       let ones = apart.lines_first in
@@ -314,8 +314,8 @@ module _ {D : Type 0} (disk : D → Disk) (options : Options) (coherent : (devic
       let same = asked_length ones b.first apart.asked in
       let sum = ap length apart.parts ∙ length-append ones apart.lines_rest ∙ ap (λ (ls : List (List ℕ)). length ones + length ls) left.lines_are in
       let short = one_short lines s.groups ones (subst (λ (w : Bool). AreGroups options lines s.groups w) was_whole s.grouped) (omega (arith, some_first, same)) (omega (arith, few, sum)) in
-      let first = sits_judged start old new lines ones cs replies docs halted s goes_on b apart.asked false short in
-      let all = sits_refused_all start new (lines ++ ones) left.line left.more (replies ++ b.told) first.sits (first.halted_is ∙ halts) in
+      let first = session_judged start old new lines ones cs replies docs halted s goes_on b apart.asked false short in
+      let all = session_refused_all start new (lines ++ ones) left.line left.more (replies ++ b.told) first.session (first.halted_is ∙ halts) in
       let all_lines : (lines ++ ones) ++ others ≡ lines ++ batch = append_assoc lines ones others ∙ ap (λ (ls : List (List ℕ)). lines ++ (ones ++ ls)) (sym left.lines_are) ∙ ap (λ (ls : List (List ℕ)). lines ++ ls) (sym apart.parts) in
       let each : refused_each others ≡ refused_each b.rest = ap refused_each (sym left.lines_are) ∙ same_each apart.lines_rest b.rest (asked_length apart.lines_rest b.rest apart.asked_rest) in
       let all_docs : (replies ++ b.told) ++ refused_each others ≡ replies ++ docs = append_assoc replies b.told (refused_each others) ∙ ap (λ (ds : List Doc). replies ++ (b.told ++ ds)) each ∙ ap (λ (ds : List Doc). replies ++ ds) (sym b.replies_are) in
@@ -324,10 +324,10 @@ module _ {D : Type 0} (disk : D → Disk) (options : Options) (coherent : (devic
       (subst (λ (ds : List Doc). Sat disk options start ((lines ++ ones) ++ others) ds new true true) all_docs all))
 
   -- one batch more
-  sits_batch : (start old new : StoreView D) (lines batch : List (List ℕ)) (cs : List Transaction) (replies docs : List Doc) (halted : Bool) (s : IsSession disk options start lines replies old) → s.whole ≡ true → s.halted ≡ false
+  session_batch : (start old new : StoreView D) (lines batch : List (List ℕ)) (cs : List Transaction) (replies docs : List Doc) (halted : Bool) (s : IsSession disk options start lines replies old) → s.whole ≡ true → s.halted ≡ false
       → AskFor batch cs → BatchIsAnswered disk options old cs docs halted new → length batch ≤ most_of options → (whole : Bool) → AreGroups options (lines ++ batch) (s.groups ++ together batch ∷ []) whole
       → SatAfter disk options start (lines ++ batch) (replies ++ docs) new whole halted
-  sits_batch start old new lines batch cs replies docs halted s was_whole goes_on asked b few whole grouped = by b.rest refl
+  session_batch start old new lines batch cs replies docs halted s was_whole goes_on asked b few whole grouped = by b.rest refl
     where
       by : (rest : List Transaction) → b.rest ≡ rest → SatAfter disk options start (lines ++ batch) (replies ++ docs) new whole halted
       by [] none =
@@ -336,22 +336,22 @@ module _ {D : Type 0} (disk : D → Disk) (options : Options) (coherent : (devic
           record {
             now_whole = whole;
             sat = subst (λ (ds : List Doc). Sat disk options start (lines ++ batch) (replies ++ ds) new whole halted) (sym told)
-                (sits_judged start old new lines batch cs replies docs halted s goes_on b (subst (λ (l : List Transaction). AskFor batch l) all asked) whole grouped);
+                (session_judged start old new lines batch cs replies docs halted s goes_on b (subst (λ (l : List Transaction). AskFor batch l) all asked) whole grouped);
             if_whole = λ is. is;
           }
       by (c ∷ rest) some = elim b.why [
         | inl none ↦ absurd (cons_none c rest (sym some ∙ none))
         | inr halts ↦ record {
           now_whole = true;
-          sat = sits_cut start old new lines batch cs c rest replies docs halted s was_whole goes_on asked b few some halts.0 halts.1;
+          sat = session_cut start old new lines batch cs c rest replies docs halted s was_whole goes_on asked b few some halts.0 halts.1;
           if_whole = λ _. refl;
         }
       ]
 
   -- the batch that waits, short of being full, if any change waits
-  sits_ended_batch : (start old new : StoreView D) (lines : List (List ℕ)) (cs : List Transaction) (halted halts : Bool) (replies docs : List Doc) → HasAnswered disk options start lines old replies cs halted
+  session_ended_batch : (start old new : StoreView D) (lines : List (List ℕ)) (cs : List Transaction) (halted halts : Bool) (replies docs : List Doc) → HasAnswered disk options start lines old replies cs halted
       → EndsBatch disk options old cs docs halts new → SatSo disk options start lines (replies ++ docs) new (halted || halts)
-  sits_ended_batch start old new lines cs halted halts replies docs s e = elim e [
+  session_ended_batch start old new lines cs halted halts replies docs s e = elim e [
     | inl none ↦
         let waiting : s.waiting ≡ [] = asked_none s.waiting (subst (λ (l : List Transaction). AskFor s.waiting l) none.0 s.asked) in
         let all : lines ≡ s.done = s.parts ∙ ap (λ (l : List (List ℕ)). s.done ++ l) waiting ∙ append-nil s.done in
@@ -359,7 +359,7 @@ module _ {D : Type 0} (disk : D → Disk) (options : Options) (coherent : (devic
         (subst (λ (h : Bool). SatSo disk options start lines (replies ++ docs) old (halted || h)) (sym none.2)
         (subst (λ (ls : List (List ℕ)). SatSo disk options start ls (replies ++ docs) old (halted || false)) (sym all)
         (subst (λ (rs : List Doc). SatSo disk options start s.done rs old (halted || false)) (sym (ap (λ (l : List Doc). replies ++ l) none.1 ∙ append-nil replies))
-        (record { sits = s.sits; halted_is = s.halted_is ∙ or_false halted }))))
+        (record { session = s.session; halted_is = s.halted_is ∙ or_false halted }))))
     | inr some ↦ by halted s some.0 some.1
   ]
     where
@@ -368,10 +368,10 @@ module _ {D : Type 0} (disk : D → Disk) (options : Options) (coherent : (devic
       by false s some b =
           let same = asked_length s.waiting cs s.asked in
           let fewer = s.fewer in
-          let grouped = one_short s.done s.sits.groups s.waiting (subst (λ (w : Bool). AreGroups options s.done s.sits.groups w) s.whole s.sits.grouped)
+          let grouped = one_short s.done s.session.groups s.waiting (subst (λ (w : Bool). AreGroups options s.done s.session.groups w) s.whole s.session.grouped)
           (subst (λ (n : ℕ). 0 < n) (sym same) some) (subst (λ (n : ℕ). n < most_of options) (sym same) fewer) in
-          let t = sits_batch start old new s.done s.waiting cs replies docs halts s.sits s.whole s.halted_is s.asked b (omega (arith, same, fewer)) false grouped in
-          subst (λ (ls : List (List ℕ)). SatSo disk options start ls (replies ++ docs) new halts) (sym s.parts) (record { sits = t.sat.sits; halted_is = t.sat.halted_is })
+          let t = session_batch start old new s.done s.waiting cs replies docs halts s.session s.whole s.halted_is s.asked b (omega (arith, same, fewer)) false grouped in
+          subst (λ (ls : List (List ℕ)). SatSo disk options start ls (replies ++ docs) new halts) (sym s.parts) (record { session = t.sat.session; halted_is = t.sat.halted_is })
 
   module _ (start old new : StoreView D) (lines : List (List ℕ)) (cs left : List Transaction) (was is : Bool) (line : List ℕ) (replies more : List Doc) (s : HasAnswered disk options start lines old replies cs was) where
     -- its change waits
@@ -384,7 +384,7 @@ module _ {D : Type 0} (disk : D → Disk) (options : Options) (coherent : (devic
           done = s.done;
           waiting = s.waiting ++ line ∷ [];
           parts = ap (λ (l : List (List ℕ)). l ++ line ∷ []) s.parts ∙ append_assoc s.done s.waiting (line ∷ []);
-          sits = s.sits;
+          session = s.session;
           whole = s.whole;
           asked = asked_more s.waiting cs line w.c s.asked w.asks;
           fewer = subst (λ (n : ℕ). n < most_of options) (sym (length-append cs (w.c ∷ []))) w.fewer;
@@ -398,7 +398,7 @@ module _ {D : Type 0} (disk : D → Disk) (options : Options) (coherent : (devic
       done = lines ++ line ∷ [];
       waiting = [];
       parts = sym (append-nil (lines ++ line ∷ []));
-      sits = t.sits;
+      session = t.session;
       whole = t.whole_is;
       asked = tt;
       fewer = some_most options;
@@ -411,26 +411,26 @@ module _ {D : Type 0} (disk : D → Disk) (options : Options) (coherent : (devic
     settles_full goes_on f =
         let batch = s.waiting ++ line ∷ [] in
         let full : length batch ≡ most_of options = length-append s.waiting (line ∷ []) ∙ ap (λ (n : ℕ). n + 1) (asked_length s.waiting cs s.asked) ∙ f.full in
-        let grouped = one_full s.done s.sits.groups batch (subst (λ (w : Bool). AreGroups options s.done s.sits.groups w) s.whole s.sits.grouped) full in
-        let t = sits_batch start old new s.done batch (cs ++ f.c ∷ []) replies more is s.sits s.whole (s.halted_is ∙ goes_on) (asked_more s.waiting cs line f.c s.asked f.asks) f.batch (omega (arith, full)) true grouped in
+        let grouped = one_full s.done s.session.groups batch (subst (λ (w : Bool). AreGroups options s.done s.session.groups w) s.whole s.session.grouped) full in
+        let t = session_batch start old new s.done batch (cs ++ f.c ∷ []) replies more is s.session s.whole (s.halted_is ∙ goes_on) (asked_more s.waiting cs line f.c s.asked f.asks) f.batch (omega (arith, full)) true grouped in
         let all : s.done ++ batch ≡ lines ++ line ∷ [] = sym (append_assoc s.done s.waiting (line ∷ [])) ∙ ap (λ (l : List (List ℕ)). l ++ line ∷ []) (sym s.parts) in
         settles_done
         (subst (λ (ls : List (List ℕ)). Sat disk options start ls (replies ++ more) new true is) all
         (subst (λ (w : Bool). Sat disk options start (s.done ++ batch) (replies ++ more) new w is) (t.if_whole refl) t.sat)) f.left_are
 
     -- those that wait are done, and then it is by itself, or refused
-    settles_alone : was ≡ false → IsAlone disk options old cs line more new left is → HasAnswered disk options start (lines ++ line ∷ []) new (replies ++ more) left is
+    settles_alone : was ≡ false → LineByItself disk options old cs line more new left is → HasAnswered disk options start (lines ++ line ∷ []) new (replies ++ more) left is
     settles_alone goes_on a =
-        let before = sits_ended_batch start old a.mid lines cs was a.halts replies a.before s a.batch in
-        let halts : before.sits.halted ≡ a.halts = before.halted_is ∙ ap (λ (b : Bool). b || a.halts) goes_on in
+        let before = session_ended_batch start old a.mid lines cs was a.halts replies a.before s a.batch in
+        let halts : before.session.halted ≡ a.halts = before.halted_is ∙ ap (λ (b : Bool). b || a.halts) goes_on in
         let all : (replies ++ a.before) ++ a.reply ∷ [] ≡ replies ++ more = append_assoc replies a.before (a.reply ∷ []) ∙ ap (λ (l : List Doc). replies ++ l) (sym a.replies_are) in
         let one : Sat disk options start (lines ++ line ∷ []) ((replies ++ a.before) ++ a.reply ∷ []) new true is = elim a.answered [
-          | inl goes ↦ sits_alone start a.mid new lines line (replies ++ a.before) a.reply is before.sits (halts ∙ goes.0) goes.1
+          | inl goes ↦ session_alone start a.mid new lines line (replies ++ a.before) a.reply is before.session (halts ∙ goes.0) goes.1
           | inr passed ↦
               subst (λ (v : StoreView D). Sat disk options start (lines ++ line ∷ []) ((replies ++ a.before) ++ a.reply ∷ []) v true is) (sym passed.3)
               (subst (λ (h : Bool). Sat disk options start (lines ++ line ∷ []) ((replies ++ a.before) ++ a.reply ∷ []) a.mid true h) (sym passed.2)
               (subst (λ (r : Doc). Sat disk options start (lines ++ line ∷ []) ((replies ++ a.before) ++ r ∷ []) a.mid true true) (sym passed.1)
-              (sits_refused start a.mid lines line (replies ++ a.before) before.sits (halts ∙ passed.0))))
+              (session_refused start a.mid lines line (replies ++ a.before) before.session (halts ∙ passed.0))))
         ] in
         settles_done (subst (λ (rs : List Doc). Sat disk options start (lines ++ line ∷ []) rs new true is) all one) a.left_are
 
@@ -440,7 +440,7 @@ module _ {D : Type 0} (disk : D → Disk) (options : Options) (coherent : (devic
         let none : cs ≡ [] = s.still halted in
         let waiting : s.waiting ≡ [] = asked_none s.waiting (subst (λ (l : List Transaction). AskFor s.waiting l) none s.asked) in
         let all : s.done ≡ lines = sym (s.parts ∙ ap (λ (l : List (List ℕ)). s.done ++ l) waiting ∙ append-nil s.done) in
-        let t = sits_refused start old s.done line replies s.sits (s.halted_is ∙ halted) in
+        let t = session_refused start old s.done line replies s.session (s.halted_is ∙ halted) in
         settles_done
         (subst (λ (v : StoreView D). Sat disk options start (lines ++ line ∷ []) (replies ++ more) v true is) (sym p.same)
         (subst (λ (h : Bool). Sat disk options start (lines ++ line ∷ []) (replies ++ more) old true h) (sym still)
@@ -454,7 +454,7 @@ module _ {D : Type 0} (disk : D → Disk) (options : Options) (coherent : (devic
     settles_busy (inr (inr (inr p))) = settles_passed p.0 p.1 p.2
 
     -- one line more
-    settles_line : Ends disk options old cs was line more new left is → HasAnswered disk options start (lines ++ last line) new (replies ++ more) left is
+    settles_line : LineEnds disk options old cs was line more new left is → HasAnswered disk options start (lines ++ last line) new (replies ++ more) left is
     settles_line e = elim e [
       | inl w ↦
           let no_more : replies ++ more ≡ replies = ap (λ x. replies ++ x) w.1 ∙ append-nil replies in
@@ -479,7 +479,7 @@ module _ {D : Type 0} (disk : D → Disk) (options : Options) (coherent : (devic
       done = [];
       waiting = [];
       parts = refl;
-      sits = record {
+      session = record {
         groups = [];
         whole = true;
         grouped = no_groups;
@@ -499,7 +499,7 @@ module _ {D : Type 0} (disk : D → Disk) (options : Options) (coherent : (devic
 
   -- a line feed came
   pub reaches_line : (start : StoreView D) (bytes : List ℕ) (old new : StoreView D) (replies more : List Doc) (cs left : List Transaction) (was is : Bool) (line : List ℕ) → HasNoBreak line → HasCut disk options start bytes old replies cs was line
-      → Ends disk options old cs was line more new left is → HasCut disk options start (bytes ++ line_feed ∷ []) new (replies ++ more) left is []
+      → LineEnds disk options old cs was line more new left is → HasCut disk options start (bytes ++ line_feed ∷ []) new (replies ++ more) left is []
   reaches_line start bytes old new replies more cs left was is line whole r e = record {
     lines = r.lines ++ line ∷ [];
     unbroken = unbroken_more r.lines line r.unbroken whole;
@@ -513,14 +513,14 @@ module _ {D : Type 0} (disk : D → Disk) (options : Options) (coherent : (devic
   }
 
   -- the input has ended: the last line is, and then the batch that waits
-  pub sits_end : (start : StoreView D) (bytes : List ℕ) (old mid new : StoreView D) (replies more docs : List Doc) (cs left : List Transaction) (was is halts : Bool) (rest : List ℕ) → HasNoBreak rest
-      → HasCut disk options start bytes old replies cs was rest → Ends disk options old cs was rest more mid left is → EndsBatch disk options mid left docs halts new
+  pub session_end : (start : StoreView D) (bytes : List ℕ) (old mid new : StoreView D) (replies more docs : List Doc) (cs left : List Transaction) (was is halts : Bool) (rest : List ℕ) → HasNoBreak rest
+      → HasCut disk options start bytes old replies cs was rest → LineEnds disk options old cs was rest more mid left is → EndsBatch disk options mid left docs halts new
       → SatSo disk options start (lines_of bytes) (replies ++ (more ++ docs)) new (is || halts)
-  sits_end start bytes old mid new replies more docs cs left was is halts rest whole r e b =
+  session_end start bytes old mid new replies more docs cs left was is halts rest whole r e b =
       let all = ap lines_of (sym (append-nil bytes)) ∙ lines_of-reached disk options start bytes old replies cs was rest r [] ∙ ap (λ x. answered r.lines ++ x) (ap lines_of (append-nil rest) ∙ answered_rest rest whole) in
       subst (λ (ls : List (List ℕ)). SatSo disk options start ls (replies ++ (more ++ docs)) new (is || halts)) (sym all)
       (subst (λ (rs : List Doc). SatSo disk options start (answered r.lines ++ last rest) rs new (is || halts)) (append_assoc replies more docs)
-      (sits_ended_batch start mid new (answered r.lines ++ last rest) left is halts (replies ++ more) docs (settles_line start old mid (answered r.lines) cs left was is rest replies more r.settles e) b))
+      (session_ended_batch start mid new (answered r.lines ++ last rest) left is halts (replies ++ more) docs (settles_line start old mid (answered r.lines) cs left was is rest replies more r.settles e) b))
 
 -- bytes that are cut at a line feed, behind others
 pub parted : (before end behind rest : List ℕ) → rest ≡ end ++ line_feed ∷ behind → (before ++ (end ++ line_feed ∷ [])) ++ behind ≡ before ++ rest

@@ -8,12 +8,12 @@ use Rattle.doc_machine.specs.declared.transaction.Transaction.{Transaction as He
 use Rattle.doc_store.specs.Account.{StoreView, IsStanding}
 use Rattle.doc_store.specs.Stands.{StandsAfter}
 use Rattle.protocol.specs.Lines.{answered, ended}
-use Rattle.protocol.specs.Held.{Holds}
+use Rattle.protocol.specs.LineBuffer.{Holds}
 use Rattle.protocol.specs.Says.{Says}
 use Rattle.protocol.specs.declared.reply.Reply.{Reply}
-use Rattle.serve_lines.specs.Ends.{HasCut, HasAnswered}
+use Rattle.serve_lines.specs.LineEnds.{HasCut, HasAnswered}
 use Rattle.serve_lines.specs.Pieces.{HasEnded, HasRead, KeepsLines, waiting_in}
-use Rattle.serve_lines.specs.Said.{AllSay}
+use Rattle.serve_lines.specs.LineReplies.{AllSay}
 use Rattle.serve_lines.specs.declared.session.Session.{Session}
 use Rattle.serve_lines.specs.declared.options.Options.{Options}
 use Rattle.serve_lines.specs.Serve.{IsSession}
@@ -46,7 +46,7 @@ module _ {D : Type 0} (disk : D → Disk) (options : Options) where
       → (disk start.device).honest → start.account.broken ≡ false → (image : Image) → (disk now.device).left image
       → (hits : List Transaction) × StandsAfter now.account.state hits image × (now.account.broken ≡ false → hits ≡ [])
   stands_heard start read now session replies s honest working image left =
-      let ran = s.reached.settles.sits.ran in
+      let ran = s.reached.settles.session.ran in
       (ran.in_doubt, ran.at_end honest working image left, ran.none_in_doubt)
 
   -- one more of the replies that were ready is given
@@ -89,14 +89,14 @@ module _ {D : Type 0} (disk : D → Disk) (options : Options) where
   ended_given start lines now was is replies reply given same s =
       let first = first_says reply is.ready.items s.ready (subst (λ (l : List Reply). AllSay l s.ready) given s.says) in
       let all : replies ++ s.ready ≡ (replies ++ first.said ∷ []) ++ first.more = ap (λ (l : List Doc). replies ++ l) first.docs_are ∙ sym (append_assoc replies (first.said ∷ []) first.more) in
-      let so = subst (λ (rs : List Doc). SatSo disk options start lines rs now was.halted) all (record { sits = s.sits; halted_is = s.halted_is }) in
-      (first.said, first.says, record { ready = first.more; sits = so.sits; halted_is = so.halted_is ∙ sym same; says = first.others })
+      let so = subst (λ (rs : List Doc). SatSo disk options start lines rs now was.halted) all (record { session = s.session; halted_is = s.halted_is }) in
+      (first.said, first.says, record { ready = first.more; session = so.session; halted_is = so.halted_is ∙ sym same; says = first.others })
 
   -- and where none is ready any more
   pub ended_all : (start : StoreView D) (lines : List (List ℕ)) (now : StoreView D) (session : Session) (replies : List Doc) → session.ready.items ≡ [] → HasEnded disk options start lines now session replies
       → IsSession disk options start lines replies now
   ended_all start lines now session replies none s =
-      subst (λ (rs : List Doc). IsSession disk options start lines rs now) (ap (λ (l : List Doc). replies ++ l) (says_none s.ready (subst (λ (l : List Reply). AllSay l s.ready) none s.says)) ∙ append-nil replies) s.sits
+      subst (λ (rs : List Doc). IsSession disk options start lines rs now) (ap (λ (l : List Doc). replies ++ l) (says_none s.ready (subst (λ (l : List Reply). AllSay l s.ready) none s.says)) ∙ append-nil replies) s.session
 
 module _ {D : Type 0} (disk : D → Disk) (options : Options) (coherent : (device : D) → (disk device).honest → IsCoherent (disk device)) where
   -- A session for which nothing waits may begin anew at any store: what it holds is all that it has read.

@@ -244,13 +244,13 @@ module _ {D : Type 0} (disk : D → Disk) (options : Options) (old new : StoreVi
   abbrev pub kept_paused : (before after : Option (List ℕ)) → Pauses disk options old (answered (ended read)) before new after → IsKept disk old new left left_new
   kept_paused before after p =
       let first = ended_first read in
-      kept_so p.done (p.waiting ++ first.0) p.writes.replies p.writes.sits (first.1 ∙ ap (λ (l : List (List ℕ)). l ++ first.0) p.parts ∙ append_assoc p.done p.waiting first.0)
+      kept_so p.done (p.waiting ++ first.0) p.writes.replies p.writes.session (first.1 ∙ ap (λ (l : List (List ℕ)). l ++ first.0) p.parts ∙ append_assoc p.done p.waiting first.0)
 
   -- one that was broken off
   pub kept_broken_off : BreaksOff disk options old read left_new new → IsKept disk old new left left_new
   kept_broken_off b = elim b.first [
     | inl ended ↦
         let first = ended_first read in
-        kept_so b.lines (b.later ++ first.0) b.replies b.sits (first.1 ∙ ap (λ (l : List (List ℕ)). l ++ first.0) ended.0 ∙ append_assoc b.lines b.later first.0)
-    | inr all ↦ kept_so b.lines b.later b.replies b.sits all.1
+        kept_so b.lines (b.later ++ first.0) b.replies b.session (first.1 ∙ ap (λ (l : List (List ℕ)). l ++ first.0) ended.0 ∙ append_assoc b.lines b.later first.0)
+    | inr all ↦ kept_so b.lines b.later b.replies b.session all.1
   ]

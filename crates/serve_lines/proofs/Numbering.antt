@@ -11,7 +11,7 @@ use Rattle.doc_changes.specs.declared.refusal.Refusal.{Refusal}
 use Rattle.doc_machine.specs.Transaction.{Transaction, after_all, after_in, changes_of}
 use Rattle.refusals.specs.declared.numbers.TheConstants.{BROKEN, DEVICE, MEMORY}
 use Rattle.doc_store.specs.Account.{Account}
-use Rattle.doc_store.specs.Batch.{Commit, IsAlone, IsBatch, alone_done, alone_full, behind_failed, by_itself, commit_in_doubt, commit_made, no_more, snapshot_failed, stays_broken}
+use Rattle.doc_store.specs.Batch.{Commit, AnswersForced, IsBatch, alone_done, alone_full, behind_failed, by_itself, commit_in_doubt, commit_made, no_more, snapshot_failed, stays_broken}
 use Rattle.doc_store.specs.Committed.{Slot, account_behind, account_committed, asked, changes, replies_done, replies_in_doubt, said, waiting, waits}
 use Rattle.doc_store.specs.Events.{dones_of, hits_of}
 use Rattle.doc_store.specs.Folds.{after_each}
@@ -100,7 +100,7 @@ none_in_doubt_done (said t r ∷ slots) = none_in_doubt_done slots
 
 -- ---- a batch
 
-alone_counts : (a b : Account) (t : Transaction) (r : Reply) (commits : List Commit) → IsAlone a t r commits b → Counted a b (t ∷ []) (r ∷ [])
+alone_counts : (a b : Account) (t : Transaction) (r : Reply) (commits : List Commit) → AnswersForced a t r commits b → Counted a b (t ∷ []) (r ∷ [])
 alone_counts _ _ _ _ _ (alone_done a b t seq is) =
     let state = ap (λ (x : Account). x.state) is.new_is in
     record { counts = (is.seq_is ∙ ap (λ (s : State). s.seq) state, tt); state = state }

@@ -20,7 +20,7 @@ pauses disk options start bytes before now progress after none taken s =
       done = settles.done;
       waiting = settles.waiting;
       parts = settles.parts;
-      writes = record { replies = s.replies; sits = settles.sits; wrote = tells_all before after progress.outbox (reply_lines s.replies) none s.told.tells };
+      writes = record { replies = s.replies; session = settles.session; wrote = tells_all before after progress.outbox (reply_lines s.replies) none s.told.tells };
       whole = settles.whole;
       changes = waiting_in progress.session;
       asked = settles.asked;

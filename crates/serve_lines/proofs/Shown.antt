@@ -20,7 +20,7 @@ use Rattle.protocol.specs.Request.{Request, Asks, snapshot, pump}
 use Rattle.protocol.specs.Reply.{refusal_reply}
 use Rattle.serve_lines.specs.Session.{AnswersOther, Follows, HasDone, MayBeFault, Replies, reply_to_snapshot, reply_to_pump}
 use Rattle.protocol.specs.Says.{Says}
-use Rattle.serve_lines.specs.Said.{AnswersRequest, IsAnsweredAlone, LineIsAnswered, RequestIsAnswered, is_unread}
+use Rattle.serve_lines.specs.LineReplies.{AnswersRequest, IsAnsweredAlone, LineIsAnswered, RequestIsAnswered, is_unread}
 use Rattle.serve_lines.specs.declared.options.Options.{Options}
 use Rattle.protocol.specs.declared.reply.Reply.{Reply}
 

@@ -3,7 +3,7 @@
 pub use Rattle.doc_tree.specs.Doc.{Doc, height}
 pub use Rattle.doc_tree.specs.Text.{text_of}
 pub use Rattle.doc_tree.specs.Read.{read_of}
-pub use Rattle.doc_tree.specs.View.{elements_of, view}
+pub use Rattle.doc_tree.specs.TreeView.{elements_of, view}
 pub use Rattle.doc_tree.specs.Sound.{IsSound}
 -- JSON Pointer (RFC 6901)
 pub use Rattle.doc_pointer.specs.Text.{pointer_text}

@@ -1,8 +1,8 @@
 pub mod Session
-pub mod Status
-pub mod Said
-pub mod Held
-pub mod Ends
+pub mod StatusReply
+pub mod LineReplies
+pub mod Written
+pub mod LineEnds
 pub mod Pieces
 pub mod Progress
 pub mod Serve

@@ -7,10 +7,10 @@ use Rattle.doc_store.specs.Account.{StoreView}
 use Rattle.protocol.specs.Lines.{lines_of}
 use Rattle.protocol.specs.Reply.{reply_lines, count_of}
 use Rattle.protocol.specs.Says.{Says}
-use Rattle.serve_lines.specs.Said.{AllSay}
+use Rattle.serve_lines.specs.LineReplies.{AllSay}
 use Rattle.serve_lines.specs.Serve.{BreaksOff, Serves}
 use Rattle.serve_lines.specs.Pieces.{HasRead}
-use Rattle.serve_lines.specs.Held.{HasWritten}
+use Rattle.serve_lines.specs.Written.{HasWritten}
 use Rattle.protocol.specs.declared.reply.Reply.{Reply}
 use Rattle.serve_lines.specs.declared.progress.Progress.{Progress}
 use Rattle.serve_lines.specs.declared.options.Options.{Options}

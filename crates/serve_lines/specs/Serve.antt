@@ -28,14 +28,14 @@ pub record IsSession {D : Type 0} (disk : D → Disk) (options : Options) (old :
 -- It did, and the lines of its replies are all that was written.
 pub record Writes {D : Type 0} (disk : D → Disk) (options : Options) (old : StoreView D) (lines : List (List ℕ)) (before : Option (List ℕ)) (new : StoreView D) (after : Option (List ℕ)) : Type 0 where
   pub replies : List Doc
-  pub sits : IsSession disk options old lines replies new
+  pub session : IsSession disk options old lines replies new
   pub wrote : Appends before after (reply_lines replies)
 
 -- the same, with the number of its replies, which stops at 2^64 - 1, and whether it halted
 pub record Serves {D : Type 0} (disk : D → Disk) (options : Options) (old : StoreView D) (lines : List (List ℕ)) (before : Option (List ℕ)) (new : StoreView D) (after : Option (List ℕ)) (count : ℕ) (halted : Bool) : Type 0 where
   pub told : Writes disk options old lines before new after
   pub counted : count ≡ count_of told.replies
-  pub halted_is : told.sits.halted ≡ halted
+  pub halted_is : told.session.halted ≡ halted
 
 -- Where it pauses: transactions wait for others, fewer than a batch takes, and aren't done; a session over all lines before them went so, none of whose batches was ended but by being full or by a line behind it.
 pub record Pauses {D : Type 0} (disk : D → Disk) (options : Options) (old : StoreView D) (lines : List (List ℕ)) (before : Option (List ℕ)) (new : StoreView D) (after : Option (List ℕ)) : Type 0 where
@@ -43,7 +43,7 @@ pub record Pauses {D : Type 0} (disk : D → Disk) (options : Options) (old : St
   pub waiting : List (List ℕ)
   pub parts : lines ≡ done ++ waiting
   pub writes : Writes disk options old done before new after
-  pub whole : writes.sits.whole ≡ true
+  pub whole : writes.session.whole ≡ true
   pub changes : List Transaction
   pub asked : AskFor waiting changes
   pub fewer : length changes < most_of options
@@ -53,5 +53,5 @@ pub record BreaksOff {D : Type 0} (disk : D → Disk) (options : Options) (old :
   pub lines : List (List ℕ)
   pub later : List (List ℕ)
   pub replies : List Doc
-  pub sits : IsSession disk options old lines replies new
-  pub first : ((answered (ended bytes) ≡ lines ++ later) × (sits.whole ≡ true)) ⊎ (IsAtEnd left × (lines_of bytes ≡ lines ++ later))
+  pub session : IsSession disk options old lines replies new
+  pub first : ((answered (ended bytes) ≡ lines ++ later) × (session.whole ≡ true)) ⊎ (IsAtEnd left × (lines_of bytes ≡ lines ++ later))

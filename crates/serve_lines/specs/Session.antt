@@ -32,7 +32,7 @@ use Rattle.protocol.specs.Read.{IsNoChange}
 use Rattle.protocol.specs.declared.limits.TheConstants.{REPLY_BYTES}
 use Rattle.protocol.specs.Request.{Request, change, get, get_schema, rev, query, list, status, snapshot, pump, Asks}
 use Rattle.protocol.specs.Reply.{change_reply, snapshot_reply, pump_reply, value_reply, revision_reply, nodes_reply, names_reply, refusal_reply}
-use Rattle.serve_lines.specs.Status.{status_reply}
+use Rattle.serve_lines.specs.StatusReply.{status_reply}
 use Rattle.serve_lines.specs.declared.options.Options.{Options}
 
 -- the reply to a transaction

@@ -4,11 +4,11 @@ ghost use Rattle.doc_tree.specs.Doc.{Doc};
 ghost use Rattle.doc_changes.specs.Refusals.{plain};
 ghost use Rattle.protocol.specs.Read.{asked_by, IsNoChange, ReadsRequest};
 ghost use Rattle.protocol.specs.Says.{Says};
-ghost use Rattle.serve_lines.specs.Said.{AnswersRequest, IsAnsweredAlone, LineIsAnswered, is_unread};
+ghost use Rattle.serve_lines.specs.LineReplies.{AnswersRequest, IsAnsweredAlone, LineIsAnswered, is_unread};
 ghost use Rattle.protocol.specs.Request as asked;
 ghost use Rattle.protocol.specs.Reply.{line_of, refusal_reply};
-ghost use Rattle.path_eval.specs.View.{listed_of};
-ghost use Rattle.path_parse.specs.View.{query_view};
+ghost use Rattle.path_eval.specs.NodeView.{listed_of};
+ghost use Rattle.path_parse.specs.SyntaxView.{query_view};
 ghost use Rattle.doc_machine.specs.Queries.{nodes_at};
 ghost use Rattle.serve_lines.specs.Session.{selected_reply};
 

@@ -12,7 +12,7 @@ ghost use Rattle.protocol.specs.Reply.{refusal_reply};
 ghost use Rattle.doc_changes.specs.Refusals.{plain};
 ghost use Rattle.protocol.specs.declared.reply.Reply.{Reply as Shown};
 ghost use Rattle.protocol.specs.declared.reply.Reply.TheVariants.{Refused};
-ghost use Rattle.serve_lines.specs.Said.{AllSay, BatchIsAnswered, EndsBatch, IsBatchMade, FollowsBatch, MakesCopyStep, shown_as};
+ghost use Rattle.serve_lines.specs.LineReplies.{AllSay, BatchIsAnswered, EndsBatch, IsBatchMade, FollowsBatch, MakesCopyStep, shown_as};
 ghost use Rattle.serve_lines.specs.Session.{WantsStep, most_of, shown_reply};
 
 use crate::options::Options;

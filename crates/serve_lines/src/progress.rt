@@ -1,6 +1,6 @@
 //! How far serving has come between two reads.
 ghost use Rattle.std.specs.Prelude.{◌≡◌, [], OnOk, OnErr, IfOk, false};
-ghost use Rattle.protocol.specs.Held.{Holds};
+ghost use Rattle.protocol.specs.LineBuffer.{Holds};
 
 use crate::options::Options;
 use crate::session::Session;

@@ -147,8 +147,7 @@ fn answer_all<D: SectorDevice, R: Read, W: Write>(
         × BreaksOff D.disk options.now store.old read (R.remaining reader.new) store.new }
     ensures memory { IsErrOf result Memory → (store.new ≡ store.old) × (reader.new ≡ reader.old) × (writer.new ≡ writer.old) }
 {
-    // From here on the proof knows what the device stands for.
-    let _ = store.status();
+    store.know();
     let Ok(mut progress) = Progress::new(alloc, options) else {
         return Err(ServeFault::Memory);
     };

@@ -3,13 +3,13 @@ ghost use Rattle.std.specs.Prelude.{◌≡◌, ◌≤◌, ◌<◌, ◌+◌, ◌+
 ghost use Rattle.std.specs.Vec.{vec_capacity, vec_len};
 ghost use Rattle.std.specs.VecDeque.{deque_capacity, deque_len};
 ghost use Rattle.doc_machine.specs.Transaction.{transaction_of};
-ghost use Rattle.protocol.specs.Held.{Holds};
+ghost use Rattle.protocol.specs.LineBuffer.{Holds};
 ghost use Rattle.protocol.specs.Lines.{line_feed, HasNoBreak};
 ghost use Rattle.protocol.specs.Read.{asked_by, IsNoChange, ReadsRequest};
 ghost use Rattle.protocol.specs.Request.{Asks, change};
 ghost use Rattle.doc_tree.specs.Doc.{Doc};
 ghost use Rattle.protocol.specs.Says.{Says};
-ghost use Rattle.serve_lines.specs.Said.{GoesOnOrIsRefused, is_unread};
+ghost use Rattle.serve_lines.specs.LineReplies.{GoesOnOrIsRefused, is_unread};
 ghost use Rattle.serve_lines.specs.Session.{most_of};
 
 use crate::answer::answer;

@@ -11,7 +11,7 @@ use Rattle.store_commits.specs.Batch.{AreMade, BatchIsCharged, Commit, IsBatch, 
 use Rattle.store_commits.specs.Charged.{Charged, and_batch, begins}
 use Rattle.store_commits.specs.Committed.{changes}
 use Rattle.store_commits.specs.Run.{Batched, Event, Ran, RanBy, RanInBatches, Reply, change, Refused}
-use Rattle.store_commits.specs.Underway.{Went}
+use Rattle.store_commits.specs.Batching.{RanPrefix}
 use Rattle.store_commits.proofs.Charges.{in_batches}
 use Rattle.store_commits.proofs.Running.{charged_by, joined_by, nothing_by, ran_refused}
 
@@ -36,7 +36,7 @@ made_append disk x y z (failed k kept ∷ ks) ls first second = (first.0, first.
 -- ---- so far
 
 module _ {D : Type 0} (disk : D → Disk) where
-  pub batched : (x y : StoreView D) (cs : List Transaction) (rs : List Reply) → Went disk x y cs rs [] → Batched disk x y cs rs
+  pub batched : (x y : StoreView D) (cs : List Transaction) (rs : List Reply) → RanPrefix disk x y cs rs [] → Batched disk x y cs rs
   batched x y cs rs went =
       let whole = went.goes [] [] y.account (no_more y.account) in
       let charged : BatchIsCharged disk x cs rs y = record {
@@ -53,10 +53,10 @@ module _ {D : Type 0} (disk : D → Disk) where
 
 module _ {D : Type 0} (disk : D → Disk) (coherent : (device : D) → (disk device).honest → IsCoherent (disk device)) where
   -- nothing yet
-  pub went_nowhere : (x : StoreView D) (left : List Transaction) → IsStanding (disk x.device) x.account → Went disk x x [] [] left
+  pub went_nowhere : (x : StoreView D) (left : List Transaction) → IsStanding (disk x.device) x.account → RanPrefix disk x x [] [] left
   went_nowhere x left standing = record { commits = []; goes = λ rs more end rest. rest; made = refl; ran = nothing_by disk coherent (λ _ _ _ _. ⊤) x standing tt }
 
-  module _ (x y z : StoreView D) (cs ds left : List Transaction) (rs qs : List Reply) (first : Went disk x y cs rs (ds ++ left)) (second : Went disk y z ds qs left) where
+  module _ (x y z : StoreView D) (cs ds left : List Transaction) (rs qs : List Reply) (first : RanPrefix disk x y cs rs (ds ++ left)) (second : RanPrefix disk y z ds qs left) where
     goes_both : (more_rs : List Reply) (more : List Commit) (end : Account) → IsBatch z.account left more_rs more end
         → IsBatch x.account ((cs ++ ds) ++ left) ((rs ++ qs) ++ more_rs) ((first.commits ++ second.commits) ++ more) end
     goes_both more_rs more end rest =
@@ -66,7 +66,7 @@ module _ {D : Type 0} (disk : D → Disk) (coherent : (device : D) → (disk dev
         (first.goes (qs ++ more_rs) (second.commits ++ more) end (second.goes more_rs more end rest))))
 
     -- these and those
-    pub went_both : Went disk x z (cs ++ ds) (rs ++ qs) left
+    pub went_both : RanPrefix disk x z (cs ++ ds) (rs ++ qs) left
     went_both = record {
       commits = first.commits ++ second.commits;
       goes = goes_both;
@@ -78,7 +78,7 @@ module _ {D : Type 0} (disk : D → Disk) (coherent : (device : D) → (disk dev
   -- ---- a store that is broken
 
   module _ (x : StoreView D) (left : List Transaction) (standing : IsStanding (disk x.device) x.account) (broken : x.account.broken ≡ true) where
-    one_broken : (c : Transaction) (more : List Transaction) → Went disk x x (c ∷ []) (Refused (plain BROKEN) ∷ []) more
+    one_broken : (c : Transaction) (more : List Transaction) → RanPrefix disk x x (c ∷ []) (Refused (plain BROKEN) ∷ []) more
     one_broken c more = record {
       commits = [];
       goes = λ rs commits end rest. stays_broken x.account end c more rs commits broken rest;
@@ -87,6 +87,6 @@ module _ {D : Type 0} (disk : D → Disk) (coherent : (device : D) → (disk dev
           (ran_refused disk coherent x x c (plain BROKEN) refl (inl (refl, broken)) standing) tt;
     }
 
-    pub all_broken : (cs : List Transaction) → Went disk x x cs (map (λ _. Refused (plain BROKEN)) cs) left
+    pub all_broken : (cs : List Transaction) → RanPrefix disk x x cs (map (λ _. Refused (plain BROKEN)) cs) left
     all_broken [] = went_nowhere x left standing
     all_broken (c ∷ cs) = went_both x x x (c ∷ []) cs left (Refused (plain BROKEN) ∷ []) (map (λ _. Refused (plain BROKEN)) cs) (one_broken c (cs ++ left)) (all_broken cs)

@@ -3,7 +3,7 @@ use Rattle.std.proofs.Common.{◌≡◌, ◌⊎◌, inl, inr, ⊎_elim, ℕ, ◌
 use Rattle.sector_device.specs.Disk.{Disk, Image, IsCoherent, LeavesOnly}
 use Rattle.sector_device.proofs.Moments.{left_now}
 use Rattle.store_journal.specs.Carries.{Carried, Carries, EitherCarried, switched}
-use Rattle.store_journal.specs.View.{View, IsKept, carried_of}
+use Rattle.store_journal.specs.JournalView.{JournalView, IsKept, carried_of}
 use Rattle.doc_changes.specs.State.{State}
 use Rattle.store_commits.specs.Account.{Account, Copy, account_broken, with_copy}
 use Rattle.store_commits.specs.Extents.{EndsWith, Extent, IsEndingWith, IsStandingAs, StandsAs, extent_of}
@@ -13,7 +13,7 @@ use Rattle.store_commits.specs.Images.{Holds}
 -- ---- an image by itself
 
 -- it has the journal's sectors
-pub count : {D : Type 0} (disk : Disk) (journal : View D) → (disk.honest → IsCoherent disk) → IsKept disk journal → disk.honest → (image : Image) → disk.left image → journal.sectors ≡ length image
+pub count : {D : Type 0} (disk : Disk) (journal : JournalView D) → (disk.honest → IsCoherent disk) → IsKept disk journal → disk.honest → (image : Image) → disk.left image → journal.sectors ≡ length image
 count disk journal coherent kept honest image left = sym kept.size ∙ sym ((coherent honest).shape image left).count
 
 -- bytes of format 2 that hold the state, as many and in that half
@@ -29,18 +29,18 @@ stands_as l c version rides half seq holds used image sectors carries = record {
 }
 
 -- it carries the bytes of a journal
-pub as_it_was : {D : Type 0} (disk : Disk) (journal : View D) (state : State) → IsHeld disk journal state → (image : Image) → journal.sectors ≡ length image → disk.honest → Carries (carried_of journal) image
+pub as_it_was : {D : Type 0} (disk : Disk) (journal : JournalView D) (state : State) → IsHeld disk journal state → (image : Image) → journal.sectors ≡ length image → disk.honest → Carries (carried_of journal) image
     → StandsAs (extent_of (account_of journal state)) image
 as_it_was disk journal state held image count_is honest carries =
     stands_as (extent_of (account_of journal state)) (carried_of journal) held.version refl refl held.seq (held.held honest) refl image count_is carries
 
 -- each image of a store that works is as its account
-pub standing_as : {D : Type 0} (disk : Disk) (journal : View D) (state : State) (k : Option Copy) → (disk.honest → IsCoherent disk) → IsHeld disk journal state → IsStandingAs disk (with_copy (account_of journal state) k)
+pub standing_as : {D : Type 0} (disk : Disk) (journal : JournalView D) (state : State) (k : Option Copy) → (disk.honest → IsCoherent disk) → IsHeld disk journal state → IsStandingAs disk (with_copy (account_of journal state) k)
 standing_as disk journal state k coherent held honest works image left =
     as_it_was disk journal state held image (count disk journal coherent held.kept honest image left) honest (held.kept.carried honest works image left)
 
 -- and it ends as the journal's bytes do
-pub ending_as : {D : Type 0} (disk : Disk) (journal : View D) (state : State) → (disk.honest → IsCoherent disk) → IsHeld disk journal state → journal.broken ≡ false → (front ending : List ℕ)
+pub ending_as : {D : Type 0} (disk : Disk) (journal : JournalView D) (state : State) → (disk.honest → IsCoherent disk) → IsHeld disk journal state → journal.broken ≡ false → (front ending : List ℕ)
     → (disk.honest → journal.bytes ≡ front ++ ending) → (a : Account) → extent_of (account_of journal state) ≡ extent_of a → IsEndingWith ending disk a
 unfolding standing_as as_it_was stands_as
 ending_as disk journal state coherent held works front ending ends a is honest image left =
@@ -52,7 +52,7 @@ broken_as a b image is stands = subst (λ (x : Account). StandsAs (extent_of x) 
 
 -- ---- what a commit leaves that a fault hit
 
-module _ {D : Type 0} (disk : D → Disk) (coherent : (device : D) → (disk device).honest → IsCoherent (disk device)) (before now : View D) (state : State) (held : IsHeld (disk before.device) before state)
+module _ {D : Type 0} (disk : D → Disk) (coherent : (device : D) → (disk device).honest → IsCoherent (disk device)) (before now : JournalView D) (state : State) (held : IsHeld (disk before.device) before state)
     (same : (disk before.device).honest ↔ (disk now.device).honest) (kept : IsKept (disk now.device) now) (sectors : now.sectors ≡ before.sectors) where
   -- each image has the journal's sectors
   pub counted : (disk now.device).honest → (image : Image) → (disk now.device).left image → before.sectors ≡ length image

@@ -3,7 +3,7 @@ use Rattle.std.proofs.Common.{◌≡◌, inl, inr, ⊎_elim, ℕ, ◌+◌, List,
 use Rattle.std.specs.List.{list_any}
 use Rattle.std.proofs.lemmas.List.{append_assoc, append-nil}
 use Rattle.sector_device.specs.Disk.{Disk, IsCoherent}
-use Rattle.store_journal.specs.View.{View}
+use Rattle.store_journal.specs.JournalView.{JournalView}
 use Rattle.doc_machine.specs.Transaction.{Transaction, transaction_of}
 use Rattle.doc_machine.specs.declared.transaction.Transaction.{Transaction as Held}
 use Rattle.refusals.specs.declared.numbers.TheConstants.{BROKEN}
@@ -17,7 +17,7 @@ use Rattle.store_commits.specs.Faults.{BatchedUntilFull, is_done}
 use Rattle.store_commits.specs.Folds.{after_each, all_changes}
 use Rattle.store_commits.specs.Inside.{IsStored, account_of, store_view}
 use Rattle.store_commits.specs.Run.{Batched, Refused, Reply}
-use Rattle.store_commits.specs.Underway.{ArePlanned, HasCome, HasCommitted, IsPart, IsReady, IsThrough, WasAnswered, Went, none_planned, one_planned, tried_from}
+use Rattle.store_commits.specs.Batching.{ArePlanned, HasCome, HasCommitted, IsPart, IsReady, StopsAtFull, AnswersPart, RanPrefix, none_planned, one_planned, tried_from}
 use Rattle.store_commits.specs.declared.segment.Segment.{Segment}
 use Rattle.store_commits.proofs.Batches.{all_broken, batched, went_both, went_nowhere}
 use Rattle.store_commits.proofs.Changes.{after_append, seq_counts, state_before}
@@ -26,7 +26,7 @@ use Rattle.store_commits.proofs.Standing.{standing}
 
 module _ {D : Type 0} (disk : D → Disk) (coherent : (device : D) → (disk device).honest → IsCoherent (disk device)) where
   -- nothing is committed yet
-  pub come_nowhere : (start : View D) (s : State) (copy : Option Target) (slots : List Slot) (end : Account) (segments : List Segment) → IsStored (disk start.device) start s copy
+  pub come_nowhere : (start : JournalView D) (s : State) (copy : Option Target) (slots : List Slot) (end : Account) (segments : List Segment) → IsStored (disk start.device) start s copy
       → ArePlanned (with_copy (account_of start s) (copy_of copy)) segments slots end → HasCome disk start s copy slots end start copy segments []
   come_nowhere start s copy slots end segments stored planned = record {
     first = [];
@@ -43,38 +43,38 @@ module _ {D : Type 0} (disk : D → Disk) (coherent : (device : D) → (disk dev
   }
 
   -- these and those
-  module _ (start now new : View D) (s : State) (copy copied more_copied : Option Target) (slots more : List Slot) (front left : List Transaction) (front_is : front ≡ asked more ++ left) (mid b : Account) (rs qs : List Reply)
-      (first : WasAnswered disk start s copy slots front mid now copied rs) where
+  module _ (start now new : JournalView D) (s : State) (copy copied more_copied : Option Target) (slots more : List Slot) (front left : List Transaction) (front_is : front ≡ asked more ++ left) (mid b : Account) (rs qs : List Reply)
+      (first : AnswersPart disk start s copy slots front mid now copied rs) where
     abbrev t : State
     t = after_each s (waiting first.told.first)
 
-    module _ (second : WasAnswered disk now t copied more left b new more_copied qs) where
+    module _ (second : AnswersPart disk now t copied more left b new more_copied qs) where
       state_both : after_each t (waiting second.told.first) ≡ after_each s (waiting (first.told.first ++ second.told.first))
       state_both = sym (ap (after_each s) (waiting_append first.told.first second.told.first) ∙ after_append s (waiting first.told.first) (waiting second.told.first))
 
-      both_went : Went disk (store_view start s copy) (store_view new (after_each t (waiting second.told.first)) more_copied) (asked slots ++ asked more) (rs ++ qs) left
+      both_went : RanPrefix disk (store_view start s copy) (store_view new (after_each t (waiting second.told.first)) more_copied) (asked slots ++ asked more) (rs ++ qs) left
       both_went = went_both disk coherent (store_view start s copy) (store_view now t copied) (store_view new (after_each t (waiting second.told.first)) more_copied) (asked slots) (asked more) left rs qs
-          (subst (Went disk (store_view start s copy) (store_view now t copied) (asked slots) rs) front_is first.went) second.went
+          (subst (RanPrefix disk (store_view start s copy) (store_view now t copied) (asked slots) rs) front_is first.went) second.went
 
-      pub answered_both : WasAnswered disk start s copy (slots ++ more) left b new more_copied (rs ++ qs)
+      pub answered_both : AnswersPart disk start s copy (slots ++ more) left b new more_copied (rs ++ qs)
       answered_both = record {
         told = told_both start.broken now.broken new.broken s.seq t.seq slots more rs qs first.told second.told (seq_counts s (waiting first.told.first))
             (λ fails. ap (λ (v : StoreView D). v.account.broken) (first.went.ran.still fails) ∙ fails) (λ fails. ap (λ (v : StoreView D). v.account.broken) (second.went.ran.still fails) ∙ fails);
         stored = subst (λ (u : State). IsStored (disk new.device) new u more_copied) state_both second.stored;
         account = λ works. subst (λ (u : State). with_copy (account_of new u) (copy_of more_copied) ≡ b) state_both (second.account works);
-        went = subst (λ (u : State). Went disk (store_view start s copy) (store_view new u more_copied) (asked (slots ++ more)) (rs ++ qs) left) state_both
-            (subst (λ (ts : List Transaction). Went disk (store_view start s copy) (store_view new (after_each t (waiting second.told.first)) more_copied) ts (rs ++ qs) left) (sym (asked_append slots more)) both_went);
+        went = subst (λ (u : State). RanPrefix disk (store_view start s copy) (store_view new u more_copied) (asked (slots ++ more)) (rs ++ qs) left) state_both
+            (subst (λ (ts : List Transaction). RanPrefix disk (store_view start s copy) (store_view new (after_each t (waiting second.told.first)) more_copied) ts (rs ++ qs) left) (sym (asked_append slots more)) both_went);
       }
 
   -- what a segment that is committed next makes of it
-  abbrev pub Goes : View D → Option Target → Segment → View D → Option Target → List Reply → List Reply → Type 0
+  abbrev pub Goes : JournalView D → Option Target → Segment → JournalView D → Option Target → List Reply → List Reply → Type 0
   Goes now copied segment new more_copied said more_said = (t : State) (a : Account) (left : List Transaction) (slots : List Slot) (b : Account) → IsStored (disk now.device) now t copied
       → (now.broken ≡ false → with_copy (account_of now t) (copy_of copied) ≡ a) → IsPart a left segment slots b
-      → (more : List Reply) × (more_said ≡ said ++ more) × WasAnswered disk now t copied slots left b new more_copied more
+      → (more : List Reply) × (more_said ≡ said ++ more) × AnswersPart disk now t copied slots left b new more_copied more
 
-  module _ (start now new : View D) (s : State) (copy copied more_copied : Option Target) (slots : List Slot) (end : Account) (said more_said : List Reply) (segment : Segment) (goes : Goes now copied segment new more_copied said more_said) where
+  module _ (start now new : JournalView D) (s : State) (copy copied more_copied : Option Target) (slots : List Slot) (end : Account) (said more_said : List Reply) (segment : Segment) (goes : Goes now copied segment new more_copied said more_said) where
     come_by : (first left : List Slot) (mid : Account) (rest : List Segment) → first ++ left ≡ slots → ArePlanned mid (segment ∷ rest) left end
-        → WasAnswered disk start s copy first (asked left) mid now copied said → HasCome disk start s copy slots end new more_copied rest more_said
+        → AnswersPart disk start s copy first (asked left) mid now copied said → HasCome disk start s copy slots end new more_copied rest more_said
     come_by first _ _ rest parts (one_planned mid b _ _ _ these others part planned) was =
         let one = goes (after_each s (waiting was.told.first)) mid (asked others) these b was.stored was.account part in
         record {
@@ -83,14 +83,14 @@ module _ {D : Type 0} (disk : D → Disk) (coherent : (device : D) → (disk dev
           parts = append_assoc first these others ∙ parts;
           mid = b;
           planned = planned;
-          was = subst (WasAnswered disk start s copy (first ++ these) (asked others) b new more_copied) (sym one.1)
+          was = subst (AnswersPart disk start s copy (first ++ these) (asked others) b new more_copied) (sym one.1)
               (answered_both start now new s copy copied more_copied first these (asked (these ++ others)) (asked others) (asked_append these others) mid b said one.0 was one.2);
         }
 
     pub come_further : (rest : List Segment) → HasCome disk start s copy slots end now copied (segment ∷ rest) said → HasCome disk start s copy slots end new more_copied rest more_said
     come_further rest come = come_by come.first come.left come.mid rest come.parts come.planned come.was
 
-  module _ (start now : View D) (s : State) (copy copied : Option Target) (slots : List Slot) (end : Account) (replies : List Reply) where
+  module _ (start now : JournalView D) (s : State) (copy copied : Option Target) (slots : List Slot) (end : Account) (replies : List Reply) where
     -- the next segment is ready
     ready_by : (t : State) (left : List Slot) (mid : Account) (segment : Segment) (rest : List Segment) → IsStored (disk now.device) now t copied → with_copy (account_of now t) (copy_of copied) ≡ mid → ArePlanned mid (segment ∷ rest) left end
         → IsReady disk now copied segment
@@ -100,15 +100,15 @@ module _ {D : Type 0} (disk : D → Disk) (coherent : (device : D) → (disk dev
     next_ready segment rest come works = ready_by (after_each s (waiting come.was.told.first)) come.left come.mid segment rest come.was.stored (come.was.account works) come.planned
 
     -- all are committed
-    all_by : (first left : List Slot) (mid : Account) → first ++ left ≡ slots → ArePlanned mid [] left end → WasAnswered disk start s copy first (asked left) mid now copied replies → WasAnswered disk start s copy slots [] end now copied replies
-    all_by first _ _ parts (none_planned mid) was = subst (λ (l : List Slot). WasAnswered disk start s copy l [] mid now copied replies) (sym (append-nil first) ∙ parts) was
+    all_by : (first left : List Slot) (mid : Account) → first ++ left ≡ slots → ArePlanned mid [] left end → AnswersPart disk start s copy first (asked left) mid now copied replies → AnswersPart disk start s copy slots [] end now copied replies
+    all_by first _ _ parts (none_planned mid) was = subst (λ (l : List Slot). AnswersPart disk start s copy l [] mid now copied replies) (sym (append-nil first) ∙ parts) was
 
-    pub all_come : (rest : List Segment) → rest ≡ [] → HasCome disk start s copy slots end now copied rest replies → WasAnswered disk start s copy slots [] end now copied replies
+    pub all_come : (rest : List Segment) → rest ≡ [] → HasCome disk start s copy slots end now copied rest replies → AnswersPart disk start s copy slots [] end now copied replies
     all_come rest none come = all_by come.first come.left come.mid come.parts (subst (λ (l : List Segment). ArePlanned come.mid l come.left end) none come.planned) come.was
 
   -- ---- the whole batch
 
-  module _ (start now : View D) (s : State) (copy copied : Option Target) (slots : List Slot) (end : Account) (replies : List Reply) (was : WasAnswered disk start s copy slots [] end now copied replies) where
+  module _ (start now : JournalView D) (s : State) (copy copied : Option Target) (slots : List Slot) (end : Account) (replies : List Reply) (was : AnswersPart disk start s copy slots [] end now copied replies) where
     -- how many changes stand
     pub how_many : start.seq ≡ s.seq → now.seq ≡ start.seq + length (all_changes (waiting was.told.first))
     how_many is = was.stored.held.seq ∙ seq_counts s (waiting was.told.first) ∙ ap (λ (n : ℕ). n + length (all_changes (waiting was.told.first))) (sym is)
@@ -125,7 +125,7 @@ module _ {D : Type 0} (disk : D → Disk) (coherent : (device : D) → (disk dev
       made = subst (λ (u : State). Batched disk (store_view start s copy) (store_view now u copied) (asked slots) replies) (sym machine_is)
           (batched disk (store_view start s copy) (store_view now (after_each s (waiting was.told.first)) copied) (asked slots) replies was.went)
 
-      pub committed : (until_full : Bool) (cs : List Transaction) → IsThrough until_full cs slots → HasCommitted until_full disk (store_view start s copy) cs replies now machine copied
+      pub committed : (until_full : Bool) (cs : List Transaction) → StopsAtFull until_full cs slots → HasCommitted until_full disk (store_view start s copy) cs replies now machine copied
       committed until_full cs through = record {
         stored = subst (λ (u : State). IsStored (disk now.device) now u copied) (sym machine_is) was.stored;
         whole = λ no. subst (λ (ts : List Transaction). Batched disk (store_view start s copy) (store_view now machine copied) ts replies)

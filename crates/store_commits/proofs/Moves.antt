@@ -3,7 +3,7 @@ use Rattle.std.proofs.Common.{Bool, ◌≡◌, inl, inr, List, [], ◌∷◌, �
 use Rattle.std.proofs.lemmas.List.{append-nil}
 use Rattle.sector_device.specs.Disk.{Disk, Image, IsCoherent, LeavesOnly}
 use Rattle.sector_device.proofs.Moments.{joined, leaves_weaker, left_now}
-use Rattle.store_journal.specs.View.{View}
+use Rattle.store_journal.specs.JournalView.{JournalView}
 use Rattle.doc_machine.specs.Transaction.{Transaction}
 use Rattle.doc_changes.specs.State.{State}
 use Rattle.store_commits.specs.Account.{Account, StoreView, with_copy}
@@ -15,20 +15,20 @@ use Rattle.store_commits.specs.Inside.{IsStored, account_of, store_view}
 use Rattle.store_commits.specs.Run.{Reply}
 use Rattle.store_commits.specs.Run.{IsGroup}
 use Rattle.store_commits.specs.Stands.{StandsAfter}
-use Rattle.store_commits.specs.Underway.{AreTold, WasAnswered}
+use Rattle.store_commits.specs.Batching.{RepliesOfPrefix, AnswersPart}
 use Rattle.store_commits.proofs.Batches.{made_append}
 use Rattle.store_commits.proofs.Running.{one_group, widened}
 use Rattle.store_commits.proofs.Slots.{fault_in_doubt, quiet_in_doubt}
 use Rattle.store_commits.proofs.Standing.{not_both, stands_now, standing, stays}
 
 -- By these commits the journal came to hold the state after those that were done. Each image meanwhile stands for the state after some of these, or of those in doubt.
-pub record Moved {D : Type 0} (disk : D → Disk) (before : View D) (state : State) (now : View D) (copied : Option Target) (dones in_doubt : List Transaction) (commits : List Commit) : Type 0 where
+pub record Moved {D : Type 0} (disk : D → Disk) (before : JournalView D) (state : State) (now : JournalView D) (copied : Option Target) (dones in_doubt : List Transaction) (commits : List Commit) : Type 0 where
   pub stored : IsStored (disk now.device) now (after_each state dones) copied
   pub honest : (disk before.device).honest ↔ (disk now.device).honest
   pub any_moment : (disk before.device).honest → LeavesOnly (disk before.device) (disk now.device) (StandsAfter state (dones ++ in_doubt))
   pub made : AreMade disk before.device commits now.device
 
-module _ {D : Type 0} (disk : D → Disk) (coherent : (device : D) → (disk device).honest → IsCoherent (disk device)) (before : View D) (state : State) where
+module _ {D : Type 0} (disk : D → Disk) (coherent : (device : D) → (disk device).honest → IsCoherent (disk device)) (before : JournalView D) (state : State) where
   -- nothing is committed
   pub moved_nowhere : (copy : Option Target) → IsStored (disk before.device) before state copy → before.broken ≡ false → Moved disk before state before copy [] [] []
   moved_nowhere copy stored works = record {
@@ -39,7 +39,7 @@ module _ {D : Type 0} (disk : D → Disk) (coherent : (device : D) → (disk dev
   }
 
   -- these commits, and those behind them
-  pub moved_both : (mid now : View D) (copied more_copied : Option Target) (dones in_doubt : List Transaction) (ks ls : List Commit) → Moved disk before state mid copied [] [] ks → Moved disk mid state now more_copied dones in_doubt ls
+  pub moved_both : (mid now : JournalView D) (copied more_copied : Option Target) (dones in_doubt : List Transaction) (ks ls : List Commit) → Moved disk before state mid copied [] [] ks → Moved disk mid state now more_copied dones in_doubt ls
       → Moved disk before state now more_copied dones in_doubt (ks ++ ls)
   moved_both mid now copied more_copied dones in_doubt ks ls first second = record {
     stored = second.stored;
@@ -52,7 +52,7 @@ module _ {D : Type 0} (disk : D → Disk) (coherent : (device : D) → (disk dev
 
   -- ---- the answer
 
-  module _ (copy : Option Target) (works : before.broken ≡ false) (now : View D) (copied : Option Target) (slots : List Slot) (rs : List Reply) (told : AreTold before.broken now.broken state.seq slots rs)
+  module _ (copy : Option Target) (works : before.broken ≡ false) (now : JournalView D) (copied : Option Target) (slots : List Slot) (rs : List Reply) (told : RepliesOfPrefix before.broken now.broken state.seq slots rs)
       (in_doubt : List Transaction) (commits : List Commit) (moved : Moved disk before state now copied (waiting told.first) in_doubt commits) (none : now.broken ≡ false → in_doubt ≡ []) (undone : now.broken ≡ true → waiting told.first ≡ []) where
     abbrev dones : List Transaction
     dones = waiting told.first
@@ -72,7 +72,7 @@ module _ {D : Type 0} (disk : D → Disk) (coherent : (device : D) → (disk dev
 
     answered_by : (left : List Transaction) (b : Account) → IsGroup old.account (changes (asked slots)) rs dones in_doubt new.account → (now.broken ≡ false → new.account ≡ b)
         → ((qs : List Reply) (more : List Commit) (end : Account) → IsBatch new.account left qs more end → IsBatch old.account (asked slots ++ left) (rs ++ qs) (commits ++ more) end)
-        → WasAnswered disk before state copy slots left b now copied rs
+        → AnswersPart disk before state copy slots left b now copied rs
     answered_by left b group account goes = record {
       told = told;
       stored = moved.stored;
@@ -96,7 +96,7 @@ module _ {D : Type 0} (disk : D → Disk) (coherent : (device : D) → (disk dev
       };
     }
 
-  module _ (copy : Option Target) (works : before.broken ≡ false) (now : View D) (slots : List Slot) (commits : List Commit) (left : List Transaction) (b : Account) where
+  module _ (copy : Option Target) (works : before.broken ≡ false) (now : JournalView D) (slots : List Slot) (commits : List Commit) (left : List Transaction) (b : Account) where
     abbrev a : Account
     a = with_copy (account_of before state) (copy_of copy)
 
@@ -105,9 +105,9 @@ module _ {D : Type 0} (disk : D → Disk) (coherent : (device : D) → (disk dev
         → IsGroup a (changes (asked slots)) (replies_done state.seq slots) (waiting slots) [] (with_copy (account_of now (after_each state (waiting slots))) (copy_of copied))
         → ((qs : List Reply) (more : List Commit) (end : Account) → IsBatch (with_copy (account_of now (after_each state (waiting slots))) (copy_of copied)) left qs more end
         → IsBatch a (asked slots ++ left) (replies_done state.seq slots ++ qs) (commits ++ more) end)
-        → WasAnswered disk before state copy slots left b now copied (replies_done state.seq slots)
+        → AnswersPart disk before state copy slots left b now copied (replies_done state.seq slots)
     done_answered copied moved fine account group goes =
-        let told : AreTold before.broken now.broken state.seq slots (replies_done state.seq slots) = record {
+        let told : RepliesOfPrefix before.broken now.broken state.seq slots (replies_done state.seq slots) = record {
           first = slots;
           lost = [];
           parts = append-nil slots;
@@ -124,9 +124,9 @@ module _ {D : Type 0} (disk : D → Disk) (coherent : (device : D) → (disk dev
     pub in_doubt_answered : Moved disk before state now None [] (waiting slots) commits → now.broken ≡ true → (t : Transaction) (others : List Transaction) → waiting slots ≡ t ∷ others
         → IsGroup a (changes (asked slots)) (replies_in_doubt slots) [] (waiting slots) (account_of now state)
         → ((qs : List Reply) (more : List Commit) (end : Account) → IsBatch (account_of now state) left qs more end → IsBatch a (asked slots ++ left) (replies_in_doubt slots ++ qs) (commits ++ more) end)
-        → WasAnswered disk before state copy slots left b now None (replies_in_doubt slots)
+        → AnswersPart disk before state copy slots left b now None (replies_in_doubt slots)
     in_doubt_answered moved broken t others some group goes =
-        let told : AreTold before.broken now.broken state.seq slots (replies_in_doubt slots) = record {
+        let told : RepliesOfPrefix before.broken now.broken state.seq slots (replies_in_doubt slots) = record {
           first = [];
           lost = slots;
           parts = refl;

@@ -8,7 +8,7 @@ use Rattle.doc_changes.specs.declared.refusal.Refusal.{Refusal}
 use Rattle.refusals.specs.declared.numbers.TheConstants.{BROKEN, DEVICE, FULL}
 use Rattle.store_commits.specs.Account.{Account, account_broken}
 use Rattle.store_commits.specs.Answers.{Answers, IsDone, account_with, size_of}
-use Rattle.store_commits.specs.Batch.{Commit, Intent, IsAlone, IsBatch, alone_done, alone_full, behind_failed, by_itself, commit_in_doubt, commit_made, failed, no_more, passed, snapshot_failed, stays_broken, to_append, to_append_behind, to_snapshot}
+use Rattle.store_commits.specs.Batch.{Commit, Intent, AnswersForced, IsBatch, alone_done, alone_full, behind_failed, by_itself, commit_in_doubt, commit_made, failed, no_more, passed, snapshot_failed, stays_broken, to_append, to_append_behind, to_snapshot}
 use Rattle.store_commits.specs.Committed.{said, waits}
 use Rattle.store_commits.specs.Folds.{frames_at}
 use Rattle.store_commits.specs.Room.{Fits, IsOver}
@@ -92,7 +92,7 @@ record WentAlone (a : Account) (c : Transaction) (reply : Reply) (commits : List
   reply_is : reply ≡ reply_of Done outcome
   are : AreOf a c outcome commits b
 
-went_alone : (a b : Account) (c : Transaction) (reply : Reply) (commits : List Commit) → IsAlone a c reply commits b → refusal_in a.state c ≡ None → IsOver a (size_of c) → WentAlone a c reply commits b
+went_alone : (a b : Account) (c : Transaction) (reply : Reply) (commits : List Commit) → AnswersForced a c reply commits b → refusal_in a.state c ≡ None → IsOver a (size_of c) → WentAlone a c reply commits b
 went_alone _ _ _ _ _ (alone_done a b c seq is) accepted no_room = record { outcome = Ok seq; answers = is; reply_is = refl; are = over seq b no_room is.new_is }
 went_alone _ _ _ _ _ (snapshot_failed a b c accepts is) accepted no_room =
     record { outcome = Err (plain DEVICE); answers = inl (refl, record { accepts = accepts; new_is = inl is }); reply_is = refl; are = snapshot_in_doubt b no_room is }

@@ -8,7 +8,7 @@ use Rattle.sector_device.specs.Sectors.{sectors_of}
 use Rattle.store_journal.specs.Layout.{capacity_of}
 use Rattle.store_journal.specs.Calls.{Broke, Switched, Takes}
 use Rattle.store_journal.specs.Carries.{switched}
-use Rattle.store_journal.specs.View.{View, carried_of}
+use Rattle.store_journal.specs.JournalView.{JournalView, carried_of}
 use Rattle.store_journal.specs.Writes.{append_calls}
 use Rattle.doc_machine.specs.Transaction.{AreFramed, AreGood, Transaction, after_in, changes_of, refusal_in}
 use Rattle.refusals.specs.declared.numbers.TheConstants.{BROKEN, DEVICE, FULL}
@@ -17,7 +17,7 @@ use Rattle.doc_changes.specs.Refusals.{plain}
 use Rattle.doc_changes.specs.State.{State}
 use Rattle.store_commits.specs.Account.{Account, account_broken, with_copy}
 use Rattle.store_commits.specs.Answers.{Accepts, IsDone, IsInDoubt, account_with, size_of}
-use Rattle.store_commits.specs.Batch.{Commit, Intent, IsAlone, alone_done, alone_full, behind_failed, by_itself, failed, passed, snapshot_failed, to_append, to_append_behind, to_snapshot}
+use Rattle.store_commits.specs.Batch.{Commit, Intent, AnswersForced, alone_done, alone_full, behind_failed, by_itself, failed, passed, snapshot_failed, to_append, to_append_behind, to_snapshot}
 use Rattle.store_commits.specs.Committed.{Slot, AreJudged, waits, said, asked, waiting, sizes_of, account_behind, account_committed, replies_done, replies_in_doubt}
 use Rattle.store_commits.specs.Copying.{Target, copy_of, target_with}
 use Rattle.store_commits.specs.Extents.{extent_of}
@@ -29,7 +29,7 @@ use Rattle.store_commits.specs.Run.{change, Done, Refused, was_answered}
 use Rattle.store_commits.specs.Snapshot.{RemakesAll, snapshot_bytes}
 use Rattle.store_commits.specs.SnapshotAnswers.{account_with_snapshot}
 use Rattle.store_commits.specs.Stands.{StandsAfter}
-use Rattle.store_commits.specs.Underway.{ArePlanned, IsAppended, IsAppendedBehind, IsPart, IsSegment, IsTried, WasAnswered, answered, behind, bytes_in, fate_of, full, none_planned, one_planned, replies_in, together}
+use Rattle.store_commits.specs.Batching.{ArePlanned, IsAppended, IsAppendedBehind, IsPart, IsSegment, IsTried, AnswersPart, answered, behind, bytes_in, fate_of, full, none_planned, one_planned, replies_in, together}
 use Rattle.store_commits.specs.declared.event.Reply.{Reply}
 use Rattle.store_commits.specs.declared.segment.Fate.TheVariants.{Committed, InDoubt, NotBegun}
 use Rattle.store_commits.specs.declared.segment.Segment.{Segment}
@@ -98,7 +98,7 @@ planned_bytes _ _ _ _ (one_planned a b end segment segments slots more part rest
 
 -- ---- a transaction behind a snapshot
 
-module _ {D : Type 0} (disk : D → Disk) (coherent : (device : D) → (disk device).honest → IsCoherent (disk device)) (before : View D) (state : State) (copy : Option Target) (works : before.broken ≡ false) (stored : IsStored (disk before.device) before state copy) where
+module _ {D : Type 0} (disk : D → Disk) (coherent : (device : D) → (disk device).honest → IsCoherent (disk device)) (before : JournalView D) (state : State) (copy : Option Target) (works : before.broken ≡ false) (stored : IsStored (disk before.device) before state copy) where
   abbrev d : Account
   d = with_copy (account_of before state) (copy_of copy)
 
@@ -106,14 +106,14 @@ module _ {D : Type 0} (disk : D → Disk) (coherent : (device : D) → (disk dev
   snapshot = snapshot_bytes state.documents
 
   -- the snapshot's own commit ended so
-  abbrev Tried : View D → Type 0 → Type 0
+  abbrev Tried : JournalView D → Type 0 → Type 0
   Tried now Outcome = IsTried disk before now (switched (carried_of before) snapshot) Outcome
 
   remakes : RemakesAll state
   remakes = remakes_all framed_storable state stored.held.good
 
   -- it was made
-  snapshot_made : (mid : View D) → Tried mid (Switched (disk before.device) (disk mid.device) before mid snapshot (sectors_of (length snapshot) + 3)) → Moved disk before state mid None [] [] (passed (to_snapshot d) ∷ [])
+  snapshot_made : (mid : JournalView D) → Tried mid (Switched (disk before.device) (disk mid.device) before mid snapshot (sectors_of (length snapshot) + 3)) → Moved disk before state mid None [] [] (passed (to_snapshot d) ∷ [])
   snapshot_made mid is =
       let held = held_snapped (disk before.device) (disk mid.device) before mid state remakes stored.held is.honest is.kept is.outcome in
       let then = snapped_is (disk before.device) (disk mid.device) before mid state remakes stored.held is.honest is.kept (copy_of copy) works is.outcome in
@@ -132,7 +132,7 @@ module _ {D : Type 0} (disk : D → Disk) (coherent : (device : D) → (disk dev
       }
 
   -- or the device failed in it
-  snapshot_missed : (now : View D) → Tried now (Broke (disk before.device) (disk now.device) (sectors_of (length snapshot) + 3) before now) → (in_doubt : List Transaction) → Moved disk before state now None [] in_doubt (failed (to_snapshot d) (account_of now state) ∷ [])
+  snapshot_missed : (now : JournalView D) → Tried now (Broke (disk before.device) (disk now.device) (sectors_of (length snapshot) + 3) before now) → (in_doubt : List Transaction) → Moved disk before state now None [] in_doubt (failed (to_snapshot d) (account_of now state) ∷ [])
   snapshot_missed now is in_doubt = record {
     stored = record { held = held_broke (disk before.device) (disk now.device) before now state _ is.outcome stored.held is.honest is.kept; copied = tt };
     honest = is.honest;
@@ -157,8 +157,8 @@ module _ {D : Type 0} (disk : D → Disk) (coherent : (device : D) → (disk dev
     abbrev slots : List Slot
     slots = waits c ∷ []
 
-    behind_in_doubt : (now : View D) → now.broken ≡ true → IsInDoubt d c (account_of now state) → (commits : List Commit) → IsAlone d c (Refused (plain DEVICE)) commits (account_of now state)
-        → Moved disk before state now None [] (c ∷ []) commits → WasAnswered disk before state copy slots left (account_with d c) now None (replies_in_doubt slots)
+    behind_in_doubt : (now : JournalView D) → now.broken ≡ true → IsInDoubt d c (account_of now state) → (commits : List Commit) → AnswersForced d c (Refused (plain DEVICE)) commits (account_of now state)
+        → Moved disk before state now None [] (c ∷ []) commits → AnswersPart disk before state copy slots left (account_with d c) now None (replies_in_doubt slots)
     behind_in_doubt now broken in_doubt commits by moved =
         in_doubt_answered disk coherent before state copy works now slots commits left (account_with d c) moved broken c [] refl
         (was_answered d (account_of now state) (change c) (Refused (plain DEVICE)) (inl (refl, in_doubt)))
@@ -166,7 +166,7 @@ module _ {D : Type 0} (disk : D → Disk) (coherent : (device : D) → (disk dev
 
     -- the snapshot was made, and left the journal as mid
 
-    module _ (mid : View D) (turned_over : Tried mid (Switched (disk before.device) (disk mid.device) before mid snapshot (sectors_of (length snapshot) + 3))) where
+    module _ (mid : JournalView D) (turned_over : Tried mid (Switched (disk before.device) (disk mid.device) before mid snapshot (sectors_of (length snapshot) + 3))) where
       first : Moved disk before state mid None [] [] (passed (to_snapshot d) ∷ [])
       first = snapshot_made mid turned_over
 
@@ -182,8 +182,8 @@ module _ {D : Type 0} (disk : D → Disk) (coherent : (device : D) → (disk dev
       intent_is : to_append (account_of mid state) slots ≡ to_append_behind d c
       intent_is = λ i. record { calls = append_calls (mid_is i).rides (mid_is i).used (none_more (size_of c) i); made = made_is i; ending = frames_at state.seq (append-nil (changes_of c) i) }
 
-      turned : (now : View D) (fine : Bool) → IsAppended disk mid now (frames_at state.seq (all_changes (c ∷ []))) (length (all_changes (c ∷ []))) fine
-          → WasAnswered disk before state copy slots left (account_with d c) now None (replies_by fine state.seq slots)
+      turned : (now : JournalView D) (fine : Bool) → IsAppended disk mid now (frames_at state.seq (all_changes (c ∷ []))) (length (all_changes (c ∷ []))) fine
+          → AnswersPart disk before state copy slots left (account_with d c) now None (replies_by fine state.seq slots)
       turned now true appended =
           let ok = appended.outcome.0 refl in
           let b = account_of now (after_in state c) in
@@ -204,19 +204,19 @@ module _ {D : Type 0} (disk : D → Disk) (coherent : (device : D) → (disk dev
           (moved_both disk coherent before state mid now None None [] (c ∷ []) (passed (to_snapshot d) ∷ []) (failed (to_append (account_of mid state) slots) (account_of now state) ∷ []) first
           (moved_in_doubt disk coherent mid state None slots turned_over.outcome.works judged framed good first.stored c [] refl now false appended broke)))
 
-    behind_answered : (now : View D) (fine : Bool) → IsAppendedBehind disk before now snapshot (frames_at state.seq (all_changes (c ∷ []))) (length (all_changes (c ∷ []))) fine
-        → WasAnswered disk before state copy slots left (account_with d c) now None (replies_by fine state.seq slots)
+    behind_answered : (now : JournalView D) (fine : Bool) → IsAppendedBehind disk before now snapshot (frames_at state.seq (all_changes (c ∷ []))) (length (all_changes (c ∷ []))) fine
+        → AnswersPart disk before state copy slots left (account_with d c) now None (replies_by fine state.seq slots)
     behind_answered now fine (inl was) = turned was.0 was.1 now fine was.2
     behind_answered now fine (inr none) =
         let then = broke_is (disk before.device) (disk now.device) before now state _ none.1.outcome in
-        subst (λ (b : Bool). WasAnswered disk before state copy slots left (account_with d c) now None (replies_by b state.seq slots)) (sym none.0)
+        subst (λ (b : Bool). AnswersPart disk before state copy slots left (account_with d c) now None (replies_by b state.seq slots)) (sym none.0)
         (behind_in_doubt now none.1.outcome.broken (record { accepts = accepts; new_is = inl then }) (failed (to_snapshot d) (account_of now state) ∷ []) (snapshot_failed d (account_of now state) c accepts then) (snapshot_missed now none.1 (c ∷ [])))
 
   -- ---- whatever the segment is
 
   -- nothing waits
   nothing_by : (left : List Transaction) (slots : List Slot) (b : Account) → IsSegment d left None slots b → AreFramed (all_changes (waiting slots)) → AreGood state (all_changes (waiting slots)) → length (all_changes (waiting slots)) ≡ 0
-      → WasAnswered disk before state copy slots left b before copy (replies_done state.seq slots)
+      → AnswersPart disk before state copy slots left b before copy (replies_done state.seq slots)
   nothing_by left _ _ (together slots judged forced) framed good few = was_nothing disk coherent before state copy slots works judged framed good stored (none_in d slots judged few) left forced
   nothing_by left _ _ (full c accepted no_room) framed good few =
       done_answered disk coherent before state copy works before (said c (plain FULL) ∷ []) [] left d copy (moved_nowhere disk coherent before state copy stored works) works refl
@@ -225,16 +225,16 @@ module _ {D : Type 0} (disk : D → Disk) (coherent : (device : D) → (disk dev
 
   -- some wait
   some_by : (left : List Transaction) (slots : List Slot) (b : Account) → IsSegment d left None slots b → AreFramed (all_changes (waiting slots)) → AreGood state (all_changes (waiting slots)) → (length (all_changes (waiting slots)) ≡ 0 → ⊥)
-      → (now : View D) (fine : Bool) → IsAppended disk before now (frames_at state.seq (all_changes (waiting slots))) (length (all_changes (waiting slots))) fine
+      → (now : JournalView D) (fine : Bool) → IsAppended disk before now (frames_at state.seq (all_changes (waiting slots))) (length (all_changes (waiting slots))) fine
       → (copied : Option Target) → (fine ≡ true → copied ≡ target_with (frames_at state.seq (all_changes (waiting slots))) copy) → (fine ≡ false → copied ≡ None)
-      → WasAnswered disk before state copy slots left b now copied (replies_by fine state.seq slots)
+      → AnswersPart disk before state copy slots left b now copied (replies_by fine state.seq slots)
   some_by left _ _ (together slots judged forced) framed good some now true appended copied grown dropped =
       let first = some_in (waiting slots) some in
-      subst (λ (t : Option Target). WasAnswered disk before state copy slots left (account_committed d slots) now t (replies_done state.seq slots)) (sym (grown refl))
+      subst (λ (t : Option Target). AnswersPart disk before state copy slots left (account_committed d slots) now t (replies_done state.seq slots)) (sym (grown refl))
       (was_made disk coherent before state copy slots works judged framed good stored first.0 first.1 first.2 now true appended (appended.outcome.0 refl) left forced)
   some_by left _ _ (together slots judged forced) framed good some now false appended copied grown dropped =
       let first = some_in (waiting slots) some in
-      subst (λ (t : Option Target). WasAnswered disk before state copy slots left (account_committed d slots) now t (replies_in_doubt slots)) (sym (dropped refl))
+      subst (λ (t : Option Target). AnswersPart disk before state copy slots left (account_committed d slots) now t (replies_in_doubt slots)) (sym (dropped refl))
       (was_in_doubt disk coherent before state copy slots works judged framed good stored first.0 first.1 first.2 now false appended (appended.outcome.1 refl) left forced)
   some_by left _ _ (full c accepted no_room) framed good some now fine appended copied grown dropped = absurd (some refl)
 
@@ -245,8 +245,8 @@ module _ {D : Type 0} (disk : D → Disk) (coherent : (device : D) → (disk dev
 
   -- one waits behind a snapshot
   behind_by : (left : List Transaction) (v : Vec ℕ Global) (slots : List Slot) (b : Account) → IsSegment d left (Some v) slots b → AreFramed (all_changes (waiting slots)) → AreGood state (all_changes (waiting slots))
-      → (now : View D) (fine : Bool) → IsAppendedBehind disk before now v.items (frames_at state.seq (all_changes (waiting slots))) (length (all_changes (waiting slots))) fine
-      → WasAnswered disk before state copy slots left b now None (replies_by fine state.seq slots)
+      → (now : JournalView D) (fine : Bool) → IsAppendedBehind disk before now v.items (frames_at state.seq (all_changes (waiting slots))) (length (all_changes (waiting slots))) fine
+      → AnswersPart disk before state copy slots left b now None (replies_by fine state.seq slots)
   behind_by left _ _ _ (behind c v bytes accepted over fits) framed good now fine appended =
       behind_answered left c accepted over fits framed good now fine
       (subst (λ (l : List ℕ). IsAppendedBehind disk before now l (frames_at state.seq (all_changes (c ∷ []))) (length (all_changes (c ∷ []))) fine) bytes appended)
@@ -271,21 +271,21 @@ module _ {D : Type 0} (disk : D → Disk) (coherent : (device : D) → (disk dev
     as_one : (o : Option (Vec ℕ Global)) → segment.snapshot ≡ o → IsSegment d left o slots b
     as_one o is = subst (λ (v : Option (Vec ℕ Global)). IsSegment d left v slots b) is part.is
 
-    pub none_waits : segment.snapshot ≡ None → segment.adds ≡ 0 → WasAnswered disk before state copy slots left b before copy (map (answered Committed) segment.replies.items)
-    none_waits none few = subst (WasAnswered disk before state copy slots left b before copy) (sym (said_by true state.seq slots segment.replies.items part.replies))
+    pub none_waits : segment.snapshot ≡ None → segment.adds ≡ 0 → AnswersPart disk before state copy slots left b before copy (map (answered Committed) segment.replies.items)
+    none_waits none few = subst (AnswersPart disk before state copy slots left b before copy) (sym (said_by true state.seq slots segment.replies.items part.replies))
         (nothing_by left slots b (as_one None none) part.has.framed part.has.good (sym part.has.adds ∙ few))
 
-    pub some_wait : segment.snapshot ≡ None → (segment.adds ≡ 0 → ⊥) → (now : View D) (fine : Bool) → IsAppended disk before now segment.frames.items segment.adds fine
+    pub some_wait : segment.snapshot ≡ None → (segment.adds ≡ 0 → ⊥) → (now : JournalView D) (fine : Bool) → IsAppended disk before now segment.frames.items segment.adds fine
         → (copied : Option Target) → (fine ≡ true → copied ≡ target_with segment.frames.items copy) → (fine ≡ false → copied ≡ None)
-        → WasAnswered disk before state copy slots left b now copied (map (answered (fate_of fine)) segment.replies.items)
-    some_wait none some now fine appended copied grown dropped = subst (WasAnswered disk before state copy slots left b now copied) (sym (said_by fine state.seq slots segment.replies.items part.replies))
+        → AnswersPart disk before state copy slots left b now copied (map (answered (fate_of fine)) segment.replies.items)
+    some_wait none some now fine appended copied grown dropped = subst (AnswersPart disk before state copy slots left b now copied) (sym (said_by fine state.seq slots segment.replies.items part.replies))
         (some_by left slots b (as_one None none) part.has.framed part.has.good (λ few. some (part.has.adds ∙ few)) now fine
         (subst (λ (q : List ℕ × ℕ). IsAppended disk before now q.0 q.1 fine) (λ i. (part.has.frames i, part.has.adds i)) appended)
         copied (λ made. grown made ∙ ap (λ (l : List ℕ). target_with l copy) part.has.frames) dropped)
 
-    pub one_behind : (v : Vec ℕ Global) → segment.snapshot ≡ Some v → (now : View D) (fine : Bool) → IsAppendedBehind disk before now v.items segment.frames.items segment.adds fine
-        → WasAnswered disk before state copy slots left b now None (map (answered (fate_of fine)) segment.replies.items)
-    one_behind v is now fine appended = subst (WasAnswered disk before state copy slots left b now None) (sym (said_by fine state.seq slots segment.replies.items part.replies))
+    pub one_behind : (v : Vec ℕ Global) → segment.snapshot ≡ Some v → (now : JournalView D) (fine : Bool) → IsAppendedBehind disk before now v.items segment.frames.items segment.adds fine
+        → AnswersPart disk before state copy slots left b now None (map (answered (fate_of fine)) segment.replies.items)
+    one_behind v is now fine appended = subst (AnswersPart disk before state copy slots left b now None) (sym (said_by fine state.seq slots segment.replies.items part.replies))
         (behind_by left v slots b (as_one (Some v) is) part.has.framed part.has.good now fine
         (subst (λ (q : List ℕ × ℕ). IsAppendedBehind disk before now v.items q.0 q.1 fine) (λ i. (part.has.frames i, part.has.adds i)) appended))
 
@@ -305,10 +305,10 @@ broken_fault [] = inl refl
 broken_fault (waits c ∷ _) = inr refl
 broken_fault (said c r ∷ slots) = inr refl
 
-pub not_begun : {D : Type 0} (disk : D → Disk) (coherent : (device : D) → (disk device).honest → IsCoherent (disk device)) (before : View D) (state : State) (copy : Option Target) → IsStored (disk before.device) before state copy → before.broken ≡ true
+pub not_begun : {D : Type 0} (disk : D → Disk) (coherent : (device : D) → (disk device).honest → IsCoherent (disk device)) (before : JournalView D) (state : State) (copy : Option Target) → IsStored (disk before.device) before state copy → before.broken ≡ true
     → (a : Account) (left : List Transaction) (segment : Segment) (slots : List Slot) (b : Account) → IsPart a left segment slots b
-    → WasAnswered disk before state copy slots left b before copy (map (answered NotBegun) segment.replies.items)
-not_begun disk coherent before state copy stored broken a left segment slots b part = subst (WasAnswered disk before state copy slots left b before copy) (sym (all_not_begun segment.replies.items (asked slots) (part_replies a left segment slots b part))) (record {
+    → AnswersPart disk before state copy slots left b before copy (map (answered NotBegun) segment.replies.items)
+not_begun disk coherent before state copy stored broken a left segment slots b part = subst (AnswersPart disk before state copy slots left b before copy) (sym (all_not_begun segment.replies.items (asked slots) (part_replies a left segment slots b part))) (record {
   told = record {
     first = [];
     lost = slots;

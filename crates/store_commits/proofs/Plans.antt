@@ -18,7 +18,7 @@ use Rattle.store_commits.specs.Folds.{after_each, all_changes, frames_at}
 use Rattle.store_commits.specs.Room.{IsOver}
 use Rattle.store_commits.specs.Run.{Done, Refused}
 use Rattle.store_commits.specs.Snapshot.{snapshot_bytes}
-use Rattle.store_commits.specs.Underway.{ArePlanned, GoesFurther, HasFrames, IsEmpty, IsPart, IsPlanning, IsSegment, behind, full, none_planned, one_planned, together, tried_from}
+use Rattle.store_commits.specs.Batching.{ArePlanned, PlansOneMore, HasFrames, IsEmpty, IsPart, IsPlanning, IsSegment, behind, full, none_planned, one_planned, together, tried_from}
 use Rattle.store_commits.specs.declared.event.Reply.{Reply}
 use Rattle.store_commits.specs.declared.plan.Planning.{Planning}
 use Rattle.store_commits.specs.declared.segment.Segment.{Segment}
@@ -80,7 +80,7 @@ module _ (a : Account) (slots : List Slot) (p : Planning) (t : TrialView) (is : 
 
     -- it is refused
     pub further_said : (r : Refusal) → refusal_in t.state c ≡ Some r → (replies : Vec Reply Global) → replies.items ≡ p.last.replies.items ++ Refused r ∷ []
-        → GoesFurther a slots c false (record p { last = record p.last { replies = replies } }) t
+        → PlansOneMore a slots c false (record p { last = record p.last { replies = replies } }) t
     further_said r refuses replies replies_are = (
       said c r,
       refl,
@@ -126,7 +126,7 @@ module _ (a : Account) (slots : List Slot) (p : Planning) (t : TrialView) (is : 
         -- and it waits
         pub further_waits : (frames : Vec ℕ Global) → frames.items ≡ p.last.frames.items ++ frames_of → (replies : Vec Reply Global) → replies.items ≡ p.last.replies.items ++ Done u.state.seq ∷ []
             → (left bytes adds : ℕ) → left + size_of c ≡ p.left → bytes ≡ p.bytes + size_of c → adds ≡ p.last.adds + length (changes_of c)
-            → GoesFurther a slots c false (record p { left = left; bytes = bytes; last = record p.last { frames = frames; adds = adds; replies = replies } }) u
+            → PlansOneMore a slots c false (record p { left = left; bytes = bytes; last = record p.last { frames = frames; adds = adds; replies = replies } }) u
         further_waits frames frames_are replies replies_are left bytes adds left_is bytes_are adds_are =
             let ts = waiting since in
             let before : t.state.seq ≡ mid.state.seq + length (all_changes ts) = ap (λ (s : State). s.seq) is.state ∙ seq_counts mid.state ts in
@@ -204,7 +204,7 @@ module _ (a : Account) (slots : List Slot) (p : Planning) (t : TrialView) (is : 
         -- a snapshot leaves no room for it either
         pub further_full : (snapshot : List ℕ) → snapshot ≡ snapshot_bytes t.state.documents → p.capacity < length snapshot + size_of c
             → other.snapshot ≡ None → other.frames.items ≡ [] → other.adds ≡ 0 → other.replies.items ≡ Refused (plain FULL) ∷ []
-            → (u : TrialView) → u ≡ t → GoesFurther a slots c true (record p { segments = segments; last = last }) u
+            → (u : TrialView) → u ≡ t → PlansOneMore a slots c true (record p { segments = segments; last = last }) u
         further_full snapshot snapshot_is wide no_snapshot no_frames no_adds says u same =
             let size : length snapshot ≡ length (snapshot_bytes b.state.documents) = ap length snapshot_is ∙ ap (λ (s : State). length (snapshot_bytes s.documents)) (sym state_then) in
             let half = is.capacity in
@@ -230,7 +230,7 @@ module _ (a : Account) (slots : List Slot) (p : Planning) (t : TrialView) (is : 
         pub further_behind : (u : TrialView) → AreMade t (changes_of c) u → (snapshot : Vec ℕ Global) → snapshot.items ≡ snapshot_bytes t.state.documents → length snapshot.items + size_of c ≤ p.capacity
             → other.snapshot ≡ Some snapshot → other.frames.items ≡ frames_of → other.adds ≡ length (changes_of c) → other.replies.items ≡ Done u.state.seq ∷ []
             → (left bytes : ℕ) → left + (length snapshot.items + size_of c) ≡ p.capacity → bytes ≡ p.bytes + size_of c
-            → GoesFurther a slots c false (record p { left = left; bytes = bytes; segments = segments; last = last }) u
+            → PlansOneMore a slots c false (record p { left = left; bytes = bytes; segments = segments; last = last }) u
         further_behind u made snapshot snapshot_is fits some_snapshot frames adds says left bytes left_is bytes_are =
             let documents = ap (λ (s : State). snapshot_bytes s.documents) (sym state_then) in
             let size = ap length snapshot_is ∙ ap length documents in

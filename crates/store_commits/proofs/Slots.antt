@@ -15,7 +15,7 @@ use Rattle.store_commits.specs.Committed.{Slot, waits, said, asked, waiting, acc
 use Rattle.store_commits.specs.Faults.{StopsAtFault, is_done, is_fault}
 use Rattle.store_commits.specs.Folds.{all_changes}
 use Rattle.store_commits.specs.Run.{Done, Refused, Reply}
-use Rattle.store_commits.specs.Underway.{AreTold, EndsAtFault, slot_fault}
+use Rattle.store_commits.specs.Batching.{RepliesOfPrefix, EndsAtFault, slot_fault}
 
 pub asked_append : (xs ys : List Slot) → asked (xs ++ ys) ≡ asked xs ++ asked ys
 asked_append [] ys = refl
@@ -127,7 +127,7 @@ stops_by seq (said t r ∷ first) lost rest ends quiet = (
   stops_by seq first lost rest ends.1 quiet,
 )
 
-module _ (before after : Bool) (seq : ℕ) (slots : List Slot) (replies : List Reply) (told : AreTold before after seq slots replies) where
+module _ (before after : Bool) (seq : ℕ) (slots : List Slot) (replies : List Reply) (told : RepliesOfPrefix before after seq slots replies) where
   pub told_stops : EndsAtFault slots → StopsAtFault replies
   told_stops ends = subst StopsAtFault (sym told.replies_are) (stops_by seq told.first told.lost told.rest (subst EndsAtFault (sym told.parts) ends) told.quiet)
 
@@ -142,7 +142,7 @@ swap {X} a b c d (inl none) =
 swap {X} a b c d (inr none) =
     ap (λ (l : List X). (a ++ l) ++ (b ++ d)) none ∙ ap (λ (l : List X). l ++ (b ++ d)) (append-nil a) ∙ sym (append_assoc a b d) ∙ ap (λ (l : List X). (a ++ b) ++ (l ++ d)) (sym none)
 
-module _ (a b c : Bool) (seq then : ℕ) (slots more : List Slot) (rs qs : List Reply) (first : AreTold a b seq slots rs) (second : AreTold b c then more qs) where
+module _ (a b c : Bool) (seq then : ℕ) (slots more : List Slot) (rs qs : List Reply) (first : RepliesOfPrefix a b seq slots rs) (second : RepliesOfPrefix b c then more qs) where
   -- these were committed, or none of those
   pub apart : (broken : Bool) → b ≡ broken → ((first.lost ≡ []) × (first.rest ≡ [])) ⊎ (second.first ≡ [])
   apart true is = inr (second.none_first is)
@@ -154,7 +154,7 @@ module _ (a b c : Bool) (seq then : ℕ) (slots more : List Slot) (rs qs : List 
   worked false is stays fine = is
 
   -- these and those
-  abbrev pub told_both : then ≡ seq + length (all_changes (waiting first.first)) → (a ≡ true → b ≡ true) → (b ≡ true → c ≡ true) → AreTold a c seq (slots ++ more) (rs ++ qs)
+  abbrev pub told_both : then ≡ seq + length (all_changes (waiting first.first)) → (a ≡ true → b ≡ true) → (b ≡ true → c ≡ true) → RepliesOfPrefix a c seq (slots ++ more) (rs ++ qs)
   told_both seq_is stayed stays = record {
     first = first.first ++ second.first;
     lost = first.lost ++ second.lost;

@@ -5,7 +5,7 @@ use Rattle.sector_device.proofs.Moments.{leaves_weaker}
 use Rattle.sector_device.specs.Sectors.{sectors_of}
 use Rattle.store_journal.specs.Calls.{Broke, Switched}
 use Rattle.store_journal.specs.Carries.{EitherCarried, switched}
-use Rattle.store_journal.specs.View.{View, IsKept, carried_of}
+use Rattle.store_journal.specs.JournalView.{JournalView, IsKept, carried_of}
 use Rattle.doc_changes.proofs.Framed.{framed_storable}
 use Rattle.doc_changes.specs.Refusals.{plain}
 use Rattle.doc_changes.specs.State.{State}
@@ -21,7 +21,7 @@ use Rattle.store_commits.proofs.Snapshots.{remakes_all}
 use Rattle.store_commits.specs.Stands.{StandsAfter}
 use Rattle.store_commits.proofs.Standing.{held_broke, stands_by, stands_now}
 
-module _ {D : Type 0} (old new : Disk) (before now : View D) (state : State) (remakes : RemakesAll state) (held : IsHeld old before state) (same : old.honest ↔ new.honest) (kept : IsKept new now) where
+module _ {D : Type 0} (old new : Disk) (before now : JournalView D) (state : State) (remakes : RemakesAll state) (held : IsHeld old before state) (same : old.honest ↔ new.honest) (kept : IsKept new now) where
   abbrev target : List ℕ
   target = snapshot_bytes state.documents
 
@@ -52,13 +52,13 @@ module _ {D : Type 0} (old new : Disk) (before now : View D) (state : State) (re
 -- ---- either way
 
 -- what a commit of a snapshot answers: the target counts, or the device failed
-abbrev pub WasCommitted : {D : Type 0} → (D → Disk) → View D → View D → List ℕ → Result ℕ Refusal → Type 0
+abbrev pub WasCommitted : {D : Type 0} → (D → Disk) → JournalView D → JournalView D → List ℕ → Result ℕ Refusal → Type 0
 WasCommitted disk before now target r = IfOk r (λ used. Switched (disk before.device) (disk now.device) before now target (sectors_of (length target) + 3) × (used ≡ length target))
 
-abbrev pub WasNotCommitted : {D : Type 0} → (D → Disk) → View D → View D → List ℕ → Result ℕ Refusal → Type 0
+abbrev pub WasNotCommitted : {D : Type 0} → (D → Disk) → JournalView D → JournalView D → List ℕ → Result ℕ Refusal → Type 0
 WasNotCommitted disk before now target r = IfErr r (λ refusal. (refusal ≡ plain DEVICE) × Broke (disk before.device) (disk now.device) (sectors_of (length target) + 3) before now)
 
-module _ {D : Type 0} (disk : D → Disk) (coherent : (device : D) → (disk device).honest → IsCoherent (disk device)) (before now : View D) (state : State)
+module _ {D : Type 0} (disk : D → Disk) (coherent : (device : D) → (disk device).honest → IsCoherent (disk device)) (before now : JournalView D) (state : State)
     (held : IsHeld (disk before.device) before state) (can : CanHold (account_of before state) (length (snapshot_bytes state.documents))) (kept : IsKept (disk now.device) now) (same : (disk before.device).honest ↔ (disk now.device).honest) where
   abbrev calls : ℕ
   calls = sectors_of (length (snapshot_bytes state.documents)) + 3

@@ -4,7 +4,7 @@ use Rattle.sector_device.specs.Disk.{Disk, Image, IsCoherent, LeavesOnly}
 use Rattle.sector_device.proofs.Moments.{started}
 use Rattle.store_journal.specs.Calls.{Broke}
 use Rattle.store_journal.specs.Carries.{Carried, Carries}
-use Rattle.store_journal.specs.View.{View, IsKept, carried_of}
+use Rattle.store_journal.specs.JournalView.{JournalView, IsKept, carried_of}
 use Rattle.doc_machine.specs.Transaction.{Transaction}
 use Rattle.doc_changes.specs.State.{State}
 use Rattle.store_commits.specs.Account.{Account, IsStanding, account_broken}
@@ -22,7 +22,7 @@ stands_by state c version seq holds image carries = record {
 }
 
 -- each image of a store that works stands for its state
-pub standing : {D : Type 0} (disk : Disk) (journal : View D) (state : State) → IsHeld disk journal state → IsStanding disk (account_of journal state)
+pub standing : {D : Type 0} (disk : Disk) (journal : JournalView D) (state : State) → IsHeld disk journal state → IsStanding disk (account_of journal state)
 standing disk journal state held honest works image left =
     stands_by state (carried_of journal) held.version held.seq (held.held honest) image (held.kept.carried honest works image left)
 
@@ -34,7 +34,7 @@ pub stays : (disk : Disk) (account : Account) (cs : List Transaction) → (disk.
 stays disk account cs coherent stand honest works = started disk (StandsAfter account.state cs) (coherent honest) (λ image left. stands_now account.state cs image (stand honest works image left))
 
 -- a journal that the device broke
-module _ {D : Type 0} (old new : Disk) (before now : View D) (state : State) (calls : ℕ) (broke : Broke old new calls before now) where
+module _ {D : Type 0} (old new : Disk) (before now : JournalView D) (state : State) (calls : ℕ) (broke : Broke old new calls before now) where
   -- holds what it held
   pub held_broke : IsHeld old before state → (old.honest ↔ new.honest) → IsKept new now → IsHeld new now state
   held_broke held same kept = record {

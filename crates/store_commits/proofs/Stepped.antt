@@ -4,12 +4,12 @@ use Rattle.std.proofs.lemmas.Bool.{eq-eqb}
 use Rattle.sector_device.specs.Disk.{Disk}
 use Rattle.sector_device.proofs.Charges.{failed_joined}
 use Rattle.store_journal.specs.Calls.{Broke, Stepped}
-use Rattle.store_journal.specs.View.{View}
+use Rattle.store_journal.specs.JournalView.{JournalView}
 use Rattle.store_commits.specs.Copying.{Target, count_of}
 use Rattle.store_commits.specs.Pumping.{calls_of_step, standing_after, written_of}
 use Rattle.store_commits.proofs.Switches.{broke_behind}
 
-module _ {D : Type 0} (disk : D → Disk) (before mid now : View D) (t : Target) (most answer : ℕ)
+module _ {D : Type 0} (disk : D → Disk) (before mid now : JournalView D) (t : Target) (most answer : ℕ)
     (step : Stepped (disk before.device) (disk mid.device) before mid t.bytes t.standing (max most 1) answer) (whole : length t.bytes ≤ answer) (same : (disk before.device).honest ↔ (disk mid.device).honest) where
   switch_calls : calls_of_step (count_of t) most ≡ written_of (count_of t) most + 3
   switch_calls = let is = step.answer_is in let all : standing_after (count_of t) most ≡ length t.bytes = omega (arith, is, whole) in

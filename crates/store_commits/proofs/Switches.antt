@@ -8,11 +8,11 @@ use Rattle.sector_device.specs.Sectors.{sectors_of}
 use Rattle.sector_device.proofs.Charges.{made_joined, failed_joined}
 use Rattle.store_journal.specs.Calls.{BeginsWith, Broke, CallFault, Refused, Stays, Stepped, Switched}
 use Rattle.store_journal.specs.Carries.{Carried, Carries, EitherCarried, switched}
-use Rattle.store_journal.specs.View.{View, IsKept, carried_of}
+use Rattle.store_journal.specs.JournalView.{JournalView, IsKept, carried_of}
 use Rattle.store_journal.specs.Writes.{step_count}
 
 -- a call of a working journal is refused only where the device failed
-pub broke_then : {D : Type 0} (disk new_disk : Disk) (calls number : ℕ) (old new : View D) → old.broken ≡ false → CallFault old number → Refused disk new_disk calls old new number → Broke disk new_disk calls old new
+pub broke_then : {D : Type 0} (disk new_disk : Disk) (calls number : ℕ) (old new : JournalView D) → old.broken ≡ false → CallFault old number → Refused disk new_disk calls old new number → Broke disk new_disk calls old new
 broke_then disk new_disk calls number old new works (inl broken) refused = let contrary = sym works ∙ broken.1 in absurd (cc contrary)
 broke_then disk new_disk calls number old new works (inr device) (inl broke) = broke.1
 broke_then disk new_disk calls number old new works (inr device) (inr other) = absurd (other.0 device.0)
@@ -22,14 +22,14 @@ pub all_sectors : (bytes max : ℕ) → sectors_of bytes ≤ max → step_count 
 all_sectors bytes max le = omega (arith, le)
 
 -- a step may write as many as a half has
-pub enough : {D : Type 0} {disk : Disk} (bytes : ℕ) (before mid : View D) → bytes ≤ capacity_of before.sectors → mid.sectors ≡ before.sectors → IsKept disk mid → sectors_of bytes ≤ 2 ^ 64 - 1
+pub enough : {D : Type 0} {disk : Disk} (bytes : ℕ) (before mid : JournalView D) → bytes ≤ capacity_of before.sectors → mid.sectors ≡ before.sectors → IsKept disk mid → sectors_of bytes ≤ 2 ^ 64 - 1
 enough bytes before mid fits same kept = let most = kept.sized.at_most in omega (arith, fits, same, most)
 
 whole : (bytes max : ℕ) → sectors_of bytes ≤ max → min bytes (512 * (0 / 512 + step_count bytes 0 max)) ≡ bytes
 whole bytes max le = omega (arith, le, all_sectors bytes max le)
 
 -- a journal whose bytes stayed, and then gave way to a target: at each moment the old bytes in their half, or the target in the other
-pub either : {D : Type 0} (disk : D → Disk) (before mid now : View D) (target : List ℕ) → Stays (disk before.device) before mid → (disk before.device).honest
+pub either : {D : Type 0} (disk : D → Disk) (before mid now : JournalView D) (target : List ℕ) → Stays (disk before.device) before mid → (disk before.device).honest
     → LeavesOnly (disk before.device) (disk mid.device) (Carries (carried_of before)) → LeavesOnly (disk mid.device) (disk now.device) (EitherCarried (carried_of mid) (switched (carried_of mid) target))
     → LeavesOnly (disk before.device) (disk now.device) (EitherCarried (carried_of before) (switched (carried_of before) target))
 either disk before mid now target stays honest first second =
@@ -39,7 +39,7 @@ either disk before mid now target stays honest first second =
     (subst (λ (c : Carried). LeavesOnly (disk mid.device) (disk now.device) (EitherCarried c (switched c target))) same second)
 
 -- a journal whose bytes stayed, and that the device broke then
-pub broke_behind : {D : Type 0} (old mid new : Disk) (before then now : View D) (calls : ℕ) → Stays old before then → (old.honest ↔ mid.honest) → Broke mid new 3 then now → Failed old new calls
+pub broke_behind : {D : Type 0} (old mid new : Disk) (before then now : JournalView D) (calls : ℕ) → Stays old before then → (old.honest ↔ mid.honest) → Broke mid new 3 then now → Failed old new calls
     → Broke old new calls before now
 broke_behind old mid new before then now calls stays same is failed = record {
   stays = record {
@@ -59,7 +59,7 @@ broke_behind old mid new before then now calls stays same is failed = record {
 
 -- ---- after the copy
 
-module _ {D : Type 0} (disk : D → Disk) (before mid now : View D) (target : List ℕ) (answer max : ℕ) (enough : sectors_of (length target) ≤ max)
+module _ {D : Type 0} (disk : D → Disk) (before mid now : JournalView D) (target : List ℕ) (answer max : ℕ) (enough : sectors_of (length target) ≤ max)
     (step : Stepped (disk before.device) (disk mid.device) before mid target 0 max answer) (same : (disk before.device).honest ↔ (disk mid.device).honest) where
   pub made : Made (disk before.device) (disk mid.device) (sectors_of (length target))
   made = subst (Made (disk before.device) (disk mid.device)) (all_sectors (length target) max enough) step.made

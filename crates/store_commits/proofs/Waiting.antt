@@ -7,7 +7,7 @@ use Rattle.sector_device.specs.Charges.{Made, Failed}
 use Rattle.store_journal.specs.Layout.{capacity_of}
 use Rattle.store_journal.specs.Calls.{Appended, BeginsWith, Broke, Takes}
 use Rattle.store_journal.specs.Carries.{EitherCarried, appended}
-use Rattle.store_journal.specs.View.{View, carried_of}
+use Rattle.store_journal.specs.JournalView.{JournalView, carried_of}
 use Rattle.store_journal.specs.Writes.{append_calls}
 use Rattle.doc_machine.specs.Transaction.{AreAccepted, AreFramed, AreGood, Transaction, after_in, changes_of}
 use Rattle.doc_changes.specs.State.{State, Good}
@@ -22,7 +22,7 @@ use Rattle.store_commits.specs.Inside.{IsHeld, IsStored, account_of}
 use Rattle.store_commits.specs.Run.{were_done, were_in_doubt}
 use Rattle.store_commits.specs.Images.{Holds}
 use Rattle.store_commits.specs.Stands.{StandsAfter}
-use Rattle.store_commits.specs.Underway.{IsAppended, WasAnswered}
+use Rattle.store_commits.specs.Batching.{IsAppended, AnswersPart}
 use Rattle.store_commits.proofs.Changes.{accepted_append, accepted_in, each_is_all, frames_size, good_last, holds_all, seq_counts, sizes_all, some_accepted}
 use Rattle.store_commits.proofs.Extents.{broken_as, either_as, ending_as}
 use Rattle.store_commits.proofs.Moves.{Moved, done_answered, in_doubt_answered, moved_nowhere}
@@ -82,7 +82,7 @@ committed_none a (said c r ∷ slots) none = committed_none a slots none
 
 -- ---- one append, behind the bytes of a journal that works
 
-module _ {D : Type 0} (disk : D → Disk) (coherent : (device : D) → (disk device).honest → IsCoherent (disk device)) (before : View D) (state : State) (copy : Option Target) (slots : List Slot) (works : before.broken ≡ false)
+module _ {D : Type 0} (disk : D → Disk) (coherent : (device : D) → (disk device).honest → IsCoherent (disk device)) (before : JournalView D) (state : State) (copy : Option Target) (slots : List Slot) (works : before.broken ≡ false)
     (judged : AreJudged (with_copy (account_of before state) (copy_of copy)) slots) (framed : AreFramed (all_changes (waiting slots))) (good : AreGood state (all_changes (waiting slots))) (stored : IsStored (disk before.device) before state copy) where
   abbrev a : Account
   a = with_copy (account_of before state) (copy_of copy)
@@ -129,7 +129,7 @@ module _ {D : Type 0} (disk : D → Disk) (coherent : (device : D) → (disk dev
 
   -- ---- it ended
 
-  module _ (first : Transaction) (others : List Transaction) (some : waiting slots ≡ first ∷ others) (now : View D) (fine : Bool) (is : IsAppended disk before now frames adds fine) where
+  module _ (first : Transaction) (others : List Transaction) (some : waiting slots ≡ first ∷ others) (now : JournalView D) (fine : Bool) (is : IsAppended disk before now frames adds fine) where
     moments : (disk before.device).honest → LeavesOnly (disk before.device) (disk now.device) (StandsAfter state cs)
     moments honest = leaves_weaker (disk before.device) (disk now.device) (EitherCarried (carried_of before) (appended (carried_of before) frames adds)) (StandsAfter state cs) (either_stands honest) (is.any_moment honest)
 
@@ -197,7 +197,7 @@ module _ {D : Type 0} (disk : D → Disk) (coherent : (device : D) → (disk dev
       are_committed : AreCommitted a slots (with_copy (account_of now (after_each state cs)) (copy_of (target_with frames copy)))
       are_committed = record { works = works; judged = judged; new_is = account_then }
 
-      pub was_made : (left : List Transaction) → IsForced (account_committed a slots) left → WasAnswered disk before state copy slots left (account_committed a slots) now (target_with frames copy) (replies_done state.seq slots)
+      pub was_made : (left : List Transaction) → IsForced (account_committed a slots) left → AnswersPart disk before state copy slots left (account_committed a slots) now (target_with frames copy) (replies_done state.seq slots)
       was_made left forced =
           let b = with_copy (account_of now (after_each state cs)) (copy_of (target_with frames copy)) in
           let k = passed (to_append a slots) in
@@ -238,14 +238,14 @@ module _ {D : Type 0} (disk : D → Disk) (coherent : (device : D) → (disk dev
       are_in_doubt : AreInDoubt a slots (account_of now state)
       are_in_doubt = record { works = works; judged = judged; some = λ none. (let contrary = sym some ∙ none in absurd (cc contrary)); new_is = new_is }
 
-      pub was_in_doubt : (left : List Transaction) → IsForced (account_committed a slots) left → WasAnswered disk before state copy slots left (account_committed a slots) now None (replies_in_doubt slots)
+      pub was_in_doubt : (left : List Transaction) → IsForced (account_committed a slots) left → AnswersPart disk before state copy slots left (account_committed a slots) now None (replies_in_doubt slots)
       was_in_doubt left forced =
           in_doubt_answered disk coherent before state copy works now slots (failed (to_append a slots) (account_of now state) ∷ []) left (account_committed a slots) moved_in_doubt broke.broken first others some
           (were_in_doubt a (account_of now state) slots are_in_doubt) (λ qs rest end batch. commit_in_doubt a (account_of now state) end slots left qs rest are_in_doubt forced batch)
 
   -- ---- nothing waits
 
-  pub was_nothing : waiting slots ≡ [] → (left : List Transaction) → IsForced (account_committed a slots) left → WasAnswered disk before state copy slots left (account_committed a slots) before copy (replies_done state.seq slots)
+  pub was_nothing : waiting slots ≡ [] → (left : List Transaction) → IsForced (account_committed a slots) left → AnswersPart disk before state copy slots left (account_committed a slots) before copy (replies_done state.seq slots)
   was_nothing none left forced =
       let b = with_copy (account_of before (after_each state (waiting slots))) (copy_of copy) in
       let then : b ≡ account_committed a slots = ap (λ (ts : List Transaction). with_copy (account_of before (after_each state ts)) (copy_of copy)) none ∙ sym (committed_none a slots none) in

@@ -49,13 +49,13 @@ IsForced a [] = ⊤
 IsForced a (c ∷ cs) = (refusal_in a.state c ≡ None) × IsOver a (size_of c)
 
 -- A transaction that has no room behind the used bytes, as it is answered by itself, and its commits: the snapshot's, and its own. The account is that of the last commit that passed.
-pub data IsAlone : Account → Transaction → Reply → List Commit → Account → Type 0 where
-  alone_done : (a b : Account) (c : Transaction) (seq : ℕ) → IsDone a c seq b → IsAlone a c (Done seq) (passed (to_snapshot a) ∷ passed (to_append_behind a c) ∷ []) b
+pub data AnswersForced : Account → Transaction → Reply → List Commit → Account → Type 0 where
+  alone_done : (a b : Account) (c : Transaction) (seq : ℕ) → IsDone a c seq b → AnswersForced a c (Done seq) (passed (to_snapshot a) ∷ passed (to_append_behind a c) ∷ []) b
   snapshot_failed : (a b : Account) (c : Transaction) → Accepts a c → b ≡ account_broken a
-      → IsAlone a c (Refused (plain DEVICE)) (failed (to_snapshot a) b ∷ []) b
+      → AnswersForced a c (Refused (plain DEVICE)) (failed (to_snapshot a) b ∷ []) b
   behind_failed : (a b : Account) (c : Transaction) → Accepts a c → b ≡ account_broken (account_with_snapshot a)
-      → IsAlone a c (Refused (plain DEVICE)) (passed (to_snapshot a) ∷ failed (to_append_behind a c) b ∷ []) b
-  alone_full : (a : Account) (c : Transaction) → a.broken ≡ false → HasNoRoom a (size_of c) → IsAlone a c (Refused (plain FULL)) [] a
+      → AnswersForced a c (Refused (plain DEVICE)) (passed (to_snapshot a) ∷ failed (to_append_behind a c) b ∷ []) b
+  alone_full : (a : Account) (c : Transaction) → a.broken ≡ false → HasNoRoom a (size_of c) → AnswersForced a c (Refused (plain FULL)) [] a
 
 -- A whole batch from an account to an account: the transactions, their replies, and the commits. A commit ends at the end, or before one that is accepted and doesn't fit beside those that wait.
 pub data IsBatch : Account → List Transaction → List Reply → List Commit → Account → Type 0 where
@@ -70,7 +70,7 @@ pub data IsBatch : Account → List Transaction → List Reply → List Commit �
       → IsBatch a (asked slots ++ cs) (replies_in_doubt slots ++ replies) (failed (to_append a slots) b ∷ more) d
   -- the one that forced the commit goes on by itself
   by_itself : (a b d : Account) (c : Transaction) (cs : List Transaction) (reply : Reply) (replies : List Reply) (commits more : List Commit)
-      → IsForced a (c ∷ cs) → IsAlone a c reply commits b → IsBatch b cs replies more d
+      → IsForced a (c ∷ cs) → AnswersForced a c reply commits b → IsBatch b cs replies more d
       → IsBatch a (c ∷ cs) (reply ∷ replies) (commits ++ more) d
   -- once the store is broken each is answered so
   stays_broken : (a d : Account) (c : Transaction) (cs : List Transaction) (replies : List Reply) (more : List Commit)

@@ -3,7 +3,7 @@ use Rattle.std.specs.Prelude.{◌≡◌, ◌≤◌, ◌+◌, ℕ, List, ◌++◌
 use Rattle.std.specs.Vec.{vec_len, vec_capacity}
 use Rattle.sector_device.specs.Disk.{Disk}
 use Rattle.store_journal.specs.Calls.{BeginsWith}
-use Rattle.store_journal.specs.View.{View}
+use Rattle.store_journal.specs.JournalView.{JournalView}
 use Rattle.doc_changes.specs.State.{State}
 use Rattle.store_commits.specs.Account.{Copy}
 use Rattle.store_commits.specs.Images.{Holds}
@@ -29,13 +29,13 @@ abbrev pub copy_of : Option Target → Option Copy
 copy_of t = option_map count_of t
 
 -- The target holds the state's documents in format 2, and as much of it as stands is what the other half is known to begin with.
-pub record IsCopying {D : Type 0} (disk : Disk) (journal : View D) (state : State) (t : Target) : Type 0 where
+pub record IsCopying {D : Type 0} (disk : Disk) (journal : JournalView D) (state : State) (t : Target) : Type 0 where
   pub holds : Holds 2 state.seq t.bytes state.documents
   pub within : t.standing ≤ length t.bytes
   pub copied : disk.honest → journal.broken ≡ false → BeginsWith (take t.standing t.bytes) journal.copied
 
 -- this of a copy that runs
-abbrev pub IsCopied : {D : Type 0} → Disk → View D → State → Option Target → Type 0
+abbrev pub IsCopied : {D : Type 0} → Disk → JournalView D → State → Option Target → Type 0
 IsCopied disk journal state None = ⊤
 IsCopied disk journal state (Some t) = IsCopying disk journal state t
 

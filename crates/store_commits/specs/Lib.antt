@@ -18,4 +18,4 @@ pub mod Run
 pub mod SnapshotAnswers
 pub mod Stands
 pub mod Stepping
-pub mod Underway
+pub mod Batching

@@ -4,7 +4,7 @@ ghost use Rattle.sector_device.specs.Disk.{LeavesOnly};
 ghost use Rattle.store_journal.specs.Layout.{capacity_of};
 ghost use Rattle.store_journal.specs.Calls.{BeginsWith, Broke};
 ghost use Rattle.store_journal.specs.Carries.{Carries, EitherCarried, switched};
-ghost use Rattle.store_journal.specs.View.{IsKept, carried_of};
+ghost use Rattle.store_journal.specs.JournalView.{IsKept, carried_of};
 ghost use Rattle.doc_changes.specs.Refusals.{plain};
 ghost use Rattle.doc_changes.specs.State.{Good};
 ghost use Rattle.refusals.specs.declared.numbers.TheConstants.{DEVICE};
@@ -63,8 +63,7 @@ pub fn take_or_begin(
     ensures good { Good machine.now }
 {
     if let Some(copying) = copy.take() {
-        // Opens the machine, so that its invariant is known.
-        let _ = machine.seq();
+        machine.know();
         return Ok(copying);
     }
     let target = creations(alloc, &machine.look())?;

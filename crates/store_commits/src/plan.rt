@@ -10,7 +10,7 @@ ghost use Rattle.store_commits.specs.Committed.{Slot};
 ghost use Rattle.store_commits.specs.Copying.{HasSpare, copy_of, target_of};
 ghost use Rattle.store_commits.specs.Folds.{frames_at};
 ghost use Rattle.store_commits.specs.Inside.{account_of};
-ghost use Rattle.store_commits.specs.Underway.{ArePrepared, GoesFurther, IsPlanning, IsThrough, bytes_in};
+ghost use Rattle.store_commits.specs.Batching.{ArePrepared, PlansOneMore, IsPlanning, StopsAtFull, bytes_in};
 
 use crate::copying::{Copying, reserve};
 use crate::creations;
@@ -57,8 +57,7 @@ pub(crate) fn prepare<D: SectorDevice>(
     ensures same { target_of copy.new ≡ target_of copy.old }
     ensures origin { state_at 0 trial.new ≡ trial.old.state }
 {
-    // Opens the trial, so that its invariant is known.
-    let _ = trial.len();
+    trial.know();
     let mut planning = Planning {
         capacity: journal.capacity(),
         left: journal.capacity() - journal.used(),
@@ -79,7 +78,7 @@ pub(crate) fn prepare<D: SectorDevice>(
 }
 
 impl Segment {
-    ghost use Rattle.store_commits.specs.Underway.{IsEmpty};
+    ghost use Rattle.store_commits.specs.Batching.{IsEmpty};
 
     // Nothing waits, and nothing is answered.
     fn new(alloc: Global) -> Segment
@@ -104,7 +103,7 @@ impl Planning {
         until_full: bool,
     ) -> Result<(), AllocError>
         ensures ok { OnOk result ((a : Account) → IsPlanning a [] self.old trial.old
-            → (slots : List Slot) × IsThrough until_full (map transaction_of transactions.items) slots × IsPlanning a slots self.new trial.new) }
+            → (slots : List Slot) × StopsAtFull until_full (map transaction_of transactions.items) slots × IsPlanning a slots self.new trial.new) }
         ensures origin { state_at 0 trial.new ≡ state_at 0 trial.old }
     {
         for transaction in transactions {
@@ -123,7 +122,7 @@ impl Planning {
         trial: &mut Trial,
         transaction: Transaction,
     ) -> Result<bool, AllocError>
-        ensures ok { IfOk result (λ full. (a : Account) (slots : List Slot) → IsPlanning a slots self.old trial.old → GoesFurther a slots (transaction_of transaction) full self.new trial.new) }
+        ensures ok { IfOk result (λ full. (a : Account) (slots : List Slot) → IsPlanning a slots self.old trial.old → PlansOneMore a slots (transaction_of transaction) full self.new trial.new) }
         ensures origin { state_at 0 trial.new ≡ state_at 0 trial.old }
     {
         let Some(frames) = frames(alloc, &transaction, trial.seq()) else {
@@ -140,7 +139,7 @@ impl Planning {
     // refused.
     #[tactic(auto, using(crate::proofs::Plans::first_stays))]
     fn judge(&mut self, trial: &mut Trial, transaction: Transaction) -> Result<bool, AllocError>
-        ensures ok { IfOk result (λ full. (a : Account) (slots : List Slot) → IsPlanning a slots self.old trial.old → GoesFurther a slots (transaction_of transaction) full self.new trial.new) }
+        ensures ok { IfOk result (λ full. (a : Account) (slots : List Slot) → IsPlanning a slots self.old trial.old → PlansOneMore a slots (transaction_of transaction) full self.new trial.new) }
         ensures origin { state_at 0 trial.new ≡ state_at 0 trial.old }
     {
         match trial.transact(transaction) {
@@ -152,7 +151,7 @@ impl Planning {
     // Says why a transaction is refused.
     fn refuse(&mut self, refusal: Refusal) -> Result<bool, AllocError>
         ensures { IfOk result (λ full. (a : Account) (slots : List Slot) (t : Asked) (trial : TrialView) → RefusesTransaction trial.state t refusal
-            → IsPlanning a slots self.old trial → GoesFurther a slots t full self.new trial) }
+            → IsPlanning a slots self.old trial → PlansOneMore a slots t full self.new trial) }
     {
         if refusal.number == MEMORY {
             return Err(AllocError);
@@ -171,7 +170,7 @@ impl Planning {
     ) -> Result<bool, AllocError>
         requires frames { frames.now ≡ frames_at trial.old.state.seq (changes_of (transaction_of transaction)) }
         requires fits { length frames.now ≤ self.old.left }
-        ensures ok { IfOk result (λ full. (a : Account) (slots : List Slot) → IsPlanning a slots self.old trial.old → GoesFurther a slots (transaction_of transaction) full self.new trial.new) }
+        ensures ok { IfOk result (λ full. (a : Account) (slots : List Slot) → IsPlanning a slots self.old trial.old → PlansOneMore a slots (transaction_of transaction) full self.new trial.new) }
         ensures origin { state_at 0 trial.new ≡ state_at 0 trial.old }
     {
         let adds = transaction.len() as u64;
@@ -206,7 +205,7 @@ impl Planning {
     ) -> Result<bool, AllocError>
         requires frames { frames.items ≡ frames_at trial.old.state.seq (changes_of (transaction_of transaction)) }
         requires over { self.old.left < length frames.items }
-        ensures ok { IfOk result (λ full. (a : Account) (slots : List Slot) → IsPlanning a slots self.old trial.old → GoesFurther a slots (transaction_of transaction) full self.new trial.new) }
+        ensures ok { IfOk result (λ full. (a : Account) (slots : List Slot) → IsPlanning a slots self.old trial.old → PlansOneMore a slots (transaction_of transaction) full self.new trial.new) }
         ensures origin { state_at 0 trial.new ≡ state_at 0 trial.old }
     {
         // The snapshot has the documents before the transaction, so it is made before that is tried.

@@ -123,7 +123,7 @@ fn plain_patch(alloc: Global, bytes: &[u8]) -> Option<(PatchFrame<'_>, Patch)>
     ensures { IfSome result (λ r. IsPatchFrame bytes.now r.0 r.1) }
 {
     let frame = patch_frame(bytes)?;
-    let changes = Patch::read_plain(alloc, frame.ops)?;
+    let changes = Patch::read_unescaped(alloc, frame.ops)?;
     Some((frame, changes))
 }
 

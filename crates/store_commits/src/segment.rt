@@ -9,7 +9,7 @@ ghost use Rattle.store_commits.specs.Account.{Account, with_copy};
 ghost use Rattle.store_commits.specs.Committed.{Slot};
 ghost use Rattle.store_commits.specs.Copying.{HasSpare, copy_of, target_with, target_of};
 ghost use Rattle.store_commits.specs.Inside.{IsStored, account_of, store_view};
-ghost use Rattle.store_commits.specs.Underway.{ArePrepared, HasCommitted, IsAppended, IsAppendedBehind, IsPart, IsReady, WasAnswered, answered, bytes_in, fate_of, replies_in};
+ghost use Rattle.store_commits.specs.Batching.{ArePrepared, HasCommitted, IsAppended, IsAppendedBehind, IsPart, IsReady, AnswersPart, answered, bytes_in, fate_of, replies_in};
 ghost use Rattle.store_commits.specs.declared.event.Reply.{Reply as Said};
 
 use crate::copying::{Copying, grow};
@@ -84,7 +84,7 @@ fn commit_segment<D: SectorDevice>(
     ensures answered { (s : State) (a : Account) (left : List Transaction) (slots : List Slot) (b : Account) → IsStored (D.disk journal.old.device) journal.old s (target_of copy.old)
         → (journal.old.broken ≡ false → with_copy (account_of journal.old s) (copy_of (target_of copy.old)) ≡ a) → IsPart a left segment slots b
         → (more : List Said) × (said.new.items ≡ said.old.items ++ more)
-        × WasAnswered D.disk journal.old s (target_of copy.old) slots left b journal.new (target_of copy.new) more }
+        × AnswersPart D.disk journal.old s (target_of copy.old) slots left b journal.new (target_of copy.new) more }
     ensures grows { (n : ℕ) → HasSpare copy.old (length segment.frames.items + n) → HasSpare copy.new n }
     ensures len { vec_len said.new ≡ vec_len said.old + length segment.replies.items }
     ensures capacity { vec_capacity said.old ≤ vec_capacity said.new }
@@ -103,7 +103,7 @@ fn commit<D: SectorDevice>(
     requires grows { HasSpare copy.old (length segment.now.frames.items) }
     ensures answered { (s : State) (a : Account) (left : List Transaction) (slots : List Slot) (b : Account) → IsStored (D.disk journal.old.device) journal.old s (target_of copy.old)
         → (journal.old.broken ≡ false → with_copy (account_of journal.old s) (copy_of (target_of copy.old)) ≡ a) → IsPart a left segment.now slots b
-        → WasAnswered D.disk journal.old s (target_of copy.old) slots left b journal.new (target_of copy.new) (map (answered result) segment.now.replies.items) }
+        → AnswersPart D.disk journal.old s (target_of copy.old) slots left b journal.new (target_of copy.new) (map (answered result) segment.now.replies.items) }
     ensures grows { (n : ℕ) → HasSpare copy.old (length segment.now.frames.items + n) → HasSpare copy.new n }
 {
     if journal.is_broken() {

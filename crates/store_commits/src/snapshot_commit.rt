@@ -5,7 +5,7 @@ ghost use Rattle.store_journal.specs.Layout.{capacity_of};
 ghost use Rattle.sector_device.specs.Sectors.{sectors_of};
 ghost use Rattle.store_journal.specs.Calls.{Broke, Switched};
 ghost use Rattle.store_journal.specs.Carries.{EitherCarried, switched};
-ghost use Rattle.store_journal.specs.View.{IsKept, carried_of};
+ghost use Rattle.store_journal.specs.JournalView.{IsKept, carried_of};
 ghost use Rattle.doc_changes.specs.Refusals.{plain};
 ghost use Rattle.refusals.specs.declared.numbers.TheConstants.{DEVICE};
 

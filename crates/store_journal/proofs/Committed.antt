@@ -8,9 +8,9 @@ use Rattle.sector_device.proofs.Moments.{leaves_weaker}
 use Rattle.sector_device.specs.Sectors.{Over, OverSome, SectorsHold, sectors_of}
 use Rattle.store_journal.specs.Layout.{sector_of, half_size, half_start, capacity_of}
 use Rattle.store_journal.specs.Publishing.{Replaces}
-use Rattle.store_journal.specs.declared.commit.Commit.{Commit}
+use Rattle.store_journal.specs.declared.commit_sector.Commit.{Commit}
 use Rattle.store_journal.specs.Carries.{Carried, Carries, CarriesTo, EitherCarried, Holds, begun, commit_of, committed, last_of, one_more}
-use Rattle.store_journal.specs.View.{bytes_read}
+use Rattle.store_journal.specs.JournalView.{bytes_read}
 use Rattle.store_journal.specs.Writes.{CanWrite, EndsInZeros, Follows, HasCopied, IsPlaced, Tried, WritesRun, commit_calls, riding_with, takes_one_sync, touched, written_first}
 use Rattle.store_journal.specs.declared.update.Base.{Base}
 use Rattle.store_journal.specs.declared.update.Base.TheVariants.{Kept, Again, Written, Copied}

@@ -4,7 +4,7 @@ use Rattle.std.proofs.lemmas.List.{take_at}
 use Rattle.std.specs.Int.{w32, w64, from_be_bytes}
 use Rattle.std.proofs.lemmas.Nat.{from_be_bytes-to_be_bytes_4, from_be_bytes-to_be_bytes_8}
 use Rattle.store_journal.specs.Layout.{sector_of, riding_in, mark_of, Fits}
-use Rattle.store_journal.specs.declared.commit.Commit.{Commit}
+use Rattle.store_journal.specs.declared.commit_sector.Commit.{Commit}
 
 -- what a sector says, if it is a commit sector
 abbrev pub said_in : List ℕ → Commit

@@ -9,7 +9,7 @@ use Rattle.sector_device.specs.Sectors.{Begins, Over, OverSome, SectorsHold}
 use Rattle.store_journal.specs.Carries.{Carries, CarriesTo, last_of}
 use Rattle.store_journal.specs.Riding.{bytes_seen, riding_of}
 use Rattle.store_journal.specs.Fields.{IsSound, view_of}
-use Rattle.store_journal.specs.View.{View, bytes_read, carried_of}
+use Rattle.store_journal.specs.JournalView.{JournalView, bytes_read, carried_of}
 use Rattle.store_journal.specs.Writes.{step_count}
 use Rattle.store_journal.specs.declared.journal.Journal.TheInside.{Inside}
 use Rattle.sector_device.proofs.Moments.{leaves_weaker}
@@ -33,7 +33,7 @@ stepped old new start place count from answer target under within answer_is begi
     size
 
 -- a run of writes into the other half
-pub copy_since : {D : Type 0} {G : Ghosts D} (fields : Inside D G) (view : View D) (bytes : List ℕ) (len from max count start : ℕ) (device : D) → view_of fields ≡ view → IsSound fields → ((d : D) → (G.disk d).honest → IsCoherent (G.disk d))
+pub copy_since : {D : Type 0} {G : Ghosts D} (fields : Inside D G) (view : JournalView D) (bytes : List ℕ) (len from max count start : ℕ) (device : D) → view_of fields ≡ view → IsSound fields → ((d : D) → (G.disk d).honest → IsCoherent (G.disk d))
     → IsSame (G.disk fields.device) (G.disk device) → start ≡ half_start fields.sectors (1 - fields.half) → count ≡ step_count len from max → len ≤ capacity_of view.sectors → from ≤ len
     → ((G.disk fields.device).honest → LeavesOnly (G.disk fields.device) (G.disk device) (OverSome (start + from / 512) count bytes (G.disk fields.device).left))
     → (G.disk fields.device).honest → fields.broken ≡ false → Since (G.disk fields.device) (G.disk device) fields.sectors (CarriesTo (held_of fields) (carried_of (view_of fields)))
@@ -41,7 +41,7 @@ copy_since {D} {G} fields view bytes len from max count start device view_is sou
     let at_start = begin (G.disk fields.device) fields.sectors (CarriesTo (held_of fields) (carried_of (view_of fields))) honest (coherent fields.device) fields.formed.size (sound honest works).carried in
     since_agrees (held_of fields) (carried_of (view_of fields)) at_start (G.disk device) (start + from / 512) count bytes (coherent device) same (omega arith) (omega (arith, start_is))
     (agrees_apart fields.sectors fields.half (start + from / 512) (from / 512) count (view_of fields).bytes bytes (length (view_of fields).bytes) fields.formed.half_fits (ap (λ (s : ℕ). s + from / 512) start_is)
-    (omega (arith, counted, fits, within, ap (λ (v : View D). v.sectors) view_is)) (omega (arith, used_is fields, fields.formed.used_fits))) (run honest)
+    (omega (arith, counted, fits, within, ap (λ (v : JournalView D). v.sectors) view_is)) (omega (arith, used_is fields, fields.formed.used_fits))) (run honest)
 
 -- after it the old bytes are read
 pub since_bytes : {D : Type 0} {G : Ghosts D} (j : Inside D G) {before now : Disk} → Since before now j.sectors (CarriesTo (held_of j) (carried_of (view_of j))) → last_of (length (riding_of j.unsettled)) (view_of j).bytes ≡ riding_of j.unsettled

@@ -4,7 +4,7 @@ use Rattle.std.proofs.lemmas.List.{get_or_default, get_or-take, same_lists}
 use Rattle.sector_device.specs.Disk.{Image}
 use Rattle.store_journal.specs.Layout.{IsFormat, half_start}
 use Rattle.sector_device.specs.Sectors.{byte_at}
-use Rattle.store_journal.specs.declared.commit.Commit.{Commit}
+use Rattle.store_journal.specs.declared.commit_sector.Commit.{Commit}
 use Rattle.store_journal.proofs.Fields.{one_commit, one_riding}
 use Rattle.store_journal.specs.Carries.{Carried, Carries, commit_of, format_of, last_of}
 use Rattle.store_journal.proofs.Loading.{carried_fits, carried_long}

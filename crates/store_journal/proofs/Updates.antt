@@ -2,7 +2,7 @@
 use Rattle.std.proofs.Common.{rules, ◌≡◌, ℕ, ◌+◌, ◌-◌, ◌*◌, ◌/◌, ◌%◌, ◌≤◌, ◌<◌, ◌^◌, List, [], ◌++◌, length, take, drop, refl, ap, subst, sym, ◌∙◌, arith, length-append, Option, None, if◌then◌else◌}
 use Rattle.std.proofs.lemmas.List.{drop-append-le, drop_all}
 use Rattle.store_journal.specs.Layout.{half_size, half_start, capacity_of}
-use Rattle.store_journal.specs.declared.commit.Commit.{Commit}
+use Rattle.store_journal.specs.declared.commit_sector.Commit.{Commit}
 use Rattle.sector_device.specs.Disk.{Disk, Image, IsCoherent}
 use Rattle.sector_device.specs.Sectors.{IsSectorOf, KeepsOthers}
 use Rattle.sector_device.specs.declared.device.SectorDevice.{Ghosts}
@@ -10,7 +10,7 @@ use Rattle.store_journal.specs.Calls.{CanCommit, SparesOther}
 use Rattle.store_journal.specs.Carries.{Carried, CarriesTo, Holds, begun, commit_of, committed, format_of, last_of, one_more}
 use Rattle.store_journal.specs.Fields.{IsSeenAs, view_of}
 use Rattle.store_journal.specs.Formed.{IsFormed}
-use Rattle.store_journal.specs.View.{View, bytes_read, carried_of}
+use Rattle.store_journal.specs.JournalView.{JournalView, bytes_read, carried_of}
 use Rattle.store_journal.specs.Riding.{bytes_seen, is_settled, riding_of}
 use Rattle.store_journal.specs.declared.riding.Riding.{Riding}
 use Rattle.store_journal.specs.Writes.{CanWrite, HasCopied, IsPlaced, copied_after, riding_with, touched, written_first}
@@ -71,13 +71,13 @@ pub record Starts {D : Type 0} {G : Ghosts D} (j : Inside D G) (update : Update)
   pub riding_is : riding ≡ length (riding_with update)
 
 -- as the call that finds it says
-pub starts_of : {D : Type 0} {G : Ghosts D} (j : Inside D G) (view : View D) (start : Start) {update : Update} {opens format riding : ℕ} → view_of j ≡ view → CanCommit (G.disk view.device) view update
+pub starts_of : {D : Type 0} {G : Ghosts D} (j : Inside D G) (view : JournalView D) (start : Start) {update : Update} {opens format riding : ℕ} → view_of j ≡ view → CanCommit (G.disk view.device) view update
     → ((c : Carried) → j.version ≡ c.version → j.half ≡ c.half → j.used ≡ length c.bytes → (start.version ≡ (begun c update.base).version) × (start.half ≡ (begun c update.base).half) × (start.used ≡ length (begun c update.base).bytes))
     → start.target.now ≡ written_first update.base → length start.front.now ≤ 512
     → ((c : Carried) → j.used ≡ length c.bytes → take (j.used % 512) j.tail ≡ drop (512 * (j.used / 512)) c.bytes → start.front.now ≡ drop (512 * (length (begun c update.base).bytes / 512)) (begun c update.base).bytes)
     → opens ≡ (if update.counts_opening then one_more j.opens else j.opens) → format ≡ format_of start.version update.rides → riding ≡ length (riding_with update) → Starts j update start opens format riding
 starts_of {D} {G} j view start {update} view_is can is target_is short front opens_is format_is riding_is =
-    let can_now = subst (λ (v : View D). CanCommit (G.disk v.device) v update) (sym view_is) can in
+    let can_now = subst (λ (v : JournalView D). CanCommit (G.disk v.device) v update) (sym view_is) can in
     search (rules, can_now, is (carried_of (view_of j)) refl refl (sym (used_is j)), front (carried_of (view_of j)) (sym (used_is j)))
 
 module _ {D : Type 0} {G : Ghosts D} {j : Inside D G} {update : Update} {start : Start} {opens format riding : ℕ} (starts : Starts j update start opens format riding) where

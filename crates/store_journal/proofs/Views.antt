@@ -9,7 +9,7 @@ use Rattle.store_journal.specs.Carries.{Holds, last_of}
 use Rattle.sector_device.specs.Sectors.{byte_at, Begins, KeepsOthers}
 use Rattle.store_journal.specs.Fields.{IsSeenAs, IsSound}
 use Rattle.store_journal.specs.Riding.{bytes_seen, is_settled, riding_of}
-use Rattle.store_journal.specs.View.{bytes_read}
+use Rattle.store_journal.specs.JournalView.{bytes_read}
 use Rattle.store_journal.specs.declared.riding.Riding.{Riding}
 use Rattle.store_journal.specs.declared.journal.Journal.TheInside.{Inside}
 

@@ -8,7 +8,7 @@ use Rattle.store_journal.specs.Carries.{Carried, appended, begun, committed, cou
 use Rattle.store_journal.specs.declared.update.Base.{Base}
 use Rattle.store_journal.specs.declared.update.Base.TheVariants.{Written, Copied}
 use Rattle.store_journal.specs.declared.update.Update.{Update}
-use Rattle.store_journal.specs.View.{View, carried_of}
+use Rattle.store_journal.specs.JournalView.{JournalView, carried_of}
 use Rattle.store_journal.specs.Writes.{Follows, HasCopied, append_calls, commit_calls, copied_after, count_calls, step_count}
 use Rattle.refusals.specs.declared.numbers.TheConstants.{FULL, DEVICE, BROKEN, SEQ_END}
 
@@ -17,13 +17,13 @@ abbrev pub BeginsWith : List ℕ → List ℕ → Type 0
 BeginsWith front all = take (length front) all ≡ front
 
 -- a working journal has room for so many bytes more, and seq for so many changes
-pub record Takes {D : Type 0} (view : View D) (more adds : ℕ) : Type 0 where
+pub record Takes {D : Type 0} (view : JournalView D) (more adds : ℕ) : Type 0 where
   pub works : view.broken ≡ false
   pub fits : length view.bytes + more ≤ capacity_of view.sectors
   pub seq_fits : view.seq + adds < 2 ^ 64
 
 -- why an append is refused: the first of these in this order
-abbrev pub AppendFault : {D : Type 0} → View D → ℕ → ℕ → ℕ → Type 0
+abbrev pub AppendFault : {D : Type 0} → JournalView D → ℕ → ℕ → ℕ → Type 0
 AppendFault view more adds number =
     ((number ≡ BROKEN) × (view.broken ≡ true))
     ⊎ ((number ≡ FULL) × (view.broken ≡ false) × (capacity_of view.sectors < length view.bytes + more))
@@ -31,11 +31,11 @@ AppendFault view more adds number =
     ⊎ ((number ≡ DEVICE) × Takes view more adds)
 
 -- why another call is refused
-abbrev pub CallFault : {D : Type 0} → View D → ℕ → Type 0
+abbrev pub CallFault : {D : Type 0} → JournalView D → ℕ → Type 0
 CallFault view number = ((number ≡ BROKEN) × (view.broken ≡ true)) ⊎ ((number ≡ DEVICE) × (view.broken ≡ false))
 
 -- the committed bytes and their numbers stay
-pub record Stays {D : Type 0} (disk : Disk) (old new : View D) : Type 0 where
+pub record Stays {D : Type 0} (disk : Disk) (old new : JournalView D) : Type 0 where
   pub bytes : disk.honest → new.bytes ≡ old.bytes
   pub used : length new.bytes ≡ length old.bytes
   pub seq : new.seq ≡ old.seq
@@ -47,17 +47,17 @@ pub record Stays {D : Type 0} (disk : Disk) (old new : View D) : Type 0 where
   pub settled : new.settled ≡ old.settled
 
 -- one of at most so many calls of the device failed
-pub record Broke {D : Type 0} (disk new_disk : Disk) (calls : ℕ) (old new : View D) : Type 0 where
+pub record Broke {D : Type 0} (disk new_disk : Disk) (calls : ℕ) (old new : JournalView D) : Type 0 where
   pub stays : Stays disk old new
   pub broken : new.broken ≡ true
   pub failed : Failed disk new_disk calls
 
 -- a call that was refused: but for the device's failure, nothing has changed
-abbrev pub Refused : {D : Type 0} → Disk → Disk → ℕ → View D → View D → ℕ → Type 0
+abbrev pub Refused : {D : Type 0} → Disk → Disk → ℕ → JournalView D → JournalView D → ℕ → Type 0
 Refused disk new_disk calls old new number = ((number ≡ DEVICE) × Broke disk new_disk calls old new) ⊎ ((number ≢ DEVICE) × (new ≡ old))
 
 -- a working journal has room for the commit, seq goes so far, and the other half holds a target that is copied
-pub record CanCommit {D : Type 0} (disk : Disk) (view : View D) (update : Update) : Type 0 where
+pub record CanCommit {D : Type 0} (disk : Disk) (view : JournalView D) (update : Update) : Type 0 where
   pub works : view.broken ≡ false
   pub version_fits : IsFormat (begun (carried_of view) update.base).version
   pub fits : length (begun (carried_of view) update.base).bytes + length update.frames.now ≤ capacity_of view.sectors
@@ -73,7 +73,7 @@ SparesOther (Copied target version) frames = frames ≡ []
 SparesOther _ frames = Unit {0}
 
 -- a call that succeeded: the journal is seen to carry this, bytes of this size, and is settled
-pub record Became {D : Type 0} (disk new_disk : Disk) (old new : View D) (c : Carried) (size calls : ℕ) : Type 0 where
+pub record Became {D : Type 0} (disk new_disk : Disk) (old new : JournalView D) (c : Carried) (size calls : ℕ) : Type 0 where
   pub bytes : disk.honest → new.bytes ≡ c.bytes
   pub used : length new.bytes ≡ size
   pub version : new.version ≡ c.version
@@ -87,7 +87,7 @@ pub record Became {D : Type 0} (disk new_disk : Disk) (old new : View D) (c : Ca
   pub made : Made disk new_disk calls
 
 -- a commit that succeeded
-pub record Committed {D : Type 0} (disk new_disk : Disk) (old new : View D) (update : Update) : Type 0 where
+pub record Committed {D : Type 0} (disk new_disk : Disk) (old new : JournalView D) (update : Update) : Type 0 where
   pub became : Became disk new_disk old new (committed (carried_of old) update)
       (length (begun (carried_of old) update.base).bytes + length update.frames.now) (commit_calls update (length (begun (carried_of old) update.base).bytes))
   pub open became use *
@@ -95,18 +95,18 @@ pub record Committed {D : Type 0} (disk new_disk : Disk) (old new : View D) (upd
   pub size : length new.copied ≡ length (copied_after update.base old.copied)
 
 -- an append that succeeded: the bytes stand behind the old ones, and seq has risen
-abbrev pub Appended : {D : Type 0} → Disk → Disk → View D → View D → List ℕ → ℕ → Type 0
+abbrev pub Appended : {D : Type 0} → Disk → Disk → JournalView D → JournalView D → List ℕ → ℕ → Type 0
 Appended disk new_disk old new more adds =
     Became disk new_disk old new (appended (carried_of old) more adds) (length old.bytes + length more) (append_calls old.rides (length old.bytes) (length more))
 
 -- an opening that was counted
-pub record Counted {D : Type 0} (disk new_disk : Disk) (old new : View D) : Type 0 where
+pub record Counted {D : Type 0} (disk new_disk : Disk) (old new : JournalView D) : Type 0 where
   pub worked : old.broken ≡ false
   pub became : Became disk new_disk old new (counted (carried_of old)) (length old.bytes) (count_calls old.rides (length old.bytes))
   pub open became use *
 
 -- a step of a copy: where the other half began with the target's first bytes, it begins with as many as were answered
-pub record Stepped {D : Type 0} (disk new_disk : Disk) (old new : View D) (target : List ℕ) (from max answer : ℕ) : Type 0 where
+pub record Stepped {D : Type 0} (disk new_disk : Disk) (old new : JournalView D) (target : List ℕ) (from max answer : ℕ) : Type 0 where
   pub worked : old.broken ≡ false
   pub stays : Stays disk old new
   pub works : new.broken ≡ false
@@ -116,16 +116,16 @@ pub record Stepped {D : Type 0} (disk new_disk : Disk) (old new : View D) (targe
   pub made : Made disk new_disk (step_count (length target) from max)
 
 -- the other half counts, and its bytes are the target
-pub record Moved {D : Type 0} (disk new_disk : Disk) (old new : View D) (c : Carried) (calls : ℕ) : Type 0 where
+pub record Moved {D : Type 0} (disk new_disk : Disk) (old new : JournalView D) (c : Carried) (calls : ℕ) : Type 0 where
   pub worked : old.broken ≡ false
   pub became : Became disk new_disk old new c (length c.bytes) calls
   pub open became use *
   pub copied : new.copied ≡ []
 
 -- by a switch, after a copy or not: in so many calls
-abbrev pub Switched : {D : Type 0} → Disk → Disk → View D → View D → List ℕ → ℕ → Type 0
+abbrev pub Switched : {D : Type 0} → Disk → Disk → JournalView D → JournalView D → List ℕ → ℕ → Type 0
 Switched disk new_disk old new target calls = Moved disk new_disk old new (switched (carried_of old) target) calls
 
 -- by a migration: in format 2, and one opening more is counted
-abbrev pub Migrated : {D : Type 0} → Disk → Disk → View D → View D → List ℕ → Type 0
+abbrev pub Migrated : {D : Type 0} → Disk → Disk → JournalView D → JournalView D → List ℕ → Type 0
 Migrated disk new_disk old new target = Moved disk new_disk old new (migrated (carried_of old) target) (sectors_of (length target) + 3)

@@ -2,7 +2,7 @@
 use Rattle.std.specs.Prelude.{◌≡◌, ◌⊎◌, ℕ, ◌+◌, ◌-◌, ◌<◌, ◌≤◌, ◌^◌, min, List, [], ◌++◌, length, drop, slice_index, slice_index_or, Bool, true, false, if◌then◌else◌}
 use Rattle.sector_device.specs.Disk.{Image}
 use Rattle.store_journal.specs.Layout.{sector_of, half_start, capacity_of, IsFormat, IsSized}
-use Rattle.store_journal.specs.declared.commit.Commit.{Commit}
+use Rattle.store_journal.specs.declared.commit_sector.Commit.{Commit}
 use Rattle.sector_device.specs.Sectors.{byte_at}
 use Rattle.store_journal.specs.declared.update.Base.{Base}
 use Rattle.store_journal.specs.declared.update.Base.TheVariants.{Kept, Again, Written, Copied}

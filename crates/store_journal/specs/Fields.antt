@@ -4,12 +4,12 @@ use Rattle.sector_device.specs.Disk.{Image}
 use Rattle.sector_device.specs.declared.device.SectorDevice.{Ghosts}
 use Rattle.store_journal.specs.Layout.{half_start}
 use Rattle.store_journal.specs.Carries.{CarriesTo, last_of}
-use Rattle.store_journal.specs.View.{View, bytes_read, carried_of}
+use Rattle.store_journal.specs.JournalView.{JournalView, bytes_read, carried_of}
 use Rattle.store_journal.specs.Riding.{bytes_seen, is_settled, riding_of}
 use Rattle.store_journal.specs.declared.journal.Journal.TheInside.{Inside}
 
 -- the bytes that are committed, and those with which the other half is known to begin, as they are read
-abbrev pub view_of : {D : Type 0} {G : Ghosts D} → Inside D G → View D
+abbrev pub view_of : {D : Type 0} {G : Ghosts D} → Inside D G → JournalView D
 view_of {D} {G} fields = record {
   device = fields.device;
   sectors = fields.sectors;

@@ -1,7 +1,7 @@
 -- The commit sector: what is written in sector 0. All numbers are big-endian.
 use Rattle.std.specs.Prelude.{◌≡◌, ℕ, ◌+◌, ◌-◌, ◌*◌, ◌/◌, ◌<◌, ◌≤◌, ◌^◌, List, [], ◌∷◌, ◌++◌, replicate, length, take, drop, false, nat_eq, if◌then◌else◌}
 use Rattle.std.specs.Int.{w32, w64, to_be_bytes}
-use Rattle.store_journal.specs.declared.commit.Commit.{Commit}
+use Rattle.store_journal.specs.declared.commit_sector.Commit.{Commit}
 
 -- JPSTORE1
 abbrev pub magic : List ℕ

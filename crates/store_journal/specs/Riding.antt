@@ -2,7 +2,7 @@
 use Rattle.std.specs.Prelude.{ℕ, ◌-◌, List, [], ◌++◌, length, Option, None, Some, Bool, true, false}
 use Rattle.sector_device.specs.Disk.{Image}
 use Rattle.store_journal.specs.Layout.{riding_in}
-use Rattle.store_journal.specs.View.{bytes_read}
+use Rattle.store_journal.specs.JournalView.{bytes_read}
 use Rattle.store_journal.specs.declared.riding.Riding.{Riding}
 
 -- these bytes

@@ -2,9 +2,9 @@
 use Rattle.std.specs.Prelude.{◌≡◌, ℕ, ◌+◌, ◌-◌, ◌*◌, ◌/◌, ◌≤◌, ◌<◌, ◌^◌, min, List, [], ◌++◌, length, take, drop, if◌then◌else◌, nat_eq, nat_le, Bool, true, false, ◌&&◌, ◌||◌, Result, OnOk}
 use Rattle.sector_device.specs.Disk.{Disk, Image, LeavesOnly}
 use Rattle.store_journal.specs.Layout.{half_start, capacity_of, IsFormat, IsSized}
-use Rattle.store_journal.specs.declared.commit.Commit.{Commit}
+use Rattle.store_journal.specs.declared.commit_sector.Commit.{Commit}
 use Rattle.sector_device.specs.Sectors.{Over, OverSome, SectorsHold, sectors_of}
-use Rattle.store_journal.specs.View.{bytes_read}
+use Rattle.store_journal.specs.JournalView.{bytes_read}
 use Rattle.store_journal.specs.Carries.{Carried, CarriesTo, EitherCarried, Holds, begun, commit_of, committed}
 use Rattle.store_journal.specs.declared.update.Base.{Base}
 use Rattle.store_journal.specs.declared.update.Base.TheVariants.{Kept, Again, Written, Copied}

@@ -1,6 +1,6 @@
 // The commit sector in bytes.
 ghost use Rattle.std.specs.Prelude.{◌≡◌, ◌≢◌, ◌↔◌, ◌≤◌, ◌+◌, ◌-◌, ◌^◌, List, ℕ, length, take, drop, IfSome, IfNone, IsTrue, nat_eq, if◌then◌else◌};
-ghost use Rattle.store_journal.specs.declared.commit.Commit.{Commit};
+ghost use Rattle.store_journal.specs.declared.commit_sector.Commit.{Commit};
 ghost use Rattle.store_journal.specs.Layout.{sector_of, riding_in, mark_of, Fits, IsOf, IsSized, magic};
 ghost use Rattle.std.specs.Int.{w32, w64, from_be_bytes};
 

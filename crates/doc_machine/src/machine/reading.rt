@@ -1,9 +1,9 @@
 //! What a machine answers of its documents. Nothing changes.
 ghost use Rattle.std.specs.Prelude.{◌≡◌, ◌⊎◌, Ok, Err, map, MatchResult};
-ghost use Rattle.doc_tree.specs.View.{view};
+ghost use Rattle.doc_tree.specs.TreeView.{view};
 ghost use Rattle.refusals.specs.declared.numbers.TheConstants.{MEMORY};
-ghost use Rattle.path_eval.specs.View.{nodes_of};
-ghost use Rattle.path_parse.specs.View.{query_view};
+ghost use Rattle.path_eval.specs.NodeView.{nodes_of};
+ghost use Rattle.path_parse.specs.SyntaxView.{query_view};
 ghost use Rattle.doc_changes.specs.Reading.{revision_at, schema_at, value_at, names_of};
 ghost use Rattle.doc_machine.specs.Queries.{nodes_in, nodes_at};
 ghost use Rattle.doc_changes.specs.Refusals.{plain};

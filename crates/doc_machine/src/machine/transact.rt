@@ -44,14 +44,13 @@ impl Trial {
         ensures own { IfErr result IsOwn }
         ensures good { Good self.new.state }
     {
-        // Opens the trial, so that its invariant is known.
-        let _ = self.len();
+        self.know();
         if self.seq() == LAST_SEQ {
             return Err(self.look().refuse_at_end(&command));
         }
         let ready = self.look().prepare(&command)?;
         let seq = self.change(command, ready)?;
-        let _ = self.len();
+        self.know();
         Ok(seq)
     }
 
@@ -85,7 +84,7 @@ impl Trial {
         ensures own { IfErr result IsOwn }
         ensures good { Good self.new.state }
     {
-        let _ = self.len();
+        self.know();
         let mut place = 0;
         let mut kept = 0;
         for command in commands {

@@ -59,6 +59,13 @@ impl Trial {
         }
     }
 
+    /// For the prover alone: who calls it knows from there on that the state is good.
+    pub fn know(&self)
+        ensures { Good self.now.state }
+    {
+        let _ = self.len();
+    }
+
     /// How many changes can be taken back.
     pub fn len(&self) -> usize
         ensures len { result ≡ length self.now.past }
@@ -100,8 +107,7 @@ impl Trial {
         ensures seq { IfOk result (λ seq. seq ≡ self.new.state.seq) }
         ensures err { OnErr result (self.new ≡ self.old) }
     {
-        // Opens the trial, so that its invariant is known.
-        let _ = self.len();
+        self.know();
         match self.change(command, judged) {
             Ok(seq) => Ok(seq),
             Err(_) => Err(AllocError),

@@ -11,7 +11,7 @@ ghost use Rattle.jpstore.specs.Files.{IsOpenedIn, IsUnopenedIn};
 ghost use Rattle.jpstore.specs.Shown.{Shows};
 ghost use Rattle.protocol.specs.Reply.{line_of};
 ghost use Rattle.sector_device.specs.declared.history.History.{Created};
-ghost use Rattle.serve_lines.specs.Status.{status_reply};
+ghost use Rattle.serve_lines.specs.StatusReply.{status_reply};
 
 use crate::fault::Fault;
 use crate::lines::show_line;

@@ -1,5 +1,5 @@
 use Rattle.std.proofs.Common.{Vec, Global, Option, IfNone, true, subst}
-use Rattle.doc_tree.specs.View.{view}
+use Rattle.doc_tree.specs.TreeView.{view}
 use Rattle.doc_tree.specs.declared.tree.Step.{Step}
 use Rattle.doc_patch.specs.Meaning.{operations}
 use Rattle.doc_patch.specs.Within.{Unchanging}

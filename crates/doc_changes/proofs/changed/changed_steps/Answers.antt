@@ -1,4 +1,4 @@
-use Rattle.doc_tree.specs.View.{view}
+use Rattle.doc_tree.specs.TreeView.{view}
 use Rattle.doc_patch.specs.Meaning.{operations}
 use Rattle.doc_changes.proofs.Agreeing.{made_agrees}
 use Rattle.doc_changes.proofs.changed.changed_steps.Goals as goal

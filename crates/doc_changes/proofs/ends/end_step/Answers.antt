@@ -1,6 +1,6 @@
 use Rattle.std.proofs.Common.{◌≡◌, ◌∙◌, option_map, length, sym, ap, arith}
 use Rattle.doc_tree.specs.Doc.{index}
-use Rattle.doc_tree.specs.View.{view}
+use Rattle.doc_tree.specs.TreeView.{view}
 use Rattle.doc_tree.proofs.Views.{view-List}
 use Rattle.doc_changes.proofs.AtEnd.{list_end}
 use Rattle.doc_changes.proofs.ends.end_step.Goals as goal

@@ -2,7 +2,7 @@ use Rattle.std.proofs.Common.{◌≡◌, ◌-◌, ◌∙◌, ap, map, List, ◌+
 use Rattle.std.proofs.lemmas.Result.{IfOk-at_ok}
 use Rattle.std.proofs.lemmas.List.{map-append}
 use Rattle.doc_changes.specs.State.{Document}
-use Rattle.doc_changes.specs.View.{document_of}
+use Rattle.doc_changes.specs.StateView.{document_of}
 use Rattle.doc_changes.proofs.Entries.{pushed}
 use Rattle.doc_changes.proofs.Undoing.{take-push}
 use Rattle.doc_changes.proofs.making.add.Goals as goal

@@ -4,7 +4,7 @@ use Rattle.std.specs.Option.{option_copied_mut}
 use Rattle.indexmap.specs.Layout.{set_value_at}
 use Rattle.doc_changes.specs.State.{Document, changed, find}
 use Rattle.doc_changes.specs.Undo.{with_rules}
-use Rattle.doc_changes.specs.View.{document_of, named}
+use Rattle.doc_changes.specs.StateView.{document_of, named}
 use Rattle.doc_changes.proofs.Entries.{found_at, is_some-find-map, written}
 use Rattle.doc_changes.proofs.Goodness.{found_changed}
 use Rattle.doc_changes.proofs.Undoing.{changed-back, keeps_name}

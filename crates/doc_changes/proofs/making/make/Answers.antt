@@ -1,13 +1,13 @@
 use Rattle.std.proofs.Common.{◌≡◌, sym, ◌∙◌, ap, subst, map, List, [], ◌∷◌, ◌++◌, ℕ, string_bytes, IfOk, IfErr}
 use Rattle.doc_tree.specs.Doc.{Doc}
-use Rattle.doc_tree.specs.View.{view}
+use Rattle.doc_tree.specs.TreeView.{view}
 use Rattle.record_text.specs.Change.{change_of}
 use Rattle.record_text.specs.declared.command.Command.{Command}
 use Rattle.doc_changes.specs.Judged.{IsJudgedIn, IsReady, RefusesIn}
 use Rattle.doc_changes.specs.State.{Document, changed, without}
 use Rattle.doc_changes.specs.Step.{documents_after}
 use Rattle.doc_changes.specs.Undo.{IsMade}
-use Rattle.doc_changes.specs.View.{document_of}
+use Rattle.doc_changes.specs.StateView.{document_of}
 use Rattle.doc_changes.proofs.Made.{can_add, measured, new_is, read_is}
 use Rattle.doc_changes.proofs.making.make.Goals as goal
 

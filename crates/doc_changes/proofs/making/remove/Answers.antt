@@ -2,7 +2,7 @@ use Rattle.std.proofs.Common.{◌+◌, ◌<◌, sym, ◌∙◌, ap, subst, map, 
 use Rattle.std.proofs.lemmas.List.{length-map}
 use Rattle.std.specs.Option.{IfSome}
 use Rattle.indexmap.proofs.SetLemmas.{map-insert}
-use Rattle.doc_changes.specs.View.{document_of}
+use Rattle.doc_changes.specs.StateView.{document_of}
 use Rattle.doc_changes.proofs.Entries.{is_some-find-map, removed}
 use Rattle.doc_changes.proofs.Undoing.{insert-remove}
 use Rattle.doc_changes.proofs.making.remove.Goals as goal

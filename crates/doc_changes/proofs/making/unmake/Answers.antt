@@ -3,7 +3,7 @@ use Rattle.std.proofs.lemmas.Result.{IfOk-at_ok}
 use Rattle.std.proofs.lemmas.List.{length-map}
 use Rattle.doc_changes.specs.State.{AreDistinct}
 use Rattle.doc_changes.specs.Undo.{documents_before, IsThere}
-use Rattle.doc_changes.specs.View.{document_of, named}
+use Rattle.doc_changes.specs.StateView.{document_of, named}
 use Rattle.doc_changes.specs.declared.undo.Undo.{Undo}
 use Rattle.doc_changes.proofs.Entries.{no_key}
 use Rattle.doc_changes.proofs.Undoing.{absent_at, inserted, map_popped}

@@ -2,7 +2,7 @@ use Rattle.std.proofs.Common.{◌≡◌, sym, ◌∙◌, ap, subst, map, is_some
 use Rattle.record_text.specs.Change as commands
 use Rattle.doc_changes.specs.Judged.{RefusesIn}
 use Rattle.doc_changes.specs.State.{find}
-use Rattle.doc_changes.specs.View.{document_of}
+use Rattle.doc_changes.specs.StateView.{document_of}
 use Rattle.doc_changes.proofs.Entries.{is_some-find-map, none_found}
 use Rattle.doc_changes.proofs.PatchedAt.{absent_there}
 use Rattle.doc_changes.proofs.patching.index_of.Goals as goal

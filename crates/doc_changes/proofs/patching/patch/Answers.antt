@@ -1,7 +1,7 @@
 use Rattle.std.proofs.Common.{◌≡◌, sym, ◌∙◌, ap, subst, Some, string_bytes, slice_get}
 use Rattle.std.specs.Map.{values_of}
 use Rattle.std.specs.Option.{option_copied_mut}
-use Rattle.doc_tree.specs.View.{view}
+use Rattle.doc_tree.specs.TreeView.{view}
 use Rattle.doc_changes.specs.Patching.{StandsAt}
 use Rattle.doc_changes.proofs.PatchedAt.{made_at, refused_at, same_at, valid_at}
 use Rattle.doc_changes.proofs.patching.patch.Goals as goal

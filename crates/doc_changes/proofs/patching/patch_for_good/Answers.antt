@@ -2,7 +2,7 @@ use Rattle.std.proofs.Common.{◌≡◌, sym, ◌∙◌, ap, subst, Some, string
 use Rattle.std.specs.Map.{values_of}
 use Rattle.std.specs.Option.{option_copied_mut}
 use Rattle.std.proofs.lemmas.Result.{MatchResult-weaker}
-use Rattle.doc_tree.specs.View.{view}
+use Rattle.doc_tree.specs.TreeView.{view}
 use Rattle.doc_changes.specs.Patching.{StandsAt}
 use Rattle.doc_changes.proofs.PatchedAt.{made_at_for_good, refused_at, valid_at}
 use Rattle.doc_changes.proofs.patching.patch_for_good.Goals as goal

@@ -4,7 +4,7 @@ use Rattle.std.specs.Option.{option_copied_mut}
 use Rattle.doc_patch.specs.Measured.{CanReverse}
 use Rattle.doc_changes.specs.State.{Document, find}
 use Rattle.doc_changes.specs.Undo.{reversed_doc}
-use Rattle.doc_changes.specs.View.{document_of, named}
+use Rattle.doc_changes.specs.StateView.{document_of, named}
 use Rattle.doc_changes.proofs.Entries.{found_at, is_some-find-map, same_some, written}
 use Rattle.doc_changes.proofs.patching.take_back.Goals as goal
 

@@ -1,5 +1,5 @@
 use Rattle.std.proofs.Common.{not, sym, ap, ◌∙◌}
-use Rattle.doc_tree.specs.View.{view}
+use Rattle.doc_tree.specs.TreeView.{view}
 use Rattle.refusals.specs.declared.numbers.TheConstants.{INVALID}
 use Rattle.doc_changes.specs.Refusals.{refused_if}
 use Rattle.doc_changes.proofs.Schemas.{true_accepts}

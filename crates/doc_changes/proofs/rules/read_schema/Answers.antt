@@ -1,7 +1,7 @@
 use Rattle.std.proofs.Common.{subst}
 use Rattle.doc_schema.specs.Faults.{IsFaultless}
 use Rattle.doc_tree.specs.Sound.{IsSound}
-use Rattle.doc_tree.specs.View.{view}
+use Rattle.doc_tree.specs.TreeView.{view}
 use Rattle.doc_changes.proofs.Schemas.{as_refused, unrefused}
 use Rattle.doc_changes.proofs.rules.read_schema.Goals as goal
 

@@ -1,6 +1,6 @@
 use Rattle.std.proofs.Common.{◌≡◌, ◌∙◌, option_map, length, sym, ap, arith}
 use Rattle.doc_tree.specs.Doc.{index}
-use Rattle.doc_tree.specs.View.{view}
+use Rattle.doc_tree.specs.TreeView.{view}
 use Rattle.doc_tree.proofs.Views.{view-List}
 use Rattle.doc_changes.proofs.Agreeing.{list_named}
 use Rattle.doc_changes.proofs.steps.step_named.Goals as goal

@@ -1,7 +1,7 @@
 use Rattle.std.proofs.Common.{inl, ◌≡◌, refl, ◌∙◌, string_bytes, length, arith}
 use Rattle.doc_edits.specs.Change.{here}
 use Rattle.doc_edits.specs.Change.{tokens_of}
-use Rattle.doc_tree.specs.View.{view}
+use Rattle.doc_tree.specs.TreeView.{view}
 use Rattle.doc_edits.proofs.Walk.{stepped, missing, tokens_step, as_str_step, found_in_object, not_in_object, written_in_object, found_in_list, not_in_list, written_in_list}
 use Rattle.doc_edits.proofs.Grown.{stepped_sized, stepped_taken}
 use Rattle.doc_edits.proofs.Same.{stepped_unchanged, looked_in}

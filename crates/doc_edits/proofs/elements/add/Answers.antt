@@ -1,5 +1,5 @@
 use Rattle.std.proofs.Common.{inl, sym, ◌∙◌, refl, arith}
-use Rattle.doc_tree.specs.View.{view, elements_view}
+use Rattle.doc_tree.specs.TreeView.{view, elements_view}
 use Rattle.doc_edits.proofs.Leaves.{item_appended, item_added, item_not_added}
 use Rattle.doc_edits.proofs.Grown.{added_item_size}
 use Rattle.doc_edits.proofs.elements.add.Goals as goal

@@ -1,7 +1,7 @@
 use Rattle.std.proofs.Common.{◌≡◌, ◌<◌, Some, sym, ap, subst, ◌∙◌, refl, length, arith}
 use Rattle.std.specs.Prelude.{IfSome}
 use Rattle.doc_tree.specs.Doc.{get_element}
-use Rattle.doc_tree.specs.View.{view, elements_view}
+use Rattle.doc_tree.specs.TreeView.{view, elements_view}
 use Rattle.doc_edits.specs.Edit.{remove_item}
 use Rattle.doc_edits.proofs.Indices.{index_in}
 use Rattle.doc_edits.proofs.Leaves.{item_taken, item_removed, item_not_removed}

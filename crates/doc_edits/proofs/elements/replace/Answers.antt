@@ -1,7 +1,7 @@
 use Rattle.std.proofs.Common.{◌≡◌, ◌<◌, Some, sym, ap, subst, ◌∙◌, refl, length, arith, get_or}
 use Rattle.std.specs.Prelude.{IfSome}
 use Rattle.doc_tree.specs.Doc.{get_element}
-use Rattle.doc_tree.specs.View.{view, elements_view}
+use Rattle.doc_tree.specs.TreeView.{view, elements_view}
 use Rattle.doc_edits.specs.Edit.{replace_item}
 use Rattle.doc_edits.proofs.Indices.{index_in}
 use Rattle.doc_edits.proofs.Leaves.{item_replaced, item_not_replaced}

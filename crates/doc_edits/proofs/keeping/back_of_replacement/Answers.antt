@@ -1,5 +1,5 @@
 use Rattle.std.proofs.Common.{◌≡◌, Some, sym, ap, ◌∙◌}
-use Rattle.doc_tree.specs.View.{view}
+use Rattle.doc_tree.specs.TreeView.{view}
 use Rattle.doc_pointer.specs.Place.{resolve}
 use Rattle.doc_edits.specs.Edit.{replace}
 use Rattle.doc_edits.proofs.TakenBack.{replaced_back, nothing_replaced}

@@ -1,7 +1,7 @@
 use Rattle.std.proofs.Common.{◌≡◌, Some, sym, ap, ◌∙◌}
 use Rattle.std.specs.Prelude.{if◌then◌else◌}
 use Rattle.doc_tree.specs.Doc.{list}
-use Rattle.doc_tree.specs.View.{view, elements_view}
+use Rattle.doc_tree.specs.TreeView.{view, elements_view}
 use Rattle.doc_tree.proofs.Views.{view-List}
 use Rattle.doc_edits.specs.Edit.{elements_len}
 use Rattle.doc_edits.specs.Keeping.{meeting_here, end, free}

@@ -1,6 +1,6 @@
 use Rattle.std.proofs.Common.{refl, sym, ap, ◌∙◌, string_cmp, Some, None}
 use Rattle.doc_edits.specs.Size.{comma_beside_members}
-use Rattle.doc_tree.specs.View.{view, members_view}
+use Rattle.doc_tree.specs.TreeView.{view, members_view}
 use Rattle.std.specs.BTreeMap.{insert_entry}
 use Rattle.doc_edits.proofs.Leaves.{member_added, member_set}
 use Rattle.doc_edits.proofs.Leaves.{found}

@@ -1,5 +1,5 @@
 use Rattle.std.proofs.Common.{Some, sym, ◌∙◌, refl}
-use Rattle.doc_tree.specs.View.{view, members_view}
+use Rattle.doc_tree.specs.TreeView.{view, members_view}
 use Rattle.doc_edits.specs.Edit.{remove_member}
 use Rattle.doc_edits.proofs.Leaves.{member_removed, member_missing_to_remove}
 use Rattle.doc_edits.proofs.Leaves.{found}

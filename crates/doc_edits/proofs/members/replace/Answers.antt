@@ -1,5 +1,5 @@
 use Rattle.std.proofs.Common.{inl, Some, ap, ◌∙◌, refl}
-use Rattle.doc_tree.specs.View.{view, members_view}
+use Rattle.doc_tree.specs.TreeView.{view, members_view}
 use Rattle.doc_edits.proofs.Leaves.{member_replaced, member_missing_to_replace}
 use Rattle.doc_edits.proofs.Leaves.{found}
 use Rattle.doc_edits.proofs.Grown.{replaced_member_size}

@@ -1,6 +1,6 @@
 use Rattle.std.proofs.Common.{sym, subst}
-use Rattle.doc_tree.specs.View.{view}
-use Rattle.doc_edits.specs.Growth.{IsWeightOf}
+use Rattle.doc_tree.specs.TreeView.{view}
+use Rattle.doc_edits.specs.SizeChange.{IsWeightOf}
 use Rattle.doc_edits.proofs.Knowing.{put_known, weighed}
 use Rattle.doc_edits.proofs.operation.copy_value.Goals as goal
 

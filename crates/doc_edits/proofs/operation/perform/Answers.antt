@@ -1,9 +1,9 @@
 use Rattle.std.proofs.Common.{◌≡◌, sym, ap, ◌∙◌, subst, refl, inr, Ok, MatchResult}
 use Rattle.std.proofs.lemmas.Result.{IfOk-from_err}
-use Rattle.doc_tree.specs.View.{view}
+use Rattle.doc_tree.specs.TreeView.{view}
 use Rattle.doc_edits.specs.Change.{tokens_of}
 use Rattle.doc_edits.specs.Edit.{replace}
-use Rattle.doc_edits.specs.Growth.{Grew}
+use Rattle.doc_edits.specs.SizeChange.{Grew}
 use Rattle.doc_edits.specs.Meaning.{meaning}
 use Rattle.doc_edits.specs.Operation.{change, or_missing}
 use Rattle.doc_edits.specs.OperationFault.{IsOperationFaultOf, IsMissing}

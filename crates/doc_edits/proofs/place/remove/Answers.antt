@@ -1,9 +1,9 @@
 use Rattle.std.proofs.Common.{option_map, sym, ap, ◌∙◌, arith}
-use Rattle.doc_tree.specs.View.{view}
+use Rattle.doc_tree.specs.TreeView.{view}
 use Rattle.doc_pointer.specs.Place.{resolve}
 use Rattle.doc_edits.specs.Change.{tokens_of}
 use Rattle.doc_edits.specs.Edit as edit
-use Rattle.doc_edits.specs.Growth.{old_size}
+use Rattle.doc_edits.specs.SizeChange.{old_size}
 use Rattle.doc_edits.proofs.Growths.{removed, removed_was_there, value_at-resolve}
 use Rattle.doc_edits.proofs.Soundness.{AreUtf8-tokens_of, remove_sound, resolve_sound}
 use Rattle.doc_edits.proofs.Walk.{as_str_step}

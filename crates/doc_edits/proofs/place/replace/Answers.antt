@@ -1,8 +1,8 @@
 use Rattle.std.proofs.Common.{ap, ◌∙◌, arith}
-use Rattle.doc_tree.specs.View.{view}
+use Rattle.doc_tree.specs.TreeView.{view}
 use Rattle.doc_edits.specs.Change.{tokens_of}
 use Rattle.doc_edits.specs.Edit as edit
-use Rattle.doc_edits.specs.Growth.{old_size}
+use Rattle.doc_edits.specs.SizeChange.{old_size}
 use Rattle.doc_edits.specs.Size.{size}
 use Rattle.doc_edits.proofs.Growths.{replaced, bytes_of}
 use Rattle.doc_edits.proofs.Tokens.{tokens_len}

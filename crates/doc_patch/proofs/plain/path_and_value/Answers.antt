@@ -1,6 +1,6 @@
 use Rattle.json.specs.Print.{escape_byte}
 use Rattle.std.proofs.Common.{subst, sym}
-use Rattle.doc_tree.specs.View.{view}
+use Rattle.doc_tree.specs.TreeView.{view}
 use Rattle.doc_patch.specs.Plain.{BeginsWithPointer, BeginsWithValue}
 use Rattle.doc_patch.proofs.plain.path_and_value.Goals as goal
 

@@ -1,7 +1,7 @@
 use Rattle.std.proofs.Common.{IfSome, codes, refl, sym, subst}
 use Rattle.json.specs.Print.{escape_byte}
 use Rattle.json.proofs.Printed.Utf8.{IsUtf8-are_ascii}
-use Rattle.doc_tree.specs.View.{view}
+use Rattle.doc_tree.specs.TreeView.{view}
 use Rattle.doc_edits.specs.Meaning.{meaning}
 use Rattle.doc_edits.specs.Operation.{add, remove, replace, test}
 use Rattle.doc_patch.specs.Plain.{BeginsWithOperation}
@@ -35,4 +35,4 @@ returns-in_ok-path-4 c =
 pub returns-in_ok-strip_bytes : goal.returns-in_ok-strip_bytes
 unfolding escape_byte
 returns-in_ok-strip_bytes c =
-    subst (λ x. IfSome c.sourced_operation.result (λ r. BeginsWithOperation x (meaning r.0) r.1.now)) (sym c.in_ok-strip_bytes.ensures) c.sourced_operation.ensures
+    subst (λ x. IfSome c.operation_with_from.result (λ r. BeginsWithOperation x (meaning r.0) r.1.now)) (sym c.in_ok-strip_bytes.ensures) c.operation_with_from.ensures

@@ -1,5 +1,5 @@
 use Rattle.std.proofs.Common.{sym, ap, ◌∙◌}
-use Rattle.doc_tree.specs.View.{view}
+use Rattle.doc_tree.specs.TreeView.{view}
 use Rattle.doc_tree.proofs.Views.{view-List}
 use Rattle.doc_patch.specs.Reading.{operation_count}
 use Rattle.doc_edits.proofs.Indices.{elements_len-view}

@@ -1,5 +1,5 @@
 use Rattle.std.proofs.Common.{◌≡◌, refl, inr, sym, ap, ◌∙◌, subst, option_map, Ok, MatchResult}
-use Rattle.doc_tree.specs.View.{view}
+use Rattle.doc_tree.specs.TreeView.{view}
 use Rattle.doc_pointer.specs.Reading.{pointer_of}
 use Rattle.doc_edits.specs.Meaning.{meaning}
 use Rattle.doc_patch.specs.Meaning.{spelled}

@@ -1,6 +1,6 @@
 use Rattle.std.proofs.Common.{◌≡◌, option_map, option_and_then, Some, sym, ap, ◌∙◌}
 use Rattle.std.specs.Prelude.{codes}
-use Rattle.doc_tree.specs.View.{view}
+use Rattle.doc_tree.specs.TreeView.{view}
 use Rattle.doc_edits.specs.Operation.{add, replace, move, copy, test}
 use Rattle.doc_patch.specs.Reading.{as_text, text_at, with_value, with_from}
 use Rattle.doc_patch.proofs.Spellings.{none, member_text, no_op, no_path, by_members, an_add, a_remove, a_replace, a_move, a_copy, a_test, no_operation}

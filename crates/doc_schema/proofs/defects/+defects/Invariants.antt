@@ -1,6 +1,6 @@
 use Rattle.std.proofs.Common.{◌≡◌, false, drop}
 use Rattle.std.specs.List.{list_any}
-use Rattle.doc_tree.specs.View.{view, elements_view, members_view}
+use Rattle.doc_tree.specs.TreeView.{view, elements_view, members_view}
 use Rattle.doc_schema.specs.Defects.{is_defective}
 use Rattle.doc_schema.specs.Schemas.{schemas_each, schemas_named, schemas_below}
 use Rattle.doc_schema.proofs.defects.+defects.Given as goal

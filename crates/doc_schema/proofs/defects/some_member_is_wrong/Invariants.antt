@@ -1,5 +1,5 @@
 use Rattle.std.proofs.Common.{◌≡◌}
-use Rattle.doc_tree.specs.View.{view, members_view}
+use Rattle.doc_tree.specs.TreeView.{view, members_view}
 use Rattle.doc_schema.specs.Defects.{is_wrong, some_member}
 use Rattle.doc_schema.proofs.defects.some_member_is_wrong.Given as goal
 

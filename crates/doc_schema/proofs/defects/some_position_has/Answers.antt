@@ -1,7 +1,7 @@
 use Rattle.std.proofs.Common.{◌≡◌, false, ◌||◌, sym, ap, ◌∙◌}
 use Rattle.std.specs.List.{list_any}
 use Rattle.doc_tree.specs.Doc.{object}
-use Rattle.doc_tree.specs.View.{view, members_view}
+use Rattle.doc_tree.specs.TreeView.{view, members_view}
 use Rattle.doc_tree.proofs.Views.{view-Object}
 use Rattle.doc_schema.specs.Defects.{has_defect, is_defective}
 use Rattle.doc_schema.specs.Positions.{positions}

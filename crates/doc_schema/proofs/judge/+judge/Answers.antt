@@ -1,7 +1,7 @@
 use Rattle.std.proofs.Common.{◌≡◌, ◌==◌, ◌&&◌, inl, inr, ⊎_elim, ◌+◌, ◌*◌, ◌<◌, true, false, refl, sym, ap, subst, ◌∙◌, arith, rules, string_bytes, option_map, codes, is_some, not}
 use Rattle.std.proofs.lemmas.List.{drop_all}
 use Rattle.doc_tree.specs.Doc.{object, text, get_member}
-use Rattle.doc_tree.specs.View.{view, elements_view, members_view}
+use Rattle.doc_tree.specs.TreeView.{view, elements_view, members_view}
 use Rattle.doc_tree.proofs.Views.{view-Object}
 use Rattle.schema_graph.specs.Walks.{In, first, later}
 use Rattle.schema_rules.specs.Keywords.{keyword_of}

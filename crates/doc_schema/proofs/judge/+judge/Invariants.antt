@@ -1,6 +1,6 @@
 use Rattle.std.proofs.Common.{◌≡◌, ◌==◌, ◌≤◌, ◌+◌, ◌*◌, drop, option_map, codes}
 use Rattle.doc_tree.specs.Doc.{object}
-use Rattle.doc_tree.specs.View.{view, elements_view, members_view}
+use Rattle.doc_tree.specs.TreeView.{view, elements_view, members_view}
 use Rattle.schema_graph.specs.Walks.{In}
 use Rattle.schema_rules.specs.Instances.{seen}
 use Rattle.schema_rules.specs.Parts.{beside, elements_in, members_in}

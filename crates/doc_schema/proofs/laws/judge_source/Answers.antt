@@ -1,5 +1,5 @@
 use Rattle.std.proofs.Common.{Some, sym, ap, ◌∙◌, arith}
-use Rattle.doc_tree.specs.View.{view}
+use Rattle.doc_tree.specs.TreeView.{view}
 use Rattle.doc_schema.specs.Judge.{enough}
 use Rattle.doc_schema.proofs.Closed.{own}
 use Rattle.doc_schema.proofs.Fuel.{enough_is}

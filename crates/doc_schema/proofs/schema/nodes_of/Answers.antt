@@ -1,4 +1,4 @@
-use Rattle.doc_tree.specs.View.{view}
+use Rattle.doc_tree.specs.TreeView.{view}
 use Rattle.doc_schema.proofs.Thirds.{fits}
 use Rattle.doc_schema.proofs.Thirteenths.{room}
 use Rattle.doc_schema.proofs.schema.nodes_of.Goals as goal

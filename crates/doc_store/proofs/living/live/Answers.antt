@@ -19,17 +19,17 @@ returns-clause-lived c = rw (← c.new.ensures.device) (λ s settled all alone.
     let before = ap (λ (d : MemDisk). d.failures) c.new.ensures.device in
     let after = ap (λ (d : MemDisk). d.failures) c.into_inner-disk.ensures in
     let all_stop : life.stop ≡ life.stop - 0 = omega arith in
-    let has : ((mem_disk c.new.result.device).worn → ⊥) → HasSpent life.stop 0 old = (λ unworn. record {
-      passes = c.new.ensures.passes ∙ ap Some all_stop;
+    let has : ((mem_disk c.new.result.device).failures_saturated → ⊥) → HasSpent life.stop 0 old = (λ unsaturated. record {
+      calls_left = c.new.ensures.passes ∙ ap Some all_stop;
       within = omega arith;
-      unworn = λ worn. ⊎_elim (λ inner. unworn inner) (λ own. (let count = c.new.ensures.failures in omega (arith, before, own, count))) worn;
+      unsaturated = λ saturated. ⊎_elim (λ inner. unsaturated inner) (λ own. (let count = c.new.ensures.failures in omega (arith, before, own, count))) saturated;
     }) in
-    let faults : (fuse_disk mem_disk ended.device).faults - old.faults ≡ c.saturating_sub-disk_faults.result =
+    let faults : (fuse_disk mem_disk ended.device).own_failures - old.own_failures ≡ c.saturating_sub-disk_faults.result =
     (λ i. (sym (c.failures.ensures ∙ after)) i - (before ∙ sym c.failures-before.ensures) i) ∙ sym c.saturating_sub-disk_faults.ensures in
     let one = subst (λ (n : ℕ). Leaves old (left s old.seen settled) life (record ended.part { disk_faults = n }) image) faults
     (c.in_ok-part.ensures.leaves s life settled refl all alone tt image (rw c.into_inner-disk.ensures at c.crash.ensures.one)) in
     let lived = one.lived in
-    (one.state, (lived.0, lived.1, lived.2, (λ unworn. lived.3 (has unworn)), lived.4), one.began, (λ other is. subst (λ (i : Image). Stands one.state i) (sym (c.crash.ensures.alone other is)) one.stands)))
+    (one.state, (lived.0, lived.1, lived.2, (λ unsaturated. lived.3 (has unsaturated)), lived.4), one.began, (λ other is. subst (λ (i : Image). Stands one.state i) (sym (c.crash.ensures.alone other is)) one.stands)))
 
 pub returns-clause-rooms : goal.returns-clause-rooms
 returns-clause-rooms c = rw (← c.new.ensures.device) (λ lacks.

@@ -19,14 +19,14 @@ returns-clause-leaves g c = rw c.into_device.ensures.device (λ s life settled s
     let start = c.in-Ok.store in
     let end = c.ask_all.new.store in
     let told = subst (λ (es : List Event). Told disk start end es c.ask_all.new.self) (ap (λ events. map event_of events.items) (sym same)) c.ask_all.ensures.told in
-    let faults = (disk end.device).faults - given.faults in
+    let faults = (disk end.device).own_failures - given.own_failures in
     let at_open = told.ran.honest.1 honest in
     let coherent = g.met.D.SectorDevice.coherent c.args.device (c.in-Ok.ensures.honest at_open) in
     let sectors = opened.sectors_is ∙ sym (coherent.shape given.seen coherent.seen).count in
     let state = c.in-Ok.ensures.exact s (all given.seen coherent.seen) at_open in
     leaves_opened disk given start end faults settled s life c.ask_all.new.self c.status-began.result.seq told at_open opened.works opened.no_copy state
     (ap (λ status. status.seq) c.status-began.ensures.status ∙ ap (λ state. state.seq) state) image is_left
-    (λ t. timely_from disk c.args.device start end life.stop (events_of life) (replies_of c.ask_all.new.self) told.hit opened.works c.stands_as.ensures (opened.found at_open) sectors
+    (λ t. timely_from disk c.args.device start end life.stop (events_of life) (replies_of c.ask_all.new.self) told.hit opened.works c.know.ensures.stands_as (opened.found at_open) sectors
     (rw (opened.found_is at_open) opened.made) told.asked s settled (left t image true) refl honest is_left))
 
 pub returns-in-Err-clause-leaves : goal.returns-in-Err-clause-leaves
@@ -39,7 +39,7 @@ returns-in-Err-clause-leaves g c = λ s life settled same all alone honest image
     let either = unopened old new s stands now (c.in-Err.ensures.any_moment_err honest) image is_left in
     let number : c.in-Err.fault.number ≡ DEVICE =
     ⊎_elim (λ device. device) (⊎_elim (λ memory. absurd (c.if-number-eq-MEMORY.false memory)) (λ none. absurd (c.if-number-eq-NO_ROOM.false none.0))) (c.in-Err.ensures.exact s stands honest) in
-    leaves_unopened old (new.faults - old.faults) settled s life c.in_ok-part.part image c.in_ok-part.ensures.nothing
+    leaves_unopened old (new.own_failures - old.own_failures) settled s life c.in_ok-part.part image c.in_ok-part.ensures.nothing
     (late_from old new life.stop s stands (failed_to_open old new s stands ((why_of old new c.in-Err.fault.number c.in-Err.ensures.refused).1 number) honest) settled (left s image true) alone refl
     (⊎_elim inl (λ other. inr other.1) either) (sized_unopened old new was now (c.in-Err.ensures.sectors_err honest) image is_left))
     (⊎_elim (all image) (λ other. other.0) either)
@@ -57,7 +57,7 @@ returns-clause-rooms g c = rw c.into_device.ensures.device (λ honest lacks.
     let told = c.ask_all.ensures.told in
     let last = c.ask_all.new.store in
     absurd (left_has_room told.hit last.account lacks.0
-    ((so_far g.D.SectorDevice.disk c.in-Ok.store 0 0 c.in-Ok.ensures.opened.works c.stands_as.ensures (map event_of c.args.events.items) (replies_of c.ask_all.new.self) last told.hit told.asked).leaves honest lacks.0 lacks.1) lacks.2))
+    ((so_far g.D.SectorDevice.disk c.in-Ok.store 0 0 c.in-Ok.ensures.opened.works c.know.ensures.stands_as (map event_of c.args.events.items) (replies_of c.ask_all.new.self) last told.hit told.asked).leaves honest lacks.0 lacks.1) lacks.2))
 
 pub returns-in-Err-clause-rooms : goal.returns-in-Err-clause-rooms
 returns-in-Err-clause-rooms g c = λ honest lacks.

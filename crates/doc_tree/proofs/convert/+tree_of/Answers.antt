@@ -9,7 +9,7 @@ use Rattle.serde_json.specs.View.{items_view, members_view as data_members}
 use Rattle.doc_tree.specs.Doc.{element, member}
 use Rattle.doc_tree.specs.Read.{elements_from, members_from}
 use Rattle.doc_tree.specs.Sound.{IsSound, AreSound}
-use Rattle.doc_tree.specs.View.{elements_view}
+use Rattle.doc_tree.specs.TreeView.{elements_view}
 use Rattle.doc_tree.proofs.Soundness.{AllSound, AllSound-push, AreSound-push, MembersAreSound-members_view}
 use Rattle.doc_tree.proofs.Views.{Entry, view-Text}
 use Rattle.doc_tree.proofs.Conversion.{elements_before, elements_before-none, one_more_element, members_before, members_before-none, one_more_member, next_entry}

@@ -5,7 +5,7 @@ use Rattle.serde_json.specs.View.{items_view, members_view}
 use Rattle.serde_json.specs.declared.value.Value.{Value}
 use Rattle.doc_tree.specs.Read.{elements_from, members_from}
 use Rattle.doc_tree.specs.Sound.{AreSound}
-use Rattle.doc_tree.specs.View.{elements_view}
+use Rattle.doc_tree.specs.TreeView.{elements_view}
 use Rattle.doc_tree.proofs.Conversion.{elements_before, members_before}
 use Rattle.doc_tree.proofs.Soundness.{AllSound}
 use Rattle.doc_tree.proofs.convert.+tree_of.Given as goal

@@ -4,7 +4,7 @@ use Rattle.std.proofs.lemmas.Result.{on_ok_weaker}
 use Rattle.serde.specs.Event.{Logs, seq_begins, map_begins}
 use Rattle.serde_json.specs.Events.{SendsItems, SendsMembers}
 use Rattle.doc_tree.specs.Text.{items_of, members_of}
-use Rattle.doc_tree.specs.View.{elements_view, members_view}
+use Rattle.doc_tree.specs.TreeView.{elements_view, members_view}
 use Rattle.doc_tree.proofs.Events.{items_len-elements_view, members_len-members_view}
 use Rattle.doc_tree.proofs.Soundness.{AllSound, MembersAreSound-members_view}
 use Rattle.doc_tree.proofs.send.+send.Goals as goal

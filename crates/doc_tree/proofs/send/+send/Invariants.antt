@@ -3,7 +3,7 @@ use Rattle.serde.specs.Event.{Log}
 use Rattle.serde_json.specs.Events.{SendsItems, SendsMembers}
 use Rattle.doc_tree.specs.Sound.{AreSound}
 use Rattle.doc_tree.specs.Text.{items_of, members_of}
-use Rattle.doc_tree.specs.View.{elements_view, members_view}
+use Rattle.doc_tree.specs.TreeView.{elements_view, members_view}
 use Rattle.doc_tree.proofs.Soundness.{AllSound}
 use Rattle.doc_tree.proofs.send.+send.Given as goal
 

@@ -2,7 +2,7 @@ use Rattle.std.proofs.Common.{◌≡◌, ◌+◌, ℕ, List, string_bytes, [], �
 use Rattle.std.proofs.lemmas.List.{drop_all, drop_more}
 use Rattle.json.specs.Print.{quoted}
 use Rattle.doc_tree.specs.Text.{elements_text, members_text_of}
-use Rattle.doc_tree.specs.View.{view, elements_view, members_view}
+use Rattle.doc_tree.specs.TreeView.{view, elements_view, members_view}
 use Rattle.doc_tree.proofs.Stripping.{ended, one_element, one_member}
 use Rattle.doc_tree.proofs.strip.+strip.Goals as goal
 

@@ -1,6 +1,6 @@
 use Rattle.std.proofs.Common.{◌≡◌, ℕ, List, ◌++◌, drop, false}
 use Rattle.doc_tree.specs.Text.{elements_text, members_text_of}
-use Rattle.doc_tree.specs.View.{elements_view, members_view}
+use Rattle.doc_tree.specs.TreeView.{elements_view, members_view}
 use Rattle.doc_tree.proofs.strip.+strip.Given as goal
 
 -- whatever follows the rest of the text here follows the whole text there

@@ -2,7 +2,7 @@ use Rattle.std.proofs.Common.{subst, sym}
 use Rattle.path_eval.proofs.Answered.{all_gives, not_gives, some_gives}
 use Rattle.path_plans.specs.PlanView.{test_view}
 use Rattle.path_plans.specs.Planned.{passes, test_refused}
-use Rattle.path_eval.specs.Told.{IsAskedRightly, asked_view}
+use Rattle.path_eval.specs.FilterTables.{IsAskedRightly, asked_view}
 use Rattle.path_select.specs.Indexed.{at_number}
 use Rattle.path_select.specs.Gives.{Gives}
 use Rattle.path_eval.proofs.asking.node_passes.Goals as goal

@@ -1,6 +1,6 @@
 use Rattle.std.proofs.Common.{◌≡◌, ◌||◌, drop}
 use Rattle.std.specs.List.{list_any}
-use Rattle.path_eval.specs.Told.{is_held, is_refused}
+use Rattle.path_eval.specs.FilterTables.{is_held, is_refused}
 use Rattle.path_eval.proofs.asking.some_hold.Given as goal
 
 abbrev pub invariant-loop-each : goal.invariant-loop-each

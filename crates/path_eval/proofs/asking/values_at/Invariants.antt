@@ -1,7 +1,7 @@
 use Rattle.std.proofs.Common.{◌≡◌, ◌++◌, drop}
 use Rattle.path_select.specs.Indexed.{at_numbers}
 use Rattle.path_select.specs.Values.{values}
-use Rattle.path_select.specs.View.{docs_of}
+use Rattle.path_select.specs.ChildView.{docs_of}
 use Rattle.path_eval.proofs.asking.values_at.Given as goal
 
 abbrev pub invariant-loop-number : goal.invariant-loop-number

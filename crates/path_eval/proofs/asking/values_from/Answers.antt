@@ -1,7 +1,7 @@
 use Rattle.std.proofs.Common.{◌∙◌, ap, subst, sym}
 use Rattle.std.proofs.lemmas.Result.{err_from_is_err_and}
 use Rattle.path_eval.proofs.Answered.{listed_anywhere, refused_anywhere}
-use Rattle.path_eval.specs.Told.{phases_view}
+use Rattle.path_eval.specs.FilterTables.{phases_view}
 use Rattle.path_select.specs.Indexed.{at_number}
 use Rattle.path_select.specs.Gives.{Stops}
 use Rattle.path_select.specs.Values.{values}

@@ -1,6 +1,6 @@
 use Rattle.std.proofs.Common.{◌≡◌, ◌++◌, drop, false, length, map}
 use Rattle.path_plans.specs.Planned.{all_taken, choices_refused}
-use Rattle.path_eval.specs.Told.{AreRight, picks_view}
+use Rattle.path_eval.specs.FilterTables.{AreRight, picks_view}
 use Rattle.path_select.specs.Indexed.{at_number, at_numbers}
 use Rattle.path_select.specs.Limit.{is_over}
 use Rattle.path_select.specs.Nodes.{child_at}

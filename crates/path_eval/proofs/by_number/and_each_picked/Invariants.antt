@@ -1,5 +1,5 @@
 use Rattle.std.proofs.Common.{◌≡◌, ◌++◌, drop, false, length}
-use Rattle.path_eval.specs.Told.{picks_view}
+use Rattle.path_eval.specs.FilterTables.{picks_view}
 use Rattle.path_eval.specs.Visiting.{refused_at, selected_at}
 use Rattle.path_select.specs.Indexed.{at_numbers}
 use Rattle.path_select.specs.Limit.{is_over}

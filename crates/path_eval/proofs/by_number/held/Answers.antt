@@ -2,7 +2,7 @@ use Rattle.std.proofs.Common.{◌≡◌, ◌++◌, ◌∙◌, ◌∷◌, ◌+◌
 use Rattle.std.specs.List.{list_any}
 use Rattle.std.proofs.lemmas.List.{drop_all}
 use Rattle.std.proofs.lemmas.Result.{err_from_is_err_and}
-use Rattle.path_eval.specs.Told.{is_held, is_refused}
+use Rattle.path_eval.specs.FilterTables.{is_held, is_refused}
 use Rattle.path_plans.proofs.Filtered.{takes_it, leaves_it, none_here, stops_here}
 use Rattle.path_eval.proofs.by_number.held.Goals as goal
 use Rattle.path_eval.proofs.by_number.held.Goals.{then-branch+in_ok-push, else-branch}

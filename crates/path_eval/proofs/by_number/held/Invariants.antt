@@ -1,6 +1,6 @@
 use Rattle.std.proofs.Common.{◌≡◌, ◌++◌, drop, filter}
 use Rattle.std.specs.List.{list_any}
-use Rattle.path_eval.specs.Told.{is_held, is_refused}
+use Rattle.path_eval.specs.FilterTables.{is_held, is_refused}
 use Rattle.path_eval.proofs.by_number.held.Given as goal
 
 abbrev pub invariant-loop-number : goal.invariant-loop-number

@@ -7,7 +7,7 @@ use Rattle.path_plans.specs.PlanView.{way_selector}
 use Rattle.path_select.specs.Indexed.{at_number}
 use Rattle.path_select.proofs.Trails.{if_made}
 use Rattle.path_select.specs.Nodes.{child_at}
-use Rattle.path_select.specs.View.{child_of, children_of}
+use Rattle.path_select.specs.ChildView.{child_of, children_of}
 use Rattle.path_eval.proofs.by_number.led.Goals as goal
 
 pub numbered-requires-clause-children : goal.numbered-requires-clause-children

@@ -2,7 +2,7 @@ use Rattle.std.proofs.Common.{◌∙◌, ◌+◌, ◌∷◌, [], drop, sym, ap, 
 use Rattle.std.proofs.lemmas.List.{drop_all}
 use Rattle.std.proofs.lemmas.Result.{err_from_is_err_and}
 use Rattle.path_plans.specs.Planned.{listed, plan_refused}
-use Rattle.path_eval.specs.Told.{phases_view}
+use Rattle.path_eval.specs.FilterTables.{phases_view}
 use Rattle.path_select.specs.Indexed.{at_number, at_numbers}
 use Rattle.path_eval.proofs.ByNumber.{phase_goes_on, phase_stopped}
 use Rattle.path_select.proofs.Trails.{drop_next}

@@ -1,6 +1,6 @@
 use Rattle.std.proofs.Common.{◌≡◌, [], ◌∷◌, drop}
 use Rattle.path_plans.specs.Planned.{listed, plan_refused}
-use Rattle.path_eval.specs.Told.{AreAllRight, phases_view}
+use Rattle.path_eval.specs.FilterTables.{AreAllRight, phases_view}
 use Rattle.path_select.specs.Indexed.{at_number, at_numbers}
 use Rattle.path_eval.proofs.by_number.numbers_from.Given as goal
 

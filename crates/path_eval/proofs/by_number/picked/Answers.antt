@@ -3,7 +3,7 @@ use Rattle.std.specs.List.{list_any}
 use Rattle.path_eval.proofs.ByNumber.{any-children, filter-children, gives_at, held_passes, held_refused}
 use Rattle.path_plans.specs.PlanView.{choice_view, test_view}
 use Rattle.path_plans.specs.Planned.{choice_refused, passes, taken, test_refused}
-use Rattle.path_eval.specs.Told.{IsRightFor}
+use Rattle.path_eval.specs.FilterTables.{IsRightFor}
 use Rattle.path_select.specs.Indexed.{at_number, at_numbers}
 use Rattle.path_select.specs.Gives.{Gives}
 use Rattle.path_select.specs.Nodes.{child_at, children}

@@ -6,7 +6,7 @@ use Rattle.path_select.specs.Indexed.{at_number}
 use Rattle.path_select.proofs.Trails.{if_made}
 use Rattle.path_select.specs.Nodes.{child_at}
 use Rattle.path_select.specs.Selectors.{sliced}
-use Rattle.path_select.specs.View.{children_of}
+use Rattle.path_select.specs.ChildView.{children_of}
 use Rattle.path_eval.proofs.by_number.slice_of.Goals as goal
 
 pub numbered-requires-clause-children : goal.numbered-requires-clause-children

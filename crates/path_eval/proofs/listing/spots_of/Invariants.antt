@@ -1,6 +1,6 @@
 use Rattle.std.proofs.Common.{◌≡◌, ◌++◌, drop}
 use Rattle.path_select.specs.Indexed.{at_numbers}
-use Rattle.path_select.specs.Trail.{all_spots}
+use Rattle.path_select.specs.Paths.{all_spots}
 use Rattle.path_eval.proofs.listing.spots_of.Given as goal
 
 abbrev pub invariant-loop-number : goal.invariant-loop-number

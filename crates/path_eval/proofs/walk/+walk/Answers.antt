@@ -3,10 +3,10 @@ use Rattle.std.proofs.lemmas.List.{drop_all, map-append}
 use Rattle.std.proofs.lemmas.Result.{err_from_is_err_and}
 use Rattle.doc_tree.proofs.Views.{view-List, view-Object}
 use Rattle.doc_tree.specs.Doc.{index}
-use Rattle.doc_tree.specs.View.{elements_view, members_view, view}
+use Rattle.doc_tree.specs.TreeView.{elements_view, members_view, view}
 use Rattle.path_plans.specs.PlanView.{choices_view}
 use Rattle.path_select.specs.Nodes.{beneath, under, descendants, element_descendants, member_descendants}
-use Rattle.path_select.specs.Trail.{location, seen}
+use Rattle.path_select.specs.Paths.{location, seen}
 use Rattle.path_eval.specs.Listed.{Walks}
 use Rattle.path_eval.specs.Visiting.{selected_at, refused_at}
 use Rattle.path_select.specs.Gives.{Stops}

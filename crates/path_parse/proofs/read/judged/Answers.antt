@@ -2,7 +2,7 @@ use Rattle.std.proofs.Common.{◌∙◌, ap, subst, Bool, Some, inl, inr, refl}
 use Rattle.path_grammar.specs.Reading.{read_whole}
 use Rattle.path_grammar.proofs.OneQuery.{SpellsOnly-read, SpellsLeftOut-read, SpellsNone-read}
 use Rattle.path_parse.specs.Gives.{Stops}
-use Rattle.path_parse.specs.View.{query_view}
+use Rattle.path_parse.specs.SyntaxView.{query_view}
 use Rattle.path_parse.proofs.read.judged.Goals as goal
 
 pub returns-then-left_out-clause-err : goal.returns-then-left_out-clause-err

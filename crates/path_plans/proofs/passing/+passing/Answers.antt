@@ -7,15 +7,15 @@ use Rattle.std.proofs.lemmas.List.Folds.{list_any-append}
 use Rattle.std.proofs.lemmas.Result.{err_from_is_err_and}
 use Rattle.doc_tree.proofs.Views.{view-List, view-Object}
 use Rattle.doc_tree.specs.Doc.{index}
-use Rattle.doc_tree.specs.View.{elements_view, members_view, view}
+use Rattle.doc_tree.specs.TreeView.{elements_view, members_view, view}
 use Rattle.path_grammar.specs.Lent.{lent_place}
 use Rattle.path_grammar.specs.declared.lent_step.LentStep.TheVariants.{Name}
 use Rattle.path_select.specs.Nodes.{Child, children, element_children, member_children}
 use Rattle.path_select.specs.Gives.{Gives, Stops}
 use Rattle.path_plans.specs.PlanValues.{planned_from}
-use Rattle.path_plans.specs.PlanView.{plan_view, strides_view, term_view, test_view, tests_view, choice_view, choices_view, ways_plan}
+use Rattle.path_plans.specs.PlanView.{plan_view, plan_segments_view, term_view, test_view, tests_view, choice_view, choices_view, ways_plan}
 use Rattle.path_plans.specs.Planned.{passes, side_refused, side_value, test_refused}
-use Rattle.path_select.specs.View.{child_of, children_of, docs_of}
+use Rattle.path_select.specs.ChildView.{child_of, children_of, docs_of}
 use Rattle.path_plans.proofs.Filtered.{takes_it, leaves_it, none_here, stops_here}
 use Rattle.path_plans.proofs.PlanRows.{test_view-SomeOf, test_view-AllOf}
 use Rattle.path_plans.proofs.PlanValued.{plan_view-is, plan_done, plan_stopped}
@@ -73,21 +73,21 @@ passes_by_lists-returns-in-AllOf t c =
 pub values_of_plan-returns-in_err-list : goal.values_of_plan-returns-in_err-list
 values_of_plan-returns-in_err-list t c =
     let q = c.args.plan.now in
-    let l = c.loop-stride in
+    let l = c.loop-segment in
     let p = err_from_is_err_and c.from_residual-in_err-list.result c.from_residual-in_err-list.ensures.1 in
-    let is = plan_view-is q ∙ ap strides_view (sym c.deref-stride-items.ensures.value) in
-    let items = c.deref-stride-items.result.now in
-    let here = drop_next items l.stride-index c.stride-item.result c.loop-stride-test.true c.stride-item.is in
-    rw (p.1, p.2) (plan_stopped (view c.args.start.now) (plan_view q) items is (docs_of l.list.items) c.in_err-list.field-0.0 c.stride-item.result (drop (l.stride-index + 1) items)
+    let is = plan_view-is q ∙ ap plan_segments_view (sym c.deref-segment-items.ensures.value) in
+    let items = c.deref-segment-items.result.now in
+    let here = drop_next items l.segment-index c.segment-item.result c.loop-segment-test.true c.segment-item.is in
+    rw (p.1, p.2) (plan_stopped (view c.args.start.now) (plan_view q) items is (docs_of l.list.items) c.in_err-list.field-0.0 c.segment-item.result (drop (l.segment-index + 1) items)
     (rw here at l.invariant.1) c.in_err-list.ensures)
 
 pub values_of_plan-returns : goal.values_of_plan-returns
 values_of_plan-returns t c =
     let q = c.args.plan.now in
-    let l = c.loop-stride in
-    let is = plan_view-is q ∙ ap strides_view (sym c.deref-stride-items.ensures.value) in
-    let none = drop_all l.stride-index c.deref-stride-items.result.now (omega arith) in
-    plan_done (view c.args.start.now) (plan_view q) c.deref-stride-items.result.now is (docs_of l.list.items)
+    let l = c.loop-segment in
+    let is = plan_view-is q ∙ ap plan_segments_view (sym c.deref-segment-items.ensures.value) in
+    let none = drop_all l.segment-index c.deref-segment-items.result.now (omega arith) in
+    plan_done (view c.args.start.now) (plan_view q) c.deref-segment-items.result.now is (docs_of l.list.items)
     (rw none at l.invariant.0) (rw none at l.invariant.1)
 
 pub passes_by_lists-returns-in-LeadsThere : goal.passes_by_lists-returns-in-LeadsThere
@@ -206,11 +206,11 @@ term-returns-then-refused t c = rw (ap term_view c.in-Known.is) c.if-refused.tru
 pub term-returns-else-refused : goal.term-returns-else-refused
 term-returns-else-refused t c = rw (ap term_view c.in-Known.is) (c.if-refused.false, c.lent_side.ensures ∙ c.lend.ensures)
 
-pub values_after-returns-then-stride : goal.values_after-returns-then-stride
-values_after-returns-then-stride t c = rw c.if-stride.true c.each_taken_below.ensures
+pub values_after-returns-then-segment : goal.values_after-returns-then-segment
+values_after-returns-then-segment t c = rw c.if-segment.true c.each_taken_below.ensures
 
-pub values_after-returns-else-stride : goal.values_after-returns-else-stride
-values_after-returns-else-stride t c = rw c.if-stride.false (rw c.new.ensures.items at c.and_each_taken.ensures)
+pub values_after-returns-else-segment : goal.values_after-returns-else-segment
+values_after-returns-else-segment t c = rw c.if-segment.false (rw c.new.ensures.items at c.and_each_taken.ensures)
 
 pub values_of_plan-returns-in_err-push : goal.values_of_plan-returns-in_err-push
 values_of_plan-returns-in_err-push t c =
@@ -382,13 +382,13 @@ all_taken-returns-in_err-taken t c =
     rw (p.1, p.2, sym c.deref-choice-items.ensures.value, sym (rw here at l.invariant.1))
     (stops_or e (one || rest) (is_over (length (planned.all_taken (choices_view items) d))) (stops_or e one rest c.in_err-taken.ensures))
 
-pub values_of_plan-loop-stride-preserved : goal.values_of_plan-loop-stride-preserved
-values_of_plan-loop-stride-preserved t c =
-    let l = c.loop-stride in
-    let s = c.stride-item.result in
+pub values_of_plan-loop-segment-preserved : goal.values_of_plan-loop-segment-preserved
+values_of_plan-loop-segment-preserved t c =
+    let l = c.loop-segment in
+    let s = c.segment-item.result in
     let ds = docs_of l.list.items in
     let ss = choices_view s.choices.items in
-    let here = drop_next c.deref-stride-items.result.now l.stride-index s c.loop-stride-test.true c.stride-item.is in
+    let here = drop_next c.deref-segment-items.result.now l.segment-index s c.loop-segment-test.true c.segment-item.is in
     let a = c.in_ok-list.ensures in
     let no = both_false (list_any (planned.choices_refused ss) (visited_values s.descend ds)) (is_over (length (values_after (planned.all_taken ss) s.descend ds))) a.0 in (
       rw a.1 (rw here at l.invariant.0),
@@ -606,8 +606,8 @@ taken-returns-in_ok-children-in-Every t c = rw (ap choice_view c.in-Every.is) (r
 pub taken-returns-in_ok-sliced-in-Sliced : goal.taken-returns-in_ok-sliced-in-Sliced
 taken-returns-in_ok-sliced-in-Sliced t c = rw (ap choice_view c.in-Sliced.is) (refl, c.in_ok-sliced-in-Sliced.ensures)
 
-pub values_of_plan-loop-stride-init : goal.values_of_plan-loop-stride-init
-values_of_plan-loop-stride-init t c = rw (c.in_ok-push.ensures.items, c.new-list.ensures.items) (refl, refl)
+pub values_of_plan-loop-segment-init : goal.values_of_plan-loop-segment-init
+values_of_plan-loop-segment-init t c = rw (c.in_ok-push.ensures.items, c.new-list.ensures.items) (refl, refl)
 
 pub passes_by_lists-returns-in_ok-values_of_plan-in-ThereIs : goal.passes_by_lists-returns-in_ok-values_of_plan-in-ThereIs
 passes_by_lists-returns-in_ok-values_of_plan-in-ThereIs t c =

@@ -1,8 +1,8 @@
 use Rattle.std.proofs.Common.{◌∙◌, ◌+◌, ap, drop, option_to_list, sym}
-use Rattle.doc_tree.specs.View.{view}
+use Rattle.doc_tree.specs.TreeView.{view}
 use Rattle.path_plans.specs.PlanValues.{planned_from}
 use Rattle.path_plans.specs.PlanView.{ways_plan}
-use Rattle.path_select.specs.View.{child_of, doc_if}
+use Rattle.path_select.specs.ChildView.{child_of, doc_if}
 use Rattle.path_select.proofs.Trails.{drop_next}
 use Rattle.path_plans.proofs.Ways.{ways_next, ways_none}
 use Rattle.path_plans.proofs.passing.led_to.Goals as goal

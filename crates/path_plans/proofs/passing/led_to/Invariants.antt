@@ -1,5 +1,5 @@
 use Rattle.std.proofs.Common.{◌≡◌, drop}
-use Rattle.doc_tree.specs.View.{view}
+use Rattle.doc_tree.specs.TreeView.{view}
 use Rattle.path_plans.specs.PlanValues.{planned_from}
 use Rattle.path_plans.specs.PlanView.{ways_plan}
 use Rattle.path_plans.proofs.passing.led_to.Given as goal

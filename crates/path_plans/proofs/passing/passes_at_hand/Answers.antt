@@ -1,5 +1,5 @@
 use Rattle.std.proofs.Common.{◌∙◌, ap, sym}
-use Rattle.doc_tree.specs.View.{view}
+use Rattle.doc_tree.specs.TreeView.{view}
 use Rattle.path_plans.proofs.Ways.{led_there, ways_refused}
 use Rattle.path_plans.specs.PlanValues.{planned_from}
 use Rattle.path_plans.specs.PlanView.{test_view, ways_plan}

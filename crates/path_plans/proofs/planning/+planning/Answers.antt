@@ -1,12 +1,12 @@
 use Rattle.std.proofs.Common.{◌≡◌, ◌+◌, ◌∙◌, IfOk, ap, subst, sym, drop, arith}
 use Rattle.std.proofs.lemmas.List.{drop_all}
 use Rattle.std.proofs.lemmas.Result.{IfOk-from_err}
-use Rattle.doc_tree.specs.View.{view}
+use Rattle.doc_tree.specs.TreeView.{view}
 use Rattle.path_parse.proofs.Rows.{expression_view-And, expression_view-Or}
-use Rattle.path_parse.specs.View.{expression_view, expressions_view, operand_view, query_view, segments_view, selectors_view, source_query, source_root}
+use Rattle.path_parse.specs.SyntaxView.{expression_view, expressions_view, operand_view, query_view, segments_view, selectors_view, source_query, source_root}
 use Rattle.path_plans.specs.PlanView.{plan_view, term_view, test_view}
 use Rattle.path_plans.specs.Planned.{all_of, choice, compared_once, not_that, plan, plan_choices, plan_side, plan_test, plan_tests, some_of, step, test}
-use Rattle.path_plans.proofs.Made.{choices_onto, choices_onto-more, choices_onto-none, found_kept, single_side, strides_onto, strides_onto-done, strides_onto-more, tests_onto, tests_onto-more, tests_onto-none}
+use Rattle.path_plans.proofs.Made.{choices_onto, choices_onto-more, choices_onto-none, found_kept, single_side, plan_segments_onto, plan_segments_onto-done, plan_segments_onto-more, tests_onto, tests_onto-more, tests_onto-none}
 use Rattle.path_plans.proofs.PlanRows.{plan_view-Plan, test_view-AllOf, test_view-SomeOf}
 use Rattle.path_select.proofs.Trails.{drop_next, if_made}
 use Rattle.path_plans.proofs.Made.{query_view-is}
@@ -24,7 +24,7 @@ plan_of-returns t c =
     let l = c.loop-segment in
     let is = query_view-is q ∙ ap segments_view (sym c.deref-segment-items.ensures.value) in
     let none = drop_all l.segment-index c.deref-segment-items.result.now (omega arith) in
-    plan_view-Plan l.strides ∙ sym (strides_onto-done l.strides.items) ∙ (rw none at l.invariant) ∙ ap (plan (view c.args.root.now)) (sym is)
+    plan_view-Plan l.segments ∙ sym (plan_segments_onto-done l.segments.items) ∙ (rw none at l.invariant) ∙ ap (plan (view c.args.root.now)) (sym is)
 
 pub test_of-returns-in_ok-tests_of-in-Or : goal.test_of-returns-in_ok-tests_of-in-Or
 test_of-returns-in_ok-tests_of-in-Or t c =
@@ -77,8 +77,8 @@ only_of-returns-in_err-ways t c = IfOk-from_err c.from_residual-in_err-ways.resu
 pub only_of-returns-in_err-plan_of-in-None : goal.only_of-returns-in_err-plan_of-in-None
 only_of-returns-in_err-plan_of-in-None t c = IfOk-from_err c.from_residual-in_err-plan_of-in-None.result _ c.from_residual-in_err-plan_of-in-None.ensures.0
 
-pub plan_of-returns-in_err-strides : goal.plan_of-returns-in_err-strides
-plan_of-returns-in_err-strides t c = IfOk-from_err c.from_residual.result _ c.from_residual.ensures.0
+pub plan_of-returns-in_err-segments : goal.plan_of-returns-in_err-segments
+plan_of-returns-in_err-segments t c = IfOk-from_err c.from_residual.result _ c.from_residual.ensures.0
 
 pub plan_of-returns-in_err-choices_of : goal.plan_of-returns-in_err-choices_of
 plan_of-returns-in_err-choices_of t c = IfOk-from_err c.from_residual-in_err-choices_of.result _ c.from_residual-in_err-choices_of.ensures.0
@@ -117,7 +117,7 @@ pub tests_of-returns-in_err-push : goal.tests_of-returns-in_err-push
 tests_of-returns-in_err-push t c = IfOk-from_err c.from_residual-in_err-push.result _ c.from_residual-in_err-push.ensures.0
 
 pub plan_of-loop-segment-init : goal.plan_of-loop-segment-init
-plan_of-loop-segment-init t c = ap (λ ss. strides_onto ss (plan (view c.args.root.now) (segments_view c.deref-segment-items.result.now))) c.in_ok-strides.ensures.items
+plan_of-loop-segment-init t c = ap (λ ss. plan_segments_onto ss (plan (view c.args.root.now) (segments_view c.deref-segment-items.result.now))) c.in_ok-segments.ensures.items
 
 pub plan_of-loop-segment-preserved : goal.plan_of-loop-segment-preserved
 plan_of-loop-segment-preserved t c =
@@ -126,9 +126,9 @@ plan_of-loop-segment-preserved t c =
     let items = c.deref-segment-items.result.now in
     let rest = plan root (segments_view (drop (l.segment-index + 1) items)) in
     let here = drop_next items l.segment-index c.segment-item.result c.loop-segment-test.true c.segment-item.is in
-    ap (λ ss. strides_onto ss rest) c.in_ok-push.ensures.items ∙ strides_onto-more l.strides.items _ rest
-    ∙ ap (λ cs. strides_onto l.strides.items (step c.segment-item.result.descend cs rest)) c.in_ok-choices_of.ensures
-    ∙ sym (ap (λ xs. strides_onto l.strides.items (plan root (segments_view xs))) here) ∙ l.invariant
+    ap (λ ss. plan_segments_onto ss rest) c.in_ok-push.ensures.items ∙ plan_segments_onto-more l.segments.items _ rest
+    ∙ ap (λ cs. plan_segments_onto l.segments.items (step c.segment-item.result.descend cs rest)) c.in_ok-choices_of.ensures
+    ∙ sym (ap (λ xs. plan_segments_onto l.segments.items (plan root (segments_view xs))) here) ∙ l.invariant
 
 pub choices_of-loop-selector-init : goal.choices_of-loop-selector-init
 choices_of-loop-selector-init t c = ap (λ cs. choices_onto cs (plan_choices (view c.args.root.now) (selectors_view c.deref-selector-items.result.now))) c.in_ok-choices.ensures.items

@@ -1,13 +1,13 @@
 use Rattle.std.proofs.Common.{◌≡◌, drop}
-use Rattle.doc_tree.specs.View.{view}
-use Rattle.path_parse.specs.View.{expressions_view, segments_view, selectors_view}
+use Rattle.doc_tree.specs.TreeView.{view}
+use Rattle.path_parse.specs.SyntaxView.{expressions_view, segments_view, selectors_view}
 use Rattle.path_plans.specs.Planned.{plan, plan_choices, plan_tests}
-use Rattle.path_plans.proofs.Made.{choices_onto, strides_onto, tests_onto}
+use Rattle.path_plans.proofs.Made.{choices_onto, plan_segments_onto, tests_onto}
 use Rattle.path_plans.proofs.planning.+planning.Given as goal
 
 abbrev pub invariant-plan_of-loop-segment : goal.invariant-plan_of-loop-segment
 invariant-plan_of-loop-segment l =
-    strides_onto l.strides.items (plan (view l.root) (segments_view (drop l.segment-index l.segment-items))) ≡ plan (view l.root) (segments_view l.segment-items)
+    plan_segments_onto l.segments.items (plan (view l.root) (segments_view (drop l.segment-index l.segment-items))) ≡ plan (view l.root) (segments_view l.segment-items)
 
 abbrev pub invariant-choices_of-loop-selector : goal.invariant-choices_of-loop-selector
 invariant-choices_of-loop-selector l =

@@ -1,6 +1,6 @@
 use Rattle.std.proofs.Common.{◌∙◌, ap, sym, arith}
 use Rattle.std.proofs.lemmas.List.{drop_all}
-use Rattle.path_parse.specs.View.{segments_view}
+use Rattle.path_parse.specs.SyntaxView.{segments_view}
 use Rattle.path_plans.specs.Planned.{plan}
 use Rattle.path_plans.proofs.Made.{ways_onto-done}
 use Rattle.path_plans.proofs.Made.{query_view-is}

@@ -1,6 +1,6 @@
 use Rattle.std.proofs.Common.{◌≡◌, drop}
 use Rattle.doc_tree.specs.Doc.{Doc}
-use Rattle.path_parse.specs.View.{segments_view}
+use Rattle.path_parse.specs.SyntaxView.{segments_view}
 use Rattle.path_plans.specs.Planned.{plan}
 use Rattle.path_plans.proofs.Made.{ways_onto}
 use Rattle.path_plans.proofs.planning.ways_of.Given as goal

@@ -1,8 +1,8 @@
 use Rattle.std.proofs.Common.{◌≡◌, ◌++◌, drop}
-use Rattle.doc_tree.specs.View.{elements_view, members_view}
+use Rattle.doc_tree.specs.TreeView.{elements_view, members_view}
 use Rattle.path_select.specs.Nodes.{element_descendants, member_descendants}
 use Rattle.path_select.specs.Values.{values}
-use Rattle.path_select.specs.View.{docs_of}
+use Rattle.path_select.specs.ChildView.{docs_of}
 use Rattle.path_select.proofs.below.+below.Given as goal
 
 abbrev pub invariant-and_below_elements-loop-item : goal.invariant-and_below_elements-loop-item

@@ -1,7 +1,7 @@
 use Rattle.std.proofs.Common.{◌≡◌, ◌++◌}
-use Rattle.doc_tree.specs.View.{members_view}
+use Rattle.doc_tree.specs.TreeView.{members_view}
 use Rattle.path_select.specs.Nodes.{member_children}
-use Rattle.path_select.specs.View.{children_of}
+use Rattle.path_select.specs.ChildView.{children_of}
 use Rattle.path_select.proofs.children.members.Given as goal
 
 abbrev pub invariant-loop-name : goal.invariant-loop-name

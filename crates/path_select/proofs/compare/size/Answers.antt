@@ -1,6 +1,6 @@
 use Rattle.std.proofs.Common.{◌∙◌, sym, ap, Some, length, arith}
 use Rattle.doc_tree.proofs.Views.{view-List, view-Object}
-use Rattle.doc_tree.specs.View.{view}
+use Rattle.doc_tree.specs.TreeView.{view}
 use Rattle.path_select.proofs.Views.{elements_count-elements_view, members_count-members_view}
 use Rattle.path_select.specs.Comparing.{number, length_value}
 use Rattle.path_select.proofs.compare.size.Goals as goal

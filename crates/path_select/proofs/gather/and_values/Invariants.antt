@@ -1,6 +1,6 @@
 use Rattle.std.proofs.Common.{◌≡◌, ◌++◌, drop}
 use Rattle.path_select.specs.Values.{child_values}
-use Rattle.path_select.specs.View.{children_of, docs_of}
+use Rattle.path_select.specs.ChildView.{children_of, docs_of}
 use Rattle.path_select.proofs.gather.and_values.Given as goal
 
 abbrev pub invariant-loop-child : goal.invariant-loop-child

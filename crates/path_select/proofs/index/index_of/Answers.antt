@@ -1,8 +1,8 @@
 use Rattle.std.proofs.Common.{◌≡◌, ◌<◌, ◌++◌, ◌+◌, ◌∙◌, ◌∷◌, [], length, length-append, sym, ap, subst, arith, refl}
 use Rattle.std.proofs.lemmas.List.{get_or_append_left}
 use Rattle.std.proofs.lemmas.Result.{IfOk-from_err}
-use Rattle.doc_tree.specs.View.{view}
-use Rattle.path_select.specs.Trail.{seen, spot_of}
+use Rattle.doc_tree.specs.TreeView.{view}
+use Rattle.path_select.specs.Paths.{seen, spot_of}
 use Rattle.path_select.specs.Indexed.{HasChildren, children_at, node_at}
 use Rattle.path_select.proofs.Indexes.{Spanned, indexed, length-children, length-seen, node-listed, span_grows, span_new, spanned_next, stands_at}
 use Rattle.path_select.proofs.index.index_of.Goals as goal

@@ -1,6 +1,6 @@
 use Rattle.std.proofs.Common.{◌≡◌, ◌≤◌, ◌-◌, [], length}
-use Rattle.doc_tree.specs.View.{view}
-use Rattle.path_select.specs.Trail.{seen, stand}
+use Rattle.doc_tree.specs.TreeView.{view}
+use Rattle.path_select.specs.Paths.{seen, stand}
 use Rattle.path_select.specs.Indexed.{HasChildren, node_at}
 use Rattle.path_select.proofs.Indexes.{Spanned}
 use Rattle.path_select.proofs.index.index_of.Given as goal

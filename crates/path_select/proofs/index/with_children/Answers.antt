@@ -1,7 +1,7 @@
 use Rattle.std.proofs.Common.{◌≡◌, ◌++◌, ◌∙◌, ◌∷◌, [], ap, sym, drop, ◌+◌, append_assoc, map, refl}
 use Rattle.path_select.specs.Nodes.{child_at}
-use Rattle.path_select.specs.Trail.{location, seen}
-use Rattle.path_select.specs.View.{children_of, child_of}
+use Rattle.path_select.specs.Paths.{location, seen}
+use Rattle.path_select.specs.ChildView.{children_of, child_of}
 use Rattle.path_select.proofs.Trails.{drop_next, goes_here, goes_on_on, goes_location}
 use Rattle.path_select.proofs.index.with_children.Goals as goal
 

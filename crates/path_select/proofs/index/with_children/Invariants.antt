@@ -1,7 +1,7 @@
 use Rattle.std.proofs.Common.{◌≡◌, ◌++◌, drop, map}
 use Rattle.path_select.specs.Nodes.{child_at}
-use Rattle.path_select.specs.Trail.{GoesOn, location, seen}
-use Rattle.path_select.specs.View.{children_of}
+use Rattle.path_select.specs.Paths.{GoesOn, location, seen}
+use Rattle.path_select.specs.ChildView.{children_of}
 use Rattle.path_select.proofs.index.with_children.Given as goal
 
 abbrev pub invariant-loop-child : goal.invariant-loop-child

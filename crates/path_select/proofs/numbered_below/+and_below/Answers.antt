@@ -1,9 +1,9 @@
 use Rattle.std.proofs.Common.{◌∙◌, ◌++◌, ◌+◌, ◌<◌, rules, ◌∷◌, [], ap, sym, arith, append_assoc, flat_map}
 use Rattle.std.proofs.lemmas.List.{map-append}
 use Rattle.doc_tree.specs.Doc.{height}
-use Rattle.doc_tree.specs.View.{view}
+use Rattle.doc_tree.specs.TreeView.{view}
 use Rattle.path_select.specs.Indexed.{at_number, at_numbers, children_at}
-use Rattle.path_select.specs.Trail.{seen}
+use Rattle.path_select.specs.Paths.{seen}
 use Rattle.path_select.proofs.Numbered.{below_done, below_next, below_of, child_low, family}
 use Rattle.path_select.proofs.numbered_below.+and_below.Goals as goal
 

@@ -3,7 +3,7 @@ use Rattle.std.specs.List.{AllByRecursion}
 use Rattle.doc_tree.specs.Doc.{child}
 use Rattle.path_select.specs.Indexed.{at_number, at_numbers}
 use Rattle.path_select.specs.Nodes.{child_at}
-use Rattle.path_select.specs.View.{children_of}
+use Rattle.path_select.specs.ChildView.{children_of}
 use Rattle.path_select.proofs.numbers.numbered.Given as goal
 
 abbrev pub invariant-loop-child : goal.invariant-loop-child

@@ -1,7 +1,7 @@
 use Rattle.std.proofs.Common.{ap, ◌∙◌}
-use Rattle.doc_tree.specs.View.{view}
+use Rattle.doc_tree.specs.TreeView.{view}
 use Rattle.path_select.specs.Indexed.{node_at, nodes_at}
-use Rattle.path_select.specs.Trail.{seen}
+use Rattle.path_select.specs.Paths.{seen}
 use Rattle.path_select.proofs.Numbered.{children_next}
 use Rattle.path_select.proofs.numbers.numbers_of_children.Goals as goal
 

@@ -1,7 +1,7 @@
 use Rattle.std.proofs.Common.{◌≡◌, drop, take}
-use Rattle.doc_tree.specs.View.{view}
+use Rattle.doc_tree.specs.TreeView.{view}
 use Rattle.path_select.specs.Indexed.{nodes_at}
-use Rattle.path_select.specs.Trail.{seen}
+use Rattle.path_select.specs.Paths.{seen}
 use Rattle.path_select.proofs.numbers.numbers_of_children.Given as goal
 
 abbrev pub invariant-loop-place : goal.invariant-loop-place

@@ -2,7 +2,7 @@ use Rattle.std.proofs.Common.{◌≡◌, ◌∙◌, ap, sym, arith, length, stri
 use Rattle.std.specs.Cmp.Lexicographic.{other_text, same_text}
 use Rattle.doc_tree.proofs.Members.{get_member-later}
 use Rattle.doc_tree.specs.Doc.{get_member, member}
-use Rattle.doc_tree.specs.View.{members_view, view}
+use Rattle.doc_tree.specs.TreeView.{members_view, view}
 use Rattle.path_select.specs.Nodes.{member_children}
 use Rattle.path_select.proofs.Places.{drop_once, member_found}
 use Rattle.path_select.proofs.numbers.place_of.Goals as goal

@@ -1,6 +1,6 @@
 use Rattle.std.proofs.Common.{◌≡◌, ◌+◌, drop, length}
 use Rattle.doc_tree.specs.Doc.{get_member}
-use Rattle.doc_tree.specs.View.{members_view}
+use Rattle.doc_tree.specs.TreeView.{members_view}
 use Rattle.path_select.specs.Nodes.{member_children}
 use Rattle.path_select.proofs.numbers.place_of.Given as goal
 

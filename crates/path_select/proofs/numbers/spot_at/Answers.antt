@@ -1,8 +1,8 @@
 use Rattle.std.proofs.Common.{◌∙◌, [], ap, sym, arith, length}
 use Rattle.std.proofs.lemmas.List.{get_or_past}
-use Rattle.doc_tree.specs.View.{view}
+use Rattle.doc_tree.specs.TreeView.{view}
 use Rattle.path_select.proofs.Trails.{location-root}
-use Rattle.path_select.specs.Trail.{seen}
+use Rattle.path_select.specs.Paths.{seen}
 use Rattle.path_select.proofs.Indexes.{length-seen}
 use Rattle.path_select.proofs.numbers.spot_at.Goals as goal
 

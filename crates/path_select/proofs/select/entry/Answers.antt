@@ -1,5 +1,5 @@
 use Rattle.std.proofs.Common.{◌∙◌, ap, option_map, option_to_list}
-use Rattle.path_select.specs.View.{child_of}
+use Rattle.path_select.specs.ChildView.{child_of}
 use Rattle.path_select.proofs.Views.{found_some, found_none}
 use Rattle.path_select.proofs.select.entry.Goals as goal
 

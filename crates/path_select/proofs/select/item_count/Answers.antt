@@ -2,7 +2,7 @@ use Rattle.std.proofs.Common.{sym, ap, ◌∙◌}
 use Rattle.doc_tree.proofs.Views.{view-List}
 use Rattle.path_select.proofs.Views.{elements_count-elements_view}
 use Rattle.path_select.specs.Selectors.{item_count}
-use Rattle.doc_tree.specs.View.{view}
+use Rattle.doc_tree.specs.TreeView.{view}
 use Rattle.path_select.proofs.select.item_count.Goals as goal
 
 pub returns-in-List : goal.returns-in-List

@@ -1,10 +1,10 @@
 use Rattle.std.proofs.Common.{◌≡◌, ◌∙◌, sym, ap, ℕ, List, true, flat_map, pos, int_lt, nat_abs, to_z, of_z, w64, rules}
 use Rattle.std.proofs.lemmas.Int.{to_z-of_z}
 use Rattle.std.proofs.lemmas.Result.{IfOk-weaker}
-use Rattle.doc_tree.specs.View.{view}
+use Rattle.doc_tree.specs.TreeView.{view}
 use Rattle.path_select.specs.Selectors.{item, item_count, slice_indexes}
 use Rattle.path_select.specs.Slicing.{bound_down, downward, given_or}
-use Rattle.path_select.specs.View.{children_of}
+use Rattle.path_select.specs.ChildView.{children_of}
 use Rattle.path_select.proofs.Bounds.{slice_indexes-up, slice_indexes-down, slice_indexes-none}
 use Rattle.path_select.proofs.select.sliced_by.Goals as goal
 

@@ -1,7 +1,7 @@
 use Rattle.std.proofs.Common.{◌++◌, ◌∙◌, ap, arith}
-use Rattle.doc_tree.specs.View.{view}
+use Rattle.doc_tree.specs.TreeView.{view}
 use Rattle.path_select.specs.Selectors.{item}
-use Rattle.path_select.specs.View.{children_of}
+use Rattle.path_select.specs.ChildView.{children_of}
 use Rattle.path_select.proofs.Slices.{up_on, up_end}
 use Rattle.path_select.proofs.select.upward.Goals as goal
 

@@ -1,8 +1,8 @@
 use Rattle.std.proofs.Common.{◌≡◌, ◌-◌, ◌++◌, flat_map}
-use Rattle.doc_tree.specs.View.{view}
+use Rattle.doc_tree.specs.TreeView.{view}
 use Rattle.path_select.specs.Selectors as selectors
 use Rattle.path_select.specs.Slicing as slicing
-use Rattle.path_select.specs.View.{children_of}
+use Rattle.path_select.specs.ChildView.{children_of}
 use Rattle.path_select.proofs.select.upward.Given as goal
 
 abbrev pub invariant-loop-index : goal.invariant-loop-index

@@ -1,5 +1,5 @@
 use Rattle.std.proofs.Common.{◌++◌, ◌∙◌, ◌+◌, drop, nat_lt, false, sym, ap, inl, arith}
-use Rattle.path_eval.specs.View.{listed_of}
+use Rattle.path_eval.specs.NodeView.{listed_of}
 use Rattle.protocol.specs.Reply.{line_of, nodes_reply}
 use Rattle.protocol.specs.Rows.{rows_left}
 use Rattle.protocol.proofs.Written.{line_begins, line_done, line_over, line_within, part_over, row_added}

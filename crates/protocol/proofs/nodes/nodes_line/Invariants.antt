@@ -1,5 +1,5 @@
 use Rattle.std.proofs.Common.{◌≡◌, ◌++◌, drop, nat_lt}
-use Rattle.path_eval.specs.View.{listed_of}
+use Rattle.path_eval.specs.NodeView.{listed_of}
 use Rattle.protocol.specs.Reply.{line_of, nodes_reply}
 use Rattle.protocol.specs.Rows.{rows_left}
 use Rattle.protocol.proofs.nodes.nodes_line.Given as goal

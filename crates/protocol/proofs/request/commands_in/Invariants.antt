@@ -1,6 +1,6 @@
 use Rattle.std.proofs.Common.{◌≡◌, ◌++◌, map}
 use Rattle.std.specs.Vec.Iter.{into_iter_items}
-use Rattle.doc_tree.specs.View.{elements_view}
+use Rattle.doc_tree.specs.TreeView.{elements_view}
 use Rattle.record_text.specs.Change.{change_of}
 use Rattle.protocol.specs.Request.{objects_of}
 use Rattle.protocol.proofs.request.commands_in.Given as goal

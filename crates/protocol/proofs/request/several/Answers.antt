@@ -1,7 +1,7 @@
 use Rattle.std.proofs.Common.{rules, ◌≡◌, ap, sym, subst, ◌∙◌, arith, map}
 use Rattle.doc_tree.specs.Cursor.{ahead}
 use Rattle.doc_tree.specs.Doc.{object}
-use Rattle.doc_tree.specs.View.{elements_view}
+use Rattle.doc_tree.specs.TreeView.{elements_view}
 use Rattle.record_text.specs.Change.{change_of}
 use Rattle.protocol.specs.Read.{AreCommands, transaction_members}
 use Rattle.protocol.specs.Request.{objects_of}

@@ -1,7 +1,7 @@
 use Rattle.std.proofs.Common.{◌≡◌, ℕ, List, codes, string_bytes, encode_utf8_all, sym, ap, ◌∙◌}
 use Rattle.std.proofs.lemmas.Str.{encodes-chars, IsUtf8-string_bytes}
 use Rattle.doc_tree.specs.Doc.{text, object, member, no_members}
-use Rattle.doc_tree.specs.View.{view}
+use Rattle.doc_tree.specs.TreeView.{view}
 use Rattle.path_grammar.specs.Lent.{lent_places}
 use Rattle.path_parse.specs.NormalPath.{normal_path}
 use Rattle.protocol.proofs.rows.row_of.Goals as goal

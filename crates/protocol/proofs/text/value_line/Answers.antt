@@ -1,4 +1,4 @@
-use Rattle.doc_tree.specs.View.{view}
+use Rattle.doc_tree.specs.TreeView.{view}
 use Rattle.protocol.specs.Reply.{value_reply}
 use Rattle.protocol.proofs.text.value_line.Goals as goal
 

@@ -1,5 +1,5 @@
 use Rattle.json.specs.Print.{escape_byte}
-use Rattle.doc_tree.specs.View.{view}
+use Rattle.doc_tree.specs.TreeView.{view}
 use Rattle.record_text.proofs.Patches.{after_patch}
 use Rattle.record_text.proofs.plain.after_patch.Goals as goal
 

@@ -1,7 +1,7 @@
 use Rattle.std.proofs.Common.{rules, arith, ◌≡◌, ◌≤◌, length}
 use Rattle.std.proofs.lemmas.Bool.{leb-true}
 use Rattle.doc_tree.specs.Doc.{height}
-use Rattle.doc_tree.specs.View.{view}
+use Rattle.doc_tree.specs.TreeView.{view}
 use Rattle.record_text.proofs.Patches.{is_patch_text}
 use Rattle.record_text.proofs.plain.is_patch_text.Goals as goal
 

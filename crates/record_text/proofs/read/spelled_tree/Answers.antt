@@ -1,6 +1,6 @@
 use Rattle.std.proofs.Common.{true≢false, not, ap, ◌∙◌}
 use Rattle.std.proofs.lemmas.Slice.Eq.{bytes_eq-Decides}
-use Rattle.doc_tree.specs.View.{view}
+use Rattle.doc_tree.specs.TreeView.{view}
 use Rattle.record_text.proofs.Spelling.{unread, written_again}
 use Rattle.record_text.proofs.read.spelled_tree.Goals as goal
 

@@ -2,7 +2,7 @@ use Rattle.std.proofs.Common.{◌≡◌, ◌++◌, ◌≤◌, ℕ, List, length,
 use Rattle.std.specs.Int.{w32, w64, to_be_bytes}
 use Rattle.serde_json.proofs.FreeTexts.{text_of_value}
 use Rattle.doc_tree.specs.Text.{data_of}
-use Rattle.doc_tree.specs.View.{view}
+use Rattle.doc_tree.specs.TreeView.{view}
 use Rattle.doc_tree.proofs.Events.{has_float-data_of}
 use Rattle.record_text.specs.Change.{create, object_of}
 use Rattle.record_text.proofs.write.creation_frame.Goals as goal

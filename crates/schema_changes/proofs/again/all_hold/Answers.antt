@@ -1,5 +1,5 @@
 use Rattle.std.proofs.Common.{◌≤◌, length, arith}
-use Rattle.doc_tree.specs.View.{view}
+use Rattle.doc_tree.specs.TreeView.{view}
 use Rattle.schema_levels.specs.Bits.{size}
 use Rattle.schema_changes.proofs.Told.{again_told}
 use Rattle.schema_changes.proofs.again.all_hold.Goals as goal

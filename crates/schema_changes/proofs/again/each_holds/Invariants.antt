@@ -1,5 +1,5 @@
 use Rattle.std.proofs.Common.{◌≡◌, ◌-◌, ◌<◌, ℕ, true, Some, length}
-use Rattle.doc_tree.specs.View.{view}
+use Rattle.doc_tree.specs.TreeView.{view}
 use Rattle.schema_levels.specs.Bits.{bit}
 use Rattle.schema_levels.specs.Nodes.{node_get}
 use Rattle.schema_levels.specs.declared.node.Node.{Node}

@@ -1,5 +1,5 @@
 use Rattle.std.proofs.Common.{◌≡◌, drop}
-use Rattle.doc_tree.specs.View.{view}
+use Rattle.doc_tree.specs.TreeView.{view}
 use Rattle.schema_levels.specs.Bits.{bit}
 use Rattle.schema_changes.specs.Again.{rules_again}
 use Rattle.schema_changes.proofs.again.rules_hold.Given as goal

@@ -1,5 +1,5 @@
 use Rattle.std.proofs.Common.{sym, ap, subst, ◌∙◌}
-use Rattle.doc_tree.specs.View.{view}
+use Rattle.doc_tree.specs.TreeView.{view}
 use Rattle.doc_tree.proofs.Views.{view-Object}
 use Rattle.schema_changes.specs.Again.{IsSorted}
 use Rattle.schema_changes.proofs.Children.{sorted_view}

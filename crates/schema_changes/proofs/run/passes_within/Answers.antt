@@ -1,6 +1,6 @@
 use Rattle.std.proofs.Common.{◌<◌, ◌∙◌, map, arith}
 use Rattle.doc_tree.specs.Place.{place_of}
-use Rattle.doc_tree.specs.View.{view}
+use Rattle.doc_tree.specs.TreeView.{view}
 use Rattle.schema_levels.specs.Bits.{size}
 use Rattle.schema_levels.proofs.Folding.{none_in_clear}
 use Rattle.schema_changes.proofs.Alone.{passes_told}

@@ -1,10 +1,10 @@
 use Rattle.std.proofs.Common.{◌≡◌, refl, sym, ap, subst, ◌∙◌, arith, ◌+◌, ◌≤◌, length, replicate, drop}
 use Rattle.std.proofs.lemmas.List.{length-replicate}
-use Rattle.schema_levels.specs.Sites.{index}
+use Rattle.schema_levels.specs.PlaceInValue.{index}
 use Rattle.doc_tree.specs.Doc.{list, object, Elements, no_elements}
 use Rattle.doc_tree.specs.Lists.{elements_list}
 use Rattle.doc_tree.proofs.Elements.{length-elements_list}
-use Rattle.doc_tree.specs.View.{view, elements_view, members_view}
+use Rattle.doc_tree.specs.TreeView.{view, elements_view, members_view}
 use Rattle.doc_tree.proofs.Views.{view-List, view-Object}
 use Rattle.schema_levels.specs.Bits.{size}
 use Rattle.schema_levels.specs.Table.{child_at, items_from, members_each, titles}
@@ -100,8 +100,8 @@ judge-returns-clause-judged t c =
     let passed_room : length c.args.nodes.now ≤ size c.args.passed.now = omega (arith, c.requires.room, c.requires.passed_len) in
     let lower_len : length c.lower.new.passed ≡ length c.args.asked.now = c.lower.auto.passed ∙ c.fill.auto.words ∙ c.requires.passed_len in
     let lower_room : length c.args.nodes.now ≤ size c.lower.new.passed = omega (arith, c.requires.room, lower_len) in
-    judge_right c.args.nodes.now c.requires.order (view c.args.instance.now) c.args.asked.now c.args.passed.now c.close.new.asked c.fill.new.words c.lower.new.passed c.settle.new.passed
-    asked_room passed_room c.close.ensures c.fill.ensures c.lower.ensures.lowered lower_room c.settle.ensures
+    judge_right c.args.nodes.now c.requires.order (view c.args.instance.now) c.args.asked.now c.args.passed.now c.close.new.asked c.fill.new.words c.lower.new.passed c.conclude.new.passed
+    asked_room passed_room c.close.ensures c.fill.ensures c.lower.ensures.lowered lower_room c.conclude.ensures
 
 pub judge-returns-clause-kept : goal.judge-returns-clause-kept
 judge-returns-clause-kept t c =

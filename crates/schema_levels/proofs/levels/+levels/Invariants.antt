@@ -1,5 +1,5 @@
 use Rattle.std.proofs.Common.{◌≡◌, length, replicate, drop}
-use Rattle.doc_tree.specs.View.{elements_view, members_view}
+use Rattle.doc_tree.specs.TreeView.{elements_view, members_view}
 use Rattle.schema_levels.specs.Table.{items_from, members_each}
 use Rattle.schema_levels.specs.Counters.{width}
 use Rattle.schema_levels.proofs.Counting.{Counting}

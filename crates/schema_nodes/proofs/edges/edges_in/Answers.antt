@@ -1,5 +1,5 @@
 use Rattle.std.proofs.Common.{List, ℕ, ◌++◌, inl, inr, ⊎_elim, sym, ap, ◌∙◌, append-nil}
-use Rattle.doc_tree.specs.View.{view, members_view}
+use Rattle.doc_tree.specs.TreeView.{view, members_view}
 use Rattle.schema_nodes.proofs.Edging.{edges_none}
 use Rattle.schema_nodes.proofs.edges.edges_in.Goals as goal
 

@@ -1,5 +1,5 @@
 use Rattle.std.proofs.Common.{◌≡◌, ◌++◌}
-use Rattle.doc_tree.specs.View.{view, members_view}
+use Rattle.doc_tree.specs.TreeView.{view, members_view}
 use Rattle.schema_nodes.specs.Edges.{edges_in}
 use Rattle.schema_nodes.proofs.edges.edges_in.Given as goal
 

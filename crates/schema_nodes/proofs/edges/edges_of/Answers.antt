@@ -1,5 +1,5 @@
 use Rattle.std.proofs.lemmas.List.{drop_all}
-use Rattle.doc_tree.specs.View.{view}
+use Rattle.doc_tree.specs.TreeView.{view}
 use Rattle.schema_nodes.proofs.Edging.{edged}
 use Rattle.schema_nodes.proofs.edges.edges_of.Goals as goal
 

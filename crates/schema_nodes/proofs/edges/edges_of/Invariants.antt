@@ -1,5 +1,5 @@
 use Rattle.std.proofs.Common.{drop}
-use Rattle.doc_tree.specs.View.{view}
+use Rattle.doc_tree.specs.TreeView.{view}
 use Rattle.schema_nodes.proofs.Edging.{Edging}
 use Rattle.schema_nodes.proofs.edges.edges_of.Given as goal
 

@@ -1,6 +1,6 @@
 use Rattle.std.proofs.Common.{◌≡◌, refl, sym, ap, subst, ◌∙◌, string_bytes}
 use Rattle.std.proofs.lemmas.Result.{IfOk-from_err}
-use Rattle.doc_tree.specs.View.{view, members_view}
+use Rattle.doc_tree.specs.TreeView.{view, members_view}
 use Rattle.doc_tree.specs.Lists.{elements_list, values_list}
 use Rattle.doc_tree.proofs.Views.{view-Object}
 use Rattle.schema_rules.specs.Keywords.{keyword_of, shape_of}

@@ -1,5 +1,5 @@
 use Rattle.std.proofs.Common.{drop}
-use Rattle.doc_tree.specs.View.{view, elements_view, members_view}
+use Rattle.doc_tree.specs.TreeView.{view, elements_view, members_view}
 use Rattle.doc_tree.specs.Lists.{elements_list, values_list}
 use Rattle.schema_rules.specs.Schemas.{schemas_each, schemas_named, schemas_below}
 use Rattle.schema_nodes.proofs.Growing.{Making, Adding, Left}

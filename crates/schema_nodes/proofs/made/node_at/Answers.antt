@@ -1,6 +1,6 @@
 use Rattle.std.proofs.Common.{◌≡◌, refl, sym, subst, Some, slice_get, length}
 use Rattle.std.proofs.lemmas.Option.{slice_get_read}
-use Rattle.doc_tree.specs.View.{view}
+use Rattle.doc_tree.specs.TreeView.{view}
 use Rattle.schema_rules.specs.Parts.{members_in}
 use Rattle.schema_nodes.specs.Entries.{AsMany}
 use Rattle.schema_nodes.specs.Fits.{IsBuilt}

@@ -1,5 +1,5 @@
 use Rattle.std.proofs.Common.{sym, ap, subst, ◌∙◌}
-use Rattle.doc_tree.specs.View.{view}
+use Rattle.doc_tree.specs.TreeView.{view}
 use Rattle.doc_tree.proofs.Views.{view-Object}
 use Rattle.schema_nodes.specs.Fits.{IsBuilt}
 use Rattle.schema_nodes.proofs.Growing.{if_ok}

@@ -1,5 +1,5 @@
 use Rattle.std.proofs.Common.{drop}
-use Rattle.doc_tree.specs.View.{view}
+use Rattle.doc_tree.specs.TreeView.{view}
 use Rattle.schema_nodes.proofs.Making.{NodesMaking}
 use Rattle.schema_nodes.proofs.made.nodes_of.Given as goal
 

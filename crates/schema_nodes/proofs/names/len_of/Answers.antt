@@ -1,6 +1,6 @@
 use Rattle.std.proofs.Common.{length, sym, ap, ◌∙◌}
 use Rattle.doc_tree.specs.Lists.{elements_list}
-use Rattle.doc_tree.specs.View.{view}
+use Rattle.doc_tree.specs.TreeView.{view}
 use Rattle.doc_tree.proofs.Elements.{length-elements_list}
 use Rattle.doc_tree.proofs.Views.{view-List}
 use Rattle.schema_rules.specs.Parts.{elements_in}

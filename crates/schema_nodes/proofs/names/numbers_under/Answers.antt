@@ -1,6 +1,6 @@
 use Rattle.std.proofs.Common.{◌≡◌, sym, ap, subst, ◌∙◌, option_map, map}
 use Rattle.doc_tree.specs.Lists.{values_list}
-use Rattle.doc_tree.specs.View.{view, members_view}
+use Rattle.doc_tree.specs.TreeView.{view, members_view}
 use Rattle.schema_rules.specs.Parts.{members_in, beside, or_null}
 use Rattle.schema_nodes.specs.Nodes.{AreNamed}
 use Rattle.schema_nodes.proofs.Growing.{if_ok}

@@ -1,5 +1,5 @@
 use Rattle.std.proofs.Common.{ap, inl, inr, ⊎_elim, ◌∙◌}
-use Rattle.doc_tree.specs.View.{members_view}
+use Rattle.doc_tree.specs.TreeView.{members_view}
 use Rattle.schema_nodes.proofs.Naming.{row_none}
 use Rattle.schema_nodes.proofs.names.row_named.Goals as goal
 

@@ -1,5 +1,5 @@
 use Rattle.std.proofs.Common.{◌≡◌}
-use Rattle.doc_tree.specs.View.{members_view}
+use Rattle.doc_tree.specs.TreeView.{members_view}
 use Rattle.schema_nodes.specs.Fits.{row_named}
 use Rattle.schema_nodes.proofs.names.row_named.Given as goal
 

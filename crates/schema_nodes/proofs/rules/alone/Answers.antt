@@ -1,5 +1,5 @@
 use Rattle.std.proofs.Common.{refl}
-use Rattle.doc_tree.specs.View.{view}
+use Rattle.doc_tree.specs.TreeView.{view}
 use Rattle.schema_nodes.proofs.Fitting.{asserts_alone}
 use Rattle.schema_nodes.proofs.rules.alone.Goals as goal
 

@@ -1,6 +1,6 @@
 use Rattle.std.proofs.Common.{refl, sym, subst}
 use Rattle.std.proofs.lemmas.Result.{IfOk-weaker}
-use Rattle.doc_tree.specs.View.{view}
+use Rattle.doc_tree.specs.TreeView.{view}
 use Rattle.schema_levels.specs.declared.node.Rule.TheVariants.{All, Any, One, ByPlace}
 use Rattle.schema_nodes.specs.Fits.{Fits, known_near}
 use Rattle.schema_rules.proofs.Others.{AsksNone}

@@ -1,6 +1,6 @@
 use Rattle.std.proofs.Common.{◌≡◌, ◌∙◌, sym, string_bytes, ap, subst, inl, inr, ⊎_elim}
 use Rattle.std.proofs.lemmas.Result.{IfOk-from_err}
-use Rattle.doc_tree.specs.View.{view, members_view}
+use Rattle.doc_tree.specs.TreeView.{view, members_view}
 use Rattle.schema_rules.specs.Keywords.{keyword_of}
 use Rattle.schema_nodes.specs.Fits.{AreFitting, Fits, known_near}
 use Rattle.schema_nodes.proofs.Fitting.{Fitting, sorted, goes_on, ends}

@@ -1,4 +1,4 @@
-use Rattle.doc_tree.specs.View.{view, members_view}
+use Rattle.doc_tree.specs.TreeView.{view, members_view}
 use Rattle.schema_nodes.specs.Fits.{known_near}
 use Rattle.schema_nodes.proofs.Fitting.{Fitting}
 use Rattle.schema_nodes.proofs.rules.rules_of.Given as goal

@@ -1,5 +1,5 @@
 use Rattle.std.proofs.Common.{◌≡◌, ◌<◌, [], ◌∷◌, Some, sym, subst, length, arith}
-use Rattle.doc_tree.specs.View.{view}
+use Rattle.doc_tree.specs.TreeView.{view}
 use Rattle.schema_nodes.specs.Entries.{StandFor, doc_at}
 use Rattle.schema_nodes.proofs.Making.{stand_first, stand_some}
 use Rattle.schema_nodes.proofs.RuleKinds.{within_entries}

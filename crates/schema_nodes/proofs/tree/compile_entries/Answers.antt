@@ -1,6 +1,6 @@
 use Rattle.std.proofs.Common.{◌≡◌, ◌<◌, ℕ, List, refl, sym, ap, subst, ◌∙◌, Some, slice_get, length, arith}
 use Rattle.std.proofs.lemmas.Option.{slice_get_read}
-use Rattle.doc_tree.specs.View.{view}
+use Rattle.doc_tree.specs.TreeView.{view}
 use Rattle.schema_graph.specs.Numbered.{IsClosed, IsCyclic}
 use Rattle.schema_graph.specs.Orders.{at, IsOrder}
 use Rattle.schema_rules.specs.Parts.{members_in}

@@ -1,5 +1,5 @@
 use Rattle.std.proofs.Common.{sym, ap, subst, ◌∙◌, codes}
-use Rattle.doc_tree.specs.View.{view}
+use Rattle.doc_tree.specs.TreeView.{view}
 use Rattle.doc_tree.proofs.Views.{view-Object}
 use Rattle.schema_rules.specs.Keywords.{shape_of}
 use Rattle.schema_rules.specs.Parts.{beside, members_in}

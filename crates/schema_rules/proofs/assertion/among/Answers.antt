@@ -1,5 +1,5 @@
 use Rattle.std.proofs.Common.{◌∙◌, sym, ap}
-use Rattle.doc_tree.specs.View.{view}
+use Rattle.doc_tree.specs.TreeView.{view}
 use Rattle.doc_tree.proofs.Views.{view-List}
 use Rattle.schema_rules.specs.Assertions.{is_among}
 use Rattle.schema_rules.proofs.Choosing.{alike}

@@ -1,4 +1,4 @@
-use Rattle.doc_tree.specs.View.{view}
+use Rattle.doc_tree.specs.TreeView.{view}
 use Rattle.schema_rules.proofs.Sorting.{item_at, none_at}
 use Rattle.schema_rules.proofs.distinct.at.Goals as goal
 

@@ -1,6 +1,6 @@
 use Rattle.std.proofs.Common.{◌≡◌, length}
 use Rattle.doc_tree.specs.Lists.{elements_list}
-use Rattle.doc_tree.specs.View.{elements_view}
+use Rattle.doc_tree.specs.TreeView.{elements_view}
 use Rattle.schema_rules.specs.Assertions.{are_distinct}
 use Rattle.schema_rules.proofs.distinct.no_two_are_equal.Given as goal
 

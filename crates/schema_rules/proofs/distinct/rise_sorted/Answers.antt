@@ -1,6 +1,6 @@
 use Rattle.std.proofs.Common.{◌≡◌, ◌∙◌, sym, length, arith}
 use Rattle.doc_tree.specs.Lists.{elements_list}
-use Rattle.doc_tree.specs.View.{view, elements_view}
+use Rattle.doc_tree.specs.TreeView.{view, elements_view}
 use Rattle.doc_tree.proofs.Elements.{length-elements_list}
 use Rattle.schema_rules.proofs.Sorting.{sorted_places}
 use Rattle.schema_rules.proofs.distinct.rise_sorted.Goals as goal

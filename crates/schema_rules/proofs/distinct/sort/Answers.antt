@@ -3,7 +3,7 @@ use Rattle.std.proofs.lemmas.Fn.{always_returns_same}
 use Rattle.std.proofs.lemmas.List.Sorted.{ranks_by}
 use Rattle.std.specs.Ordering.{is_lt}
 use Rattle.doc_tree.specs.Lists.{elements_list}
-use Rattle.doc_tree.specs.View.{view, elements_view}
+use Rattle.doc_tree.specs.TreeView.{view, elements_view}
 use Rattle.schema_rules.specs.Order.{doc_cmp, at_place}
 use Rattle.schema_rules.proofs.Ordered.{doc_total}
 use Rattle.schema_rules.proofs.distinct.sort.Goals as goal

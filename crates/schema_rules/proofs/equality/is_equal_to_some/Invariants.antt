@@ -2,7 +2,7 @@ use Rattle.std.proofs.Common.{◌≡◌, drop}
 use Rattle.std.specs.List.{list_any}
 use Rattle.doc_tree.specs.Lists.{elements_list}
 use Rattle.doc_tree.specs.Same.{same}
-use Rattle.doc_tree.specs.View.{elements_view}
+use Rattle.doc_tree.specs.TreeView.{elements_view}
 use Rattle.schema_rules.specs.Instances.{seen}
 use Rattle.schema_rules.proofs.equality.is_equal_to_some.Given as goal
 

@@ -1,7 +1,7 @@
 use Rattle.std.proofs.Common.{◌≡◌}
 use Rattle.std.specs.List.{list_all}
 use Rattle.doc_tree.specs.Lists.{values_list}
-use Rattle.doc_tree.specs.View.{members_view}
+use Rattle.doc_tree.specs.TreeView.{members_view}
 use Rattle.schema_rules.specs.Forms.{is_text, is_list_of_distinct}
 use Rattle.schema_rules.proofs.forms.are_lists_of_texts.Given as goal
 

@@ -1,7 +1,7 @@
 use Rattle.std.proofs.Common.{◌≡◌, drop}
 use Rattle.std.specs.List.{list_all}
 use Rattle.doc_tree.specs.Lists.{elements_list}
-use Rattle.doc_tree.specs.View.{elements_view}
+use Rattle.doc_tree.specs.TreeView.{elements_view}
 use Rattle.schema_rules.specs.Forms.{is_text}
 use Rattle.schema_rules.proofs.forms.are_texts.Given as goal
 

@@ -1,5 +1,5 @@
 use Rattle.std.proofs.Common.{◌≡◌}
-use Rattle.doc_tree.specs.View.{view, members_view}
+use Rattle.doc_tree.specs.TreeView.{view, members_view}
 use Rattle.schema_rules.specs.Assertions.{each_dependent}
 use Rattle.schema_rules.proofs.required.has_each_dependent.Given as goal
 

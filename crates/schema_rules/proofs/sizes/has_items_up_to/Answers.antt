@@ -1,5 +1,5 @@
 use Rattle.std.proofs.Common.{length, sym, ap, ◌∙◌}
-use Rattle.doc_tree.specs.View.{view}
+use Rattle.doc_tree.specs.TreeView.{view}
 use Rattle.schema_rules.specs.Assertions.{at_most}
 use Rattle.schema_rules.proofs.Counts.{on_list-view}
 use Rattle.schema_rules.proofs.sizes.has_items_up_to.Goals as goal

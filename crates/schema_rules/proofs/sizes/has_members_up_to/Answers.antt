@@ -1,5 +1,5 @@
 use Rattle.std.proofs.Common.{sym, ap, ◌∙◌}
-use Rattle.doc_tree.specs.View.{view}
+use Rattle.doc_tree.specs.TreeView.{view}
 use Rattle.schema_rules.specs.Assertions.{at_most}
 use Rattle.schema_rules.proofs.Counts.{on_object-view}
 use Rattle.schema_rules.proofs.sizes.has_members_up_to.Goals as goal

@@ -1,7 +1,7 @@
 use Rattle.std.proofs.Common.{◌≡◌, drop}
 use Rattle.std.specs.List.{list_any}
 use Rattle.doc_tree.specs.Lists.{elements_list}
-use Rattle.doc_tree.specs.View.{elements_view}
+use Rattle.doc_tree.specs.TreeView.{elements_view}
 use Rattle.schema_rules.specs.Instances.{seen}
 use Rattle.schema_rules.specs.Assertions.{is_of_text}
 use Rattle.schema_rules.proofs.types.has_some_type.Given as goal

@@ -3,7 +3,7 @@ use Rattle.doc_changes.specs.declared.refusal.Refusal.{Refusal}
 use Rattle.protocol.specs.Read.{asked_by, IsNoChange, ReadsRequest}
 use Rattle.protocol.specs.declared.request.Request.{Request}
 use Rattle.protocol.specs.Reply.{refusal_reply}
-use Rattle.serve_lines.specs.Said.{LineIsAnswered, is_unread}
+use Rattle.serve_lines.specs.LineReplies.{LineIsAnswered, is_unread}
 use Rattle.serve_lines.specs.Session.{AnswersOther}
 use Rattle.serve_lines.proofs.Shown.{asks_so, unasked, unread_or_other}
 use Rattle.serve_lines.proofs.answer.answer.Goals as goal

@@ -1,5 +1,5 @@
 use Rattle.std.proofs.Common.{Ok, Err, ap, inl, inr, sym, refl, ◌∙◌}
-use Rattle.doc_tree.specs.View.{view}
+use Rattle.doc_tree.specs.TreeView.{view}
 use Rattle.doc_changes.specs.Refusals.{plain}
 use Rattle.refusals.specs.declared.numbers.TheConstants.{POINTER}
 use Rattle.protocol.specs.Request as asked

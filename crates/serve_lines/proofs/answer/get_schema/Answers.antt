@@ -1,5 +1,5 @@
 use Rattle.std.proofs.Common.{ap, sym, refl}
-use Rattle.doc_tree.specs.View.{view}
+use Rattle.doc_tree.specs.TreeView.{view}
 use Rattle.protocol.specs.Request as asked
 use Rattle.protocol.specs.Reply.{value_reply}
 use Rattle.serve_lines.specs.Session.{found_reply}

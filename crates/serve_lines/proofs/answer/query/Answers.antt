@@ -2,8 +2,8 @@ use Rattle.std.proofs.Common.{Ok, Err, ap, inl, inr, sym, refl, ◌∙◌}
 use Rattle.doc_changes.specs.Refusals.{plain}
 use Rattle.doc_changes.specs.State.{State}
 use Rattle.doc_machine.specs.Queries.{nodes_at}
-use Rattle.path_eval.specs.View.{listed_of}
-use Rattle.path_parse.specs.View.{query_view}
+use Rattle.path_eval.specs.NodeView.{listed_of}
+use Rattle.path_parse.specs.SyntaxView.{query_view}
 use Rattle.refusals.specs.declared.numbers.TheConstants.{PATH, PATH_LEFT_OUT, PATH_LONG}
 use Rattle.protocol.specs.Request as asked
 use Rattle.protocol.specs.Reply.{refusal_reply}

@@ -3,7 +3,7 @@ use Rattle.doc_tree.specs.Doc.{Doc}
 use Rattle.protocol.specs.Read.{asked_by}
 use Rattle.protocol.specs.Request as asked
 use Rattle.protocol.specs.Says.{Says}
-use Rattle.serve_lines.specs.Said.{AnswersRequest}
+use Rattle.serve_lines.specs.LineReplies.{AnswersRequest}
 use Rattle.serve_lines.proofs.Shown.{asks_nothing}
 use Rattle.serve_lines.proofs.answer.reply_to.Goals as goal
 

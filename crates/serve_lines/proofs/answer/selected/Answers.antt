@@ -4,7 +4,7 @@ use Rattle.doc_tree.specs.Text.{text_of}
 use Rattle.doc_changes.specs.Refusals.{plain}
 use Rattle.refusals.specs.declared.numbers.TheConstants.{REPLY_LONG}
 use Rattle.path_eval.specs.Nodes.{Located}
-use Rattle.path_eval.specs.View.{listed_of}
+use Rattle.path_eval.specs.NodeView.{listed_of}
 use Rattle.protocol.specs.Reply.{nodes_reply, refusal_reply, line_of}
 use Rattle.serve_lines.specs.Session.{selected_reply}
 use Rattle.protocol.specs.declared.limits.TheConstants.{REPLY_BYTES}

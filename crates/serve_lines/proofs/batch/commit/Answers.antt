@@ -9,7 +9,7 @@ use Rattle.refusals.specs.declared.numbers.TheConstants.{BROKEN, MEMORY}
 use Rattle.protocol.specs.Reply.{refusal_reply}
 use Rattle.protocol.specs.declared.reply.Reply.{Reply}
 use Rattle.protocol.specs.declared.reply.Reply.TheVariants.{Refused}
-use Rattle.serve_lines.specs.Said.{AllSay, BatchIsAnswered, shown_as}
+use Rattle.serve_lines.specs.LineReplies.{AllSay, BatchIsAnswered, shown_as}
 use Rattle.serve_lines.specs.Session.{shown_reply}
 use Rattle.serve_lines.proofs.Batching.{batch_refused, none_long, says_append, says_refused, says_shown}
 use Rattle.serve_lines.proofs.batch.commit.Goals as goal

@@ -1,7 +1,7 @@
 use Rattle.std.proofs.Common.{◌≡◌, ◌≤◌, ◌+◌, ◌++◌, map, length}
 use Rattle.std.specs.Vec.Iter.{into_iter_items}
 use Rattle.std.specs.VecDeque.{deque_capacity, deque_len}
-use Rattle.serve_lines.specs.Said.{shown_as}
+use Rattle.serve_lines.specs.LineReplies.{shown_as}
 use Rattle.serve_lines.proofs.batch.say.Given as goal
 
 abbrev pub invariant-loop-reply : goal.invariant-loop-reply

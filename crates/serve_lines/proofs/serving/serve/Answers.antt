@@ -30,8 +30,8 @@ ends_so f named is = let same : f ≡ named = cc is in ap (λ (x : ServeFault). 
 
 pub returns-in-Ok-clause-promise : goal.returns-in-Ok-clause-promise
 returns-in-Ok-clause-promise g c =
-    let sits = c.in-Ok.ensures.ok.3.told.sits in
-    (sits.events, sits.said, c.runs_keep_the_promise.ensures.batches c.args.store.now c.answer_all-ended.new.store sits.events sits.said sits.ran)
+    let session = c.in-Ok.ensures.ok.3.told.session in
+    (session.events, session.said, c.runs_keep_the_promise.ensures.batches c.args.store.now c.answer_all-ended.new.store session.events session.said session.ran)
 
 pub returns-in-Ok-clause-promised : goal.returns-in-Ok-clause-promised
 returns-in-Ok-clause-promised g c =
@@ -47,9 +47,9 @@ returns-in-Err-clause-promise g c =
     let old = c.args.store.now in
     let new = c.answer_all-ended.new.store in
     let keep = c.runs_keep_the_promise.ensures in
-    ⊎_elim (λ is. (let sits = (c.in-Err.ensures.reader is).2.writes.sits in (sits.events, sits.said, keep.batches old new sits.events sits.said sits.ran)))
-    (⊎_elim (λ is. (let sits = (c.in-Err.ensures.writer is).2.sits in (sits.events, sits.said, keep.batches old new sits.events sits.said sits.ran)))
-    (⊎_elim (λ is. (let sits = (c.in-Err.ensures.turns is).2.writes.sits in (sits.events, sits.said, keep.batches old new sits.events sits.said sits.ran)))
+    ⊎_elim (λ is. (let session = (c.in-Err.ensures.reader is).2.writes.session in (session.events, session.said, keep.batches old new session.events session.said session.ran)))
+    (⊎_elim (λ is. (let session = (c.in-Err.ensures.writer is).2.session in (session.events, session.said, keep.batches old new session.events session.said session.ran)))
+    (⊎_elim (λ is. (let session = (c.in-Err.ensures.turns is).2.writes.session in (session.events, session.said, keep.batches old new session.events session.said session.ran)))
     (λ is. (let same = (c.in-Err.ensures.memory is).0 in ([], [], subst (λ (v : StoreView g.row.D.Denot). KeepsPromise g.D.SectorDevice.disk v new [] []) same (keep.none new c.status-broken.ensures.standing)))))) (one_of c.in-Err.fault)
 
 pub returns-in-Ok-clause-kept : goal.returns-in-Ok-clause-kept
@@ -60,7 +60,7 @@ returns-in-Ok-clause-kept g c =
     let left_new = g.R.Read.remaining c.answer_all-ended.new.reader in
     let ok = c.in-Ok.ensures.ok in
     let told = ok.3.told in (
-      kept_so g.D.SectorDevice.disk c.args.options.now old new left left_new ok.0 ok.1 (c.runs_keep_the_promise.ensures.batches old new) (lines_of ok.0) [] told.replies told.sits (sym (append-nil (lines_of ok.0))),
+      kept_so g.D.SectorDevice.disk c.args.options.now old new left left_new ok.0 ok.1 (c.runs_keep_the_promise.ensures.batches old new) (lines_of ok.0) [] told.replies told.session (sym (append-nil (lines_of ok.0))),
       λ is. (refl, ok.2),
       λ not_writer. told.wrote,
     )

@@ -1,6 +1,6 @@
 use Rattle.std.proofs.Common.{inl, inr, refl, sym, ap, subst, Bool}
 use Rattle.protocol.specs.Reply.{refusal_reply}
-use Rattle.serve_lines.specs.Said.{LineIsAnswered}
+use Rattle.serve_lines.specs.LineReplies.{LineIsAnswered}
 use Rattle.serve_lines.proofs.session.answer_unless.Goals as goal
 
 pub returns-then-halted : goal.returns-then-halted

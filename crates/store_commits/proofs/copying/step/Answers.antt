@@ -2,7 +2,7 @@ use Rattle.std.proofs.Common.{ℕ, List, ◌≤◌, length, max, arith, subst}
 use Rattle.store_journal.specs.Calls.{Stepped}
 use Rattle.sector_device.specs.Disk.{LeavesOnly}
 use Rattle.store_journal.specs.Carries.{EitherCarried, switched}
-use Rattle.store_journal.specs.View.{carried_of}
+use Rattle.store_journal.specs.JournalView.{carried_of}
 use Rattle.store_commits.specs.Copying.{view_of}
 use Rattle.store_commits.proofs.Stepped.{step_broke_last}
 use Rattle.store_commits.proofs.Switches.{broke_then, either}

@@ -3,7 +3,7 @@ use Rattle.store_commits.specs.Account.{with_copy}
 use Rattle.store_commits.specs.Committed.{account_committed}
 use Rattle.store_commits.specs.Copying.{HasSpare, copy_of, target_of}
 use Rattle.store_commits.specs.Inside.{account_of}
-use Rattle.store_commits.specs.Underway.{IsPlanning}
+use Rattle.store_commits.specs.Batching.{IsPlanning}
 use Rattle.store_commits.proofs.Parts.{planned_bytes}
 use Rattle.store_commits.proofs.Plans.{planned_ends, planning_begins}
 use Rattle.store_commits.proofs.plan.prepare.Given.{Over}
@@ -17,7 +17,7 @@ begins g c =
     let more = c.capacity-2.ensures in
     let within = c.requires.within in
     planning_begins _ c.args.trial.now (record { capacity = c.capacity.result; left = c.capacity-2.result - c.used.result; bytes = 0; segments = c.new.result; last = c.new-2.result })
-    c.len.ensures.good refl c.requires.begins c.new.ensures.items (omega (arith, used, more, within)) c.capacity.ensures refl c.new-2.ensures
+    c.know.ensures refl c.requires.begins c.new.ensures.items (omega (arith, used, more, within)) c.capacity.ensures refl c.new-2.ensures
 
 pub returns-clause-prepared : goal.returns-clause-prepared
 returns-clause-prepared g c =

@@ -2,7 +2,7 @@ use Rattle.std.proofs.Common.{sym, ◌∙◌, subst, ap, ℕ, List, Option, arit
 use Rattle.store_journal.specs.Calls.{Takes}
 use Rattle.store_commits.specs.Account.{Account}
 use Rattle.store_commits.specs.Copying.{Target, target_of, target_with}
-use Rattle.store_commits.specs.Underway.{IsAppended, IsAppendedBehind, IsPart, WasAnswered, answered}
+use Rattle.store_commits.specs.Batching.{IsAppended, IsAppendedBehind, IsPart, AnswersPart, answered}
 use Rattle.store_commits.specs.declared.segment.Fate.{Fate}
 use Rattle.store_commits.proofs.Parts.{none_waits, not_begun, one_behind, part_fits, part_takes, some_wait}
 use Rattle.store_commits.proofs.segment.commit.Goals as goal
@@ -23,8 +23,8 @@ returns-in-Some-clause-answered g c = λ s a left slots b stored same part.
     let here = subst (λ (x : Account). IsPart x left segment slots b) (sym (same works)) part in
     let appended = subst (λ (l : List ℕ). IsAppendedBehind disk journal new c.in-Some.snapshot.items l segment.adds fine) c.deref-in-Some.ensures.value
     (subst (λ (l : List ℕ). IsAppendedBehind disk journal new l c.deref-in-Some.result.now segment.adds fine) c.deref.ensures.value c.append_behind.ensures.behind) in
-    subst (λ (t : Option Target). WasAnswered disk journal s copy slots left b new t (map (answered c.ended.result) segment.replies.items)) (sym c.append_behind.ensures.dropped)
-    (subst (λ (f : Fate). WasAnswered disk journal s copy slots left b new None (map (answered f) segment.replies.items)) (sym c.ended.ensures)
+    subst (λ (t : Option Target). AnswersPart disk journal s copy slots left b new t (map (answered c.ended.result) segment.replies.items)) (sym c.append_behind.ensures.dropped)
+    (subst (λ (f : Fate). AnswersPart disk journal s copy slots left b new None (map (answered f) segment.replies.items)) (sym c.ended.ensures)
     (one_behind disk g.met.D.SectorDevice.coherent journal s copy works stored left segment slots b here c.in-Some.snapshot c.in-Some.is new fine appended))
 
 pub returns-then-segment-eq0-clause-answered : goal.returns-then-segment-eq0-clause-answered
@@ -53,7 +53,7 @@ returns-clause-answered g c = λ s a left slots b stored same part.
     let here = subst (λ (x : Account). IsPart x left segment slots b) (sym (same works)) part in
     let frames = c.deref-2.ensures.value in
     let appended = subst (λ (l : List ℕ). IsAppended disk journal new l segment.adds fine) frames c.append.ensures.appended in
-    subst (λ (f : Fate). WasAnswered disk journal s copy slots left b new (target_of c.append.new.copy) (map (answered f) segment.replies.items)) (sym c.ended-2.ensures)
+    subst (λ (f : Fate). AnswersPart disk journal s copy slots left b new (target_of c.append.new.copy) (map (answered f) segment.replies.items)) (sym c.ended-2.ensures)
     (some_wait disk g.met.D.SectorDevice.coherent journal s copy works stored left segment slots b here c.in_default.is c.if-segment-eq0.false new fine appended (target_of c.append.new.copy)
     (λ done. c.append.ensures.copy done ∙ ap (λ (l : List ℕ). target_with l copy) frames) c.append.ensures.dropped)
 

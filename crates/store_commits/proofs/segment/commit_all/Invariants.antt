@@ -5,7 +5,7 @@ use Rattle.store_commits.specs.Account.{Account, with_copy}
 use Rattle.store_commits.specs.Committed.{Slot}
 use Rattle.store_commits.specs.Copying.{HasSpare, copy_of, target_of}
 use Rattle.store_commits.specs.Inside.{IsStored, account_of}
-use Rattle.store_commits.specs.Underway.{ArePlanned, HasCome, bytes_in, replies_in}
+use Rattle.store_commits.specs.Batching.{ArePlanned, HasCome, bytes_in, replies_in}
 use Rattle.store_commits.proofs.segment.commit_all.Given as goal
 
 abbrev pub invariant-loop-segment : goal.invariant-loop-segment

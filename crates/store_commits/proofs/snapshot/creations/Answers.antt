@@ -1,5 +1,5 @@
 use Rattle.std.proofs.Common.{◌∙◌, ◌++◌, ap, List, ℕ}
-use Rattle.doc_changes.specs.View.{lent_of}
+use Rattle.doc_changes.specs.StateView.{lent_of}
 use Rattle.store_commits.proofs.Snapshots.{frame_goes, storable_at}
 use Rattle.store_commits.proofs.snapshot.creations.Goals as goal
 

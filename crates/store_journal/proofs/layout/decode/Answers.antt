@@ -1,7 +1,7 @@
 use Rattle.std.proofs.Common.{◌≡◌, ◌-◌, nat_eq, if◌then◌else◌, sym, ◌∙◌, ap}
 use Rattle.std.specs.Cmp.Lexicographic.{other_text}
 use Rattle.store_journal.specs.Layout.{riding_in, sector_of}
-use Rattle.store_journal.specs.declared.commit.Commit.{Commit}
+use Rattle.store_journal.specs.declared.commit_sector.Commit.{Commit}
 use Rattle.store_journal.proofs.Fields.{rides_read, said_in, said_is}
 use Rattle.store_journal.proofs.layout.decode.Goals as goal
 

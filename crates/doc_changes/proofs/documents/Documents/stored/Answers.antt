@@ -1,6 +1,6 @@
 use Rattle.std.proofs.Common.{sym, ◌∙◌, ap, ◌≡◌, option_map, option_copied}
 use Rattle.doc_changes.specs.State.{State, find}
-use Rattle.doc_changes.specs.View.{named}
+use Rattle.doc_changes.specs.StateView.{named}
 use Rattle.doc_changes.proofs.Entries.{find-map, stored_at}
 use Rattle.doc_changes.proofs.documents.Documents.stored.Goals as goal
 

@@ -5,8 +5,8 @@ use Rattle.doc_changes.specs.declared.limits.TheConstants.{LAST_SEQ}
 use Rattle.doc_changes.specs.State.{State, Document, Good, IsStorable}
 use Rattle.doc_changes.specs.Step.{after, refusal_of}
 use Rattle.doc_changes.specs.Undo.{IsMade}
-use Rattle.doc_changes.specs.View.{document_of}
-use Rattle.doc_machine.specs.View.{state_of}
+use Rattle.doc_changes.specs.StateView.{document_of}
+use Rattle.doc_machine.specs.MachineView.{state_of}
 use Rattle.doc_changes.proofs.Made.{accepted_below, good_below}
 use Rattle.doc_machine.proofs.machine.Machine.step.Goals as goal
 

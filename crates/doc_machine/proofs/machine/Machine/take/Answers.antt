@@ -6,8 +6,8 @@ use Rattle.doc_machine.specs.Entries.{with_entry, Takes}
 use Rattle.doc_changes.specs.State.{State, Document, Good, IsStorable}
 use Rattle.doc_changes.specs.Step.{refusals_in}
 use Rattle.doc_changes.specs.Undo.{IsMade}
-use Rattle.doc_changes.specs.View.{document_of}
-use Rattle.doc_machine.specs.View.{state_of}
+use Rattle.doc_changes.specs.StateView.{document_of}
+use Rattle.doc_machine.specs.MachineView.{state_of}
 use Rattle.doc_changes.proofs.After.{good_made}
 use Rattle.doc_changes.proofs.Reasons.{none_first}
 use Rattle.doc_machine.proofs.machine.Machine.take.Goals as goal

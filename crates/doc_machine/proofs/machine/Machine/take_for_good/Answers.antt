@@ -3,8 +3,8 @@ use Rattle.record_text.specs.Change.{change_of}
 use Rattle.doc_changes.specs.State.{State, Document, Good}
 use Rattle.doc_changes.specs.Step.{refusals_in}
 use Rattle.doc_changes.specs.Undo.{IsMadeForGood}
-use Rattle.doc_changes.specs.View.{document_of}
-use Rattle.doc_machine.specs.View.{state_of}
+use Rattle.doc_changes.specs.StateView.{document_of}
+use Rattle.doc_machine.specs.MachineView.{state_of}
 use Rattle.doc_changes.proofs.After.{good_made}
 use Rattle.doc_changes.proofs.Reasons.{none_first}
 use Rattle.doc_machine.proofs.machine.Machine.take_for_good.Goals as goal

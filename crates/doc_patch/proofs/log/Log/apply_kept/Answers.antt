@@ -1,5 +1,5 @@
 use Rattle.std.proofs.Common.{map, ap, ◌∙◌}
-use Rattle.doc_tree.specs.View.{view}
+use Rattle.doc_tree.specs.TreeView.{view}
 use Rattle.doc_patch.specs.Undo.{steps_back}
 use Rattle.doc_edits.specs.Back.{step_of}
 use Rattle.doc_patch.proofs.log.Log.apply_kept.Goals as goal

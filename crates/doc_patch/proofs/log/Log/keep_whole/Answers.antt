@@ -1,6 +1,6 @@
 use Rattle.std.proofs.Common.{map, sym, ap, ◌∙◌}
 use Rattle.std.proofs.lemmas.List.{map_push}
-use Rattle.doc_tree.specs.View.{view}
+use Rattle.doc_tree.specs.TreeView.{view}
 use Rattle.doc_patch.specs.Keeping.{kept}
 use Rattle.doc_patch.specs.Undo.{steps_back}
 use Rattle.doc_edits.specs.Back.{step_of}

@@ -1,12 +1,12 @@
 use Rattle.std.proofs.Common.{◌≡◌, drop, is_some, true}
 use Rattle.std.specs.Option.{ForSome}
-use Rattle.doc_edits.specs.Growth.{IsKnown, IsMeasured}
+use Rattle.doc_edits.specs.SizeChange.{IsKnown, IsMeasured}
 use Rattle.doc_patch.specs.Keeping.{IsWhole, kept}
 use Rattle.doc_patch.specs.Meaning.{meanings}
 use Rattle.doc_patch.specs.Patch.{patch_from}
 use Rattle.doc_patch.specs.Undo.{steps_back}
 use Rattle.doc_tree.specs.Sound.{IsSound}
-use Rattle.doc_tree.specs.View.{view}
+use Rattle.doc_tree.specs.TreeView.{view}
 use Rattle.doc_patch.proofs.patch.Patch.apply_from.Given as goal
 
 abbrev pub invariant-loop-index : goal.invariant-loop-index

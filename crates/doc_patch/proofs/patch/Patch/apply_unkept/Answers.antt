@@ -1,5 +1,5 @@
 use Rattle.std.proofs.Common.{◌<◌, length, ap, ◌∙◌, subst, rules}
-use Rattle.doc_tree.specs.View.{view}
+use Rattle.doc_tree.specs.TreeView.{view}
 use Rattle.doc_patch.specs.Fault.{IsFaultOf}
 use Rattle.doc_patch.specs.Meaning.{meanings}
 use Rattle.doc_patch.specs.Patch.{patch}

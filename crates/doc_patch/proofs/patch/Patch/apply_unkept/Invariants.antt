@@ -1,10 +1,10 @@
 use Rattle.std.proofs.Common.{◌≡◌, drop, is_some, true}
 use Rattle.std.specs.Option.{ForSome}
-use Rattle.doc_edits.specs.Growth.{IsKnown, IsMeasured}
+use Rattle.doc_edits.specs.SizeChange.{IsKnown, IsMeasured}
 use Rattle.doc_patch.specs.Meaning.{meanings}
 use Rattle.doc_patch.specs.Patch.{patch_from}
 use Rattle.doc_tree.specs.Sound.{IsSound}
-use Rattle.doc_tree.specs.View.{view}
+use Rattle.doc_tree.specs.TreeView.{view}
 use Rattle.doc_patch.proofs.patch.Patch.apply_unkept.Given as goal
 
 abbrev pub invariant-loop-index : goal.invariant-loop-index

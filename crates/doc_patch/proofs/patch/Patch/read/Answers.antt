@@ -1,7 +1,7 @@
 use Rattle.std.proofs.Common.{◌≡◌, ◌<◌, suc, ◌+◌, arith, ◌∷◌, drop, drop-cons, length, Ok, inr, append-nil, refl, sym, ap, ◌∙◌, subst, rules}
 use Rattle.std.proofs.lemmas.List.{drop_all, map_push}
 use Rattle.doc_tree.specs.Doc.{list}
-use Rattle.doc_tree.specs.View.{view, elements_view}
+use Rattle.doc_tree.specs.TreeView.{view, elements_view}
 use Rattle.doc_tree.proofs.Views.{view-List}
 use Rattle.doc_patch.specs.Fault.{IsFaultOf, no_memory}
 use Rattle.doc_edits.specs.Meaning.{meaning}

@@ -1,7 +1,7 @@
 use Rattle.std.proofs.Common.{◌≡◌, drop}
 use Rattle.doc_patch.specs.Meaning.{meanings}
 use Rattle.doc_patch.specs.Reading.{operations_from}
-use Rattle.doc_tree.specs.View.{elements_view}
+use Rattle.doc_tree.specs.TreeView.{elements_view}
 use Rattle.doc_patch.proofs.Operations.{prepended}
 use Rattle.doc_patch.proofs.patch.Patch.read.Given as goal
 

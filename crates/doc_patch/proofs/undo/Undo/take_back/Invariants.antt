@@ -1,7 +1,7 @@
 use Rattle.std.proofs.Common.{◌≡◌, map, is_some, true, length}
 use Rattle.doc_patch.specs.Undo.{steps_back}
 use Rattle.doc_edits.specs.Back.{step_of}
-use Rattle.doc_tree.specs.View.{view}
+use Rattle.doc_tree.specs.TreeView.{view}
 use Rattle.doc_patch.proofs.undo.Undo.take_back.Given as goal
 
 abbrev pub invariant-loop-step : goal.invariant-loop-step

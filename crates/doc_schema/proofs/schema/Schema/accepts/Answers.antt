@@ -1,5 +1,5 @@
 use Rattle.std.proofs.Common.{sym, subst}
-use Rattle.doc_tree.specs.View.{view}
+use Rattle.doc_tree.specs.TreeView.{view}
 use Rattle.doc_schema.specs.Judge.{Judges}
 use Rattle.doc_schema.proofs.Lifted.{loop_above}
 use Rattle.schema_levels.specs.Table.{IsTable}

@@ -1,6 +1,6 @@
 use Rattle.std.proofs.Common.{map, sym, subst, true}
 use Rattle.doc_tree.specs.Place.{place_of}
-use Rattle.doc_tree.specs.View.{view}
+use Rattle.doc_tree.specs.TreeView.{view}
 use Rattle.doc_schema.specs.Judge.{Judges}
 use Rattle.doc_schema.proofs.Lifted.{loop_above}
 use Rattle.schema_levels.specs.Table.{IsTable}

@@ -1,5 +1,5 @@
 use Rattle.std.proofs.Common.{inl, sym, subst}
-use Rattle.doc_tree.specs.View.{view}
+use Rattle.doc_tree.specs.TreeView.{view}
 use Rattle.doc_schema.specs.Checked.{IsChecked}
 use Rattle.doc_schema.specs.Faults.{IsFirstFault}
 use Rattle.refusals.specs.declared.numbers.TheConstants.{SCHEMA_LOOP}

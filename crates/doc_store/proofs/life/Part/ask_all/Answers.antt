@@ -11,8 +11,8 @@ pub loop-event-init : goal.loop-event-init
 loop-event-init g c =
     let items = c.into_iter-event-iterator.ensures.into_iter_gives.0 in
     record {
-      told = told_nothing g.D.SectorDevice.disk g.met.D.SectorDevice.coherent c.args.store.now c.args.self.now c.requires.nothing c.status.ensures.standing;
-      standing = c.status.ensures.standing;
+      told = told_nothing g.D.SectorDevice.disk g.met.D.SectorDevice.coherent c.args.store.now c.args.self.now c.requires.nothing c.know.ensures.standing;
+      standing = c.know.ensures.standing;
       left = sym items;
       room = subst (λ (l : List ProgramEvent). HasPlaces (length l) c.args.self.now) (sym items) c.requires.room;
       can_next = tt;

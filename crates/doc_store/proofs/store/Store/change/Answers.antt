@@ -9,13 +9,13 @@ pub returns-in_err-alone-clause-ran : goal.returns-in_err-alone-clause-ran
 returns-in_err-alone-clause-ran g c =
     let p = err_from_is_err_and c.from_residual.result c.from_residual.ensures.1 in
     rw (p.1, p.2) (ran_refused g.D.SectorDevice.disk g.met.D.SectorDevice.coherent c.args.self.now c.args.self.now (transaction_of c.args.transaction) _ refl
-    (inr (inr (inr refl))) c.status.ensures.standing)
+    (inr (inr (inr refl))) c.know.ensures.standing)
 
 pub returns-in_err-replies-clause-ran : goal.returns-in_err-replies-clause-ran
 returns-in_err-replies-clause-ran g c =
     let p = err_from_is_err_and c.from_residual-in_err-replies.result c.from_residual-in_err-replies.ensures.1 in
     rw (p.1, p.2) (ran_refused g.D.SectorDevice.disk g.met.D.SectorDevice.coherent c.args.self.now c.transact_batch.new.self (transaction_of c.args.transaction) _ c.in_err-replies.ensures.memory.1
-    (inr (inr (inr c.in_err-replies.ensures.memory.0))) c.status.ensures.standing)
+    (inr (inr (inr c.in_err-replies.ensures.memory.0))) c.know.ensures.standing)
 
 -- ---- the batch
 

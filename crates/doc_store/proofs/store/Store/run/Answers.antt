@@ -12,9 +12,9 @@ loop-event-init g c =
     let items = c.into_iter-event-iterator.ensures.into_iter_gives.0 in
     let made = c.in_ok-replies.ensures in
     record {
-      ran = rw made.items (ran_nothing g.D.SectorDevice.disk g.met.D.SectorDevice.coherent false c.args.self.now c.status.ensures.standing);
-      standing = c.status.ensures.standing;
-      good = c.status.ensures.good;
+      ran = rw made.items (ran_nothing g.D.SectorDevice.disk g.met.D.SectorDevice.coherent false c.args.self.now c.know.ensures.standing);
+      standing = c.know.ensures.standing;
+      good = c.know.ensures.good;
       left = sym items;
       room = omega (arith, ap length items, c.len.ensures, c.args.events.ok, made.len, made.exact);
       can_next = tt;

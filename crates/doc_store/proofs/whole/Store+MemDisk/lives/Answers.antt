@@ -7,7 +7,7 @@ use Rattle.doc_changes.specs.declared.refusal.Refusal.{Refusal}
 use Rattle.doc_changes.specs.State.{State}
 use Rattle.doc_store.specs.Ending.{TimedIf, all_with_kept}
 use Rattle.doc_store.specs.Lives.{AllStand}
-use Rattle.doc_store.specs.Timed.{IsAlone, left}
+use Rattle.doc_store.specs.Timed.{HasOneImage, left}
 use Rattle.doc_store.specs.declared.life.Part.{Part}
 use Rattle.doc_store.proofs.Ending.{lives_of, timed_of}
 use Rattle.doc_store.proofs.Opened.{why_of}
@@ -37,7 +37,7 @@ returns-in-Err-clause-failed c = λ s all device.
     record {
       parts = all_with_kept c.in_ok-parts.parts.items lived.0.seq;
       state = lived.0;
-      lived = lives_of ((mem_disk c.args.disk).worn → ⊥) (left s (mem_disk c.args.disk).seen false) (left lived.0 (mem_disk disk).seen lived.1) c.args.lives.items _ lived.2;
+      lived = lives_of ((mem_disk c.args.disk).failures_saturated → ⊥) (left s (mem_disk c.args.disk).seen false) (left lived.0 (mem_disk disk).seen lived.1) c.args.lives.items _ lived.2;
       before = disk;
       after = c.in-Err.fault.device;
       stand = lived.3;
@@ -49,8 +49,8 @@ whole n xs ys all same =
     ap (λ (zs : List Part). take n (xs ++ zs)) (drop_all (length xs) ys (omega (arith, same))) ∙ ap (take n) (append-nil xs) ∙ take_all n xs (omega (arith, all, same))
 
 -- what the lives tell at last
-lived : (c : goal.After-parts-3-1) (s : State) (settled : Bool) → AllStand (mem_disk c.args.disk) s → (settled ≡ true → IsAlone (mem_disk c.args.disk))
-    → (now : Bool) × TimedIf ((mem_disk c.args.disk).worn → ⊥) (left s (mem_disk c.args.disk).seen settled) c.args.lives.items (take c.in_ok-parts.parts.len (c.tell_kept.new.parts ++ drop (length c.tell_kept.new.parts) c.in_ok-parts.parts.items))
+lived : (c : goal.After-parts-3-1) (s : State) (settled : Bool) → AllStand (mem_disk c.args.disk) s → (settled ≡ true → HasOneImage (mem_disk c.args.disk))
+    → (now : Bool) × TimedIf ((mem_disk c.args.disk).failures_saturated → ⊥) (left s (mem_disk c.args.disk).seen settled) c.args.lives.items (take c.in_ok-parts.parts.len (c.tell_kept.new.parts ++ drop (length c.tell_kept.new.parts) c.in_ok-parts.parts.items))
     (left c.in-Ok.store.account.state (mem_disk c.in_ok-parts.disk).seen now)
 lived c s settled all alone =
     let lived = c.in_ok-parts.ensures.lived s settled all alone in
@@ -74,14 +74,14 @@ returns c =
     let state = c.in-Ok.store.account.state in
     let lives = λ (s : State) (all : AllStand (mem_disk c.args.disk) s). (
     let is = lived c s false all (λ is. absurd (cc is)) in
-    lives_of ((mem_disk c.args.disk).worn → ⊥) (left s (mem_disk c.args.disk).seen false) (left state (mem_disk disk).seen is.0) c.args.lives.items told is.1
+    lives_of ((mem_disk c.args.disk).failures_saturated → ⊥) (left s (mem_disk c.args.disk).seen false) (left state (mem_disk disk).seen is.0) c.args.lives.items told is.1
     ) in
     record {
       lives = lives;
       promise = λ s all. lives_keep s state c.args.lives.items told (lives s all);
-      timed = λ s settled all alone unworn. (
+      timed = λ s settled all alone unsaturated. (
           let is = lived c s settled all alone in
-          ((mem_disk disk).seen, is.0, c.in-Ok.ensures.opened.found tt, timed_of unworn (left s (mem_disk c.args.disk).seen settled) (left state (mem_disk disk).seen is.0) c.args.lives.items told is.1)
+          ((mem_disk disk).seen, is.0, c.in-Ok.ensures.opened.found tt, timed_of unsaturated (left s (mem_disk c.args.disk).seen settled) (left state (mem_disk disk).seen is.0) c.args.lives.items told is.1)
           );
       works = (c.in-Ok.ensures.opened.works, c.in-Ok.ensures.opened.no_copy);
       stands = λ s all image left. c.in-Ok.ensures.standing tt c.in-Ok.ensures.opened.works image left;

@@ -1,4 +1,4 @@
-use Rattle.doc_tree.specs.View.{view}
+use Rattle.doc_tree.specs.TreeView.{view}
 use Rattle.doc_tree.proofs.Soundness.{sound_copy}
 use Rattle.doc_tree.proofs.tree.Tree.copy.Goals as goal
 

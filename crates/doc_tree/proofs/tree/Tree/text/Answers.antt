@@ -2,7 +2,7 @@ use Rattle.std.proofs.Common.{subst, sym}
 use Rattle.std.specs.Str.{IsUtf8}
 use Rattle.serde_json.proofs.FreeTexts.{text_of_value}
 use Rattle.doc_tree.specs.Text.{data_of}
-use Rattle.doc_tree.specs.View.{view}
+use Rattle.doc_tree.specs.TreeView.{view}
 use Rattle.doc_tree.proofs.Events.{has_float-data_of}
 use Rattle.doc_tree.proofs.RoundTrip.{IsUtf8-text_of}
 use Rattle.doc_tree.proofs.tree.Tree.text.Goals as goal

@@ -7,12 +7,12 @@ use Rattle.serve_lines.proofs.progress.Progress.finish.Goals as goal
 pub returns-in_err-tell_rest-clause-err : goal.returns-in_err-tell_rest-clause-err
 returns-in_err-tell_rest-clause-err g c = any_err c.from_residual.result (λ options start read before s left end.
     let e = c.finish.ensures.ended c.requires.taken options start read s.replies s.hears in
-    breaks_off_end g.D.SectorDevice.disk options start read left c.finish.new.store (s.replies ++ e.ready) end e.sits)
+    breaks_off_end g.D.SectorDevice.disk options start read left c.finish.new.store (s.replies ++ e.ready) end e.session)
 
 pub returns-in_err-deliver-clause-err : goal.returns-in_err-deliver-clause-err
 returns-in_err-deliver-clause-err g c = any_err c.from_residual-in_err-deliver.result (λ options start read before s left end.
     let e = c.finish.ensures.ended c.requires.taken options start read s.replies s.hears in
-    breaks_off_end g.D.SectorDevice.disk options start read left c.finish.new.store (s.replies ++ e.ready) end e.sits)
+    breaks_off_end g.D.SectorDevice.disk options start read left c.finish.new.store (s.replies ++ e.ready) end e.session)
 
 pub returns-clause-ok : goal.returns-clause-ok
 returns-clause-ok g c = λ options start read before s.
@@ -22,7 +22,7 @@ returns-clause-ok g c = λ options start read before s.
     record {
       told = record {
         replies = s.replies ++ e.ready;
-        sits = e.sits;
+        session = e.session;
         wrote = tells_all before (g.W.Write.contents c.deliver.new.writer) c.deliver.new.self.outbox _ c.in_ok-deliver.ensures.empty told.tells;
       };
       counted = told.counted;

@@ -1,7 +1,7 @@
 use Rattle.std.proofs.Common.{◌≡◌, ℕ, List, ◌++◌, length, Option}
 use Rattle.doc_tree.specs.Doc.{Doc}
 use Rattle.serve_lines.specs.Progress.{HasReplied}
-use Rattle.serve_lines.specs.Said.{AllSay}
+use Rattle.serve_lines.specs.LineReplies.{AllSay}
 use Rattle.serve_lines.proofs.progress.Progress.tell_rest.Given as goal
 
 abbrev pub invariant-replies : goal.invariant-replies

@@ -3,7 +3,7 @@ use Rattle.doc_changes.specs.declared.refusal.Refusal.{Refusal}
 use Rattle.protocol.specs.Reply.{refusal_reply}
 use Rattle.protocol.specs.declared.reply.Reply.{Reply}
 use Rattle.protocol.specs.declared.reply.Reply.TheVariants.{Refused}
-use Rattle.serve_lines.specs.Said.{AllSay}
+use Rattle.serve_lines.specs.LineReplies.{AllSay}
 use Rattle.serve_lines.proofs.session.Session.do_line.Goals as goal
 
 pub returns-then-self-clause-ends : goal.returns-then-self-clause-ends

@@ -1,6 +1,6 @@
 use Rattle.std.proofs.Common.{List, [], inl, inr, refl, sym, subst, ◌∙◌}
 use Rattle.protocol.specs.declared.reply.Reply.{Reply}
-use Rattle.serve_lines.specs.Said.{AllSay}
+use Rattle.serve_lines.specs.LineReplies.{AllSay}
 use Rattle.serve_lines.proofs.session.Session.end_line.Goals as goal
 
 pub returns-then-is_blank-clause-ends : goal.returns-then-is_blank-clause-ends

@@ -3,12 +3,12 @@ use Rattle.std.proofs.lemmas.List.{append-nil}
 use Rattle.doc_tree.specs.Doc.{Doc}
 use Rattle.protocol.specs.Lines.{lines_of}
 use Rattle.protocol.specs.declared.reply.Reply.{Reply}
-use Rattle.serve_lines.specs.Ends.{Ends}
+use Rattle.serve_lines.specs.LineEnds.{LineEnds}
 use Rattle.serve_lines.specs.Pieces.{waiting_in}
-use Rattle.serve_lines.specs.Said.{AllSay, EndsBatch}
+use Rattle.serve_lines.specs.LineReplies.{AllSay, EndsBatch}
 use Rattle.serve_lines.specs.declared.options.Options.{Options}
 use Rattle.serve_lines.proofs.Batching.{says_append, says_none}
-use Rattle.serve_lines.proofs.Ending.{SatSo, sits_end}
+use Rattle.serve_lines.proofs.Ending.{SatSo, session_end}
 use Rattle.serve_lines.proofs.session.Session.finish.Goals as goal
 
 pub returns-then-is_empty-clause-ended : goal.returns-then-is_empty-clause-ended
@@ -24,15 +24,15 @@ returns-then-is_empty-clause-ended g c = λ taken options start read replies s.
     let was = c.args.self.now.halted in
     let is = c.end_line.new.self.halted in
     let halts = c.commit-halts.result in
-    let ends = subst (λ (o : Options). Ends disk o old cs was s.rest e.0 mid left is) s.goes_by e.2 in
+    let ends = subst (λ (o : Options). LineEnds disk o old cs was s.rest e.0 mid left is) s.goes_by e.2 in
     let b = c.commit-halts.ensures.batch in
     let batch = subst (λ (o : Options). EndsBatch disk o mid left b.1 halts new) (c.end_line.ensures.options ∙ s.goes_by) b.4 in
     let all : (replies ++ s.ready) ++ (e.0 ++ b.1) ≡ replies ++ (e.0 ++ b.1) = ap (λ (l : List Doc). (replies ++ l) ++ (e.0 ++ b.1)) none ∙ ap (λ (l : List Doc). l ++ (e.0 ++ b.1)) (append-nil replies) in
     let so = subst (λ (rs : List Doc). SatSo disk options start (lines_of read) rs new (is || halts)) all
-    (sits_end disk options g.met.D.SectorDevice.coherent start read old mid new (replies ++ s.ready) e.0 b.1 cs left was is halts s.rest s.kept.whole s.reached ends batch) in
+    (session_end disk options g.met.D.SectorDevice.coherent start read old mid new (replies ++ s.ready) e.0 b.1 cs left was is halts s.rest s.kept.whole s.reached ends batch) in
     record {
       ready = e.0 ++ b.1;
-      sits = so.sits;
+      session = so.session;
       halted_is = so.halted_is ∙ sym c.either-self.ensures;
       says = subst (λ (l : List Reply). AllSay l (e.0 ++ b.1)) (sym b.2) (says_append c.end_line.new.self.ready.items b.0 e.0 b.1 e.1 b.3);
     }

@@ -3,7 +3,7 @@ use Rattle.std.proofs.lemmas.List.{length-map, map-append}
 use Rattle.doc_machine.specs.Transaction.{transaction_of}
 use Rattle.protocol.specs.declared.reply.Reply.{Reply}
 use Rattle.serve_lines.specs.Pieces.{waiting_in}
-use Rattle.serve_lines.specs.Said.{AllSay}
+use Rattle.serve_lines.specs.LineReplies.{AllSay}
 use Rattle.serve_lines.proofs.Batching.{batch_of_some}
 use Rattle.serve_lines.proofs.session.Session.wait.Goals as goal
 

@@ -4,7 +4,7 @@ use Rattle.std.specs.Vec.Iter.{into_iter_items}
 use Rattle.doc_machine.specs.declared.transaction.Transaction.{Transaction as Held}
 use Rattle.doc_machine.specs.Transaction.{Transaction, transaction_of}
 use Rattle.store_commits.specs.Committed.{asked}
-use Rattle.store_commits.specs.Underway.{slot_fault}
+use Rattle.store_commits.specs.Batching.{slot_fault}
 use Rattle.store_commits.proofs.Slots.{any_false, any_true, asked_append, either_true, both_false, ends_none, ends_push}
 use Rattle.store_commits.proofs.plan.Planning.add_all.Goals as goal
 

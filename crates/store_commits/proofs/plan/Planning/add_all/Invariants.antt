@@ -5,7 +5,7 @@ use Rattle.doc_machine.specs.Trial.{state_at}
 use Rattle.doc_machine.specs.Transaction.{transaction_of}
 use Rattle.store_commits.specs.Account.{Account}
 use Rattle.store_commits.specs.Committed.{Slot, asked}
-use Rattle.store_commits.specs.Underway.{IsPlanning, slot_fault}
+use Rattle.store_commits.specs.Batching.{IsPlanning, slot_fault}
 use Rattle.store_commits.proofs.plan.Planning.add_all.Given as goal
 
 abbrev pub invariant-loop-transaction : goal.invariant-loop-transaction

@@ -2,7 +2,7 @@ use Rattle.std.proofs.Common.{◌+◌, ◌-◌, ℕ, List, ◌++◌, length, tak
 use Rattle.std.proofs.lemmas.List.{take_rest}
 use Rattle.sector_device.specs.Disk.{LeavesOnly}
 use Rattle.store_journal.specs.Carries.{EitherCarried, counted}
-use Rattle.store_journal.specs.View.{carried_of}
+use Rattle.store_journal.specs.JournalView.{carried_of}
 use Rattle.store_journal.proofs.Openings.{again_moment, again_ok}
 use Rattle.store_journal.proofs.journal.Journal.count_open.Goals as goal
 

@@ -8,7 +8,7 @@ use Rattle.doc_changes.specs.Step.{IsOwn, after}
 use Rattle.doc_machine.specs.Trial.{TrialView}
 use Rattle.doc_changes.specs.Undo.{IsMade}
 use Rattle.doc_machine.specs.Tried.{tried, before, past_of, CanGoBackAll}
-use Rattle.doc_changes.specs.View.{document_of}
+use Rattle.doc_changes.specs.StateView.{document_of}
 use Rattle.doc_changes.specs.declared.undo.Undo.{Undo}
 use Rattle.doc_changes.proofs.After.{good_after}
 use Rattle.doc_changes.proofs.Judgements.{err_same}

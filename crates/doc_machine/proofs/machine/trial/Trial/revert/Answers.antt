@@ -2,7 +2,7 @@ use Rattle.std.proofs.Common.{◌≡◌, ◌-◌, sym, ◌∙◌, ap, subst, map
 use Rattle.doc_changes.specs.State.{State, Document, Good}
 use Rattle.doc_machine.specs.Trial.{TrialView}
 use Rattle.doc_machine.specs.Tried.{tried, before, past_of, CanGoBackAll}
-use Rattle.doc_changes.specs.View.{document_of}
+use Rattle.doc_changes.specs.StateView.{document_of}
 use Rattle.doc_changes.specs.declared.undo.Undo.{Undo}
 use Rattle.doc_machine.proofs.Pasts.{newest, past_of-push, popped}
 use Rattle.doc_machine.proofs.machine.trial.Trial.revert.Goals as goal

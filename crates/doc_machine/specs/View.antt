@@ -1,7 +1,0 @@
--- How the fields of a machine are seen.
-use Rattle.doc_changes.specs.State.{State}
-use Rattle.doc_changes.specs.View.{kept_state}
-use Rattle.doc_machine.specs.declared.machine.Machine.TheInside.{Inside}
-
-abbrev pub state_of : Inside → State
-state_of m = kept_state m.documents.entries m.seq

@@ -1,6 +1,0 @@
-use Rattle.std.proofs.Common.{◌≡◌, drop}
-use Rattle.schema_levels.specs.Close.{mark_rules}
-use Rattle.schema_levels.proofs.close.mark_rules.Given as goal
-
-abbrev pub invariant-loop-rule : goal.invariant-loop-rule
-invariant-loop-rule l = mark_rules (drop l.rule-index l.rules) l.asked ≡ mark_rules l.rules l.initial.asked
