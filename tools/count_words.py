@@ -1,11 +1,13 @@
 #!/usr/bin/env python3
-"""Counts the words of the pages: a sentence's average and longest by page, the words to avoid, and the total.
+"""Counts the words of the pages: a sentence's average and longest by page, the words to avoid, and the total. Without pages it
+also looks for words to avoid in the comments of the crates.
 
     count_words.py [--check | --long | --avoid] [PAGE..]
 
-With --check it says only what is over a limit; its last line is `N passed, M failed`, a page a test. With --long it shows the
-sentences over the limit, and with --avoid the sentences with a word to avoid. Without pages it counts README.md, CHANGELOG.md,
-CONTRIBUTING.md, SECURITY.md, crates/README.md and docs/*/*.md.
+With --check it says only what is over a limit; its last line is `N passed, M failed`: each page is a test, and so are the total
+and the comments. With --long it shows the sentences over the limit, and with --avoid the sentences with a word to avoid.
+Without pages it counts README.md, CHANGELOG.md, CONTRIBUTING.md, SECURITY.md, crates/README.md and docs/*/*.md, and reads the
+comments of crates/*/src and crates/*/specs.
 
 A page's words are what `wc -w` counts outside of its fenced code blocks. The total that is limited is that of README.md and
 docs/*/*.md. In a sentence a word is what has a letter or a digit between blanks, code included. The cells of tables and headings are
@@ -28,23 +30,48 @@ LIMITED = re.compile(r"README\.md|docs/(?!use/REPLICATED|use/MODELLING).*")
 AVOID = {
     r"want of memory": "out of memory",
     r"stands?|stood|standing": "is, holds, exists",
-    r"behind": "after",
-    r"where(?! (to|things)\b)": "if, in which, exactly when",
     r"mend(s|ed|ing)?": "correct, repair",
-    r"lives": "runs, histories",
     r"wants?": "needs, asks for",
     r"(done|said|told|answered|takes|tried|found|ends) so": "in this way",
     r"alike": "the same, similar",
     r"is of|are of": "has, belongs to",
     r"is to be (read|tried|taken)": "must be",
 }
-AVOIDED = {re.compile(rf"\b({pattern})\b", re.I): rather for pattern, rather in AVOID.items()}
+ON_PAGES = {
+    r"behind": "after",
+    r"where(?! (to|things)\b)": "if, in which, exactly when",
+    r"lives": "runs, histories",
+}
+# Right in a comment are the place where something begins or is, the lives of a disk, and `!behind`, a word of the transcripts.
+IN_COMMENTS = {
+    r"(?<!!)behind": "after",
+    r"(?<!from )(?<!to )where(?! ((it|they|the \w+) )?(begins?|began|ends?|ended|is|are)\s*([.,;:(]|$))": "if, in which, exactly when",
+    r"lives (in|at|on)": "is in",
+    r"so many": "that many, or the number by its name",
+    r"tells?|told|telling": "says, gives, has",
+    r"(refused|judged|spelled|written|went|named) so": "in this way",
+}
+COMMENT = re.compile(r"\s*(?://[/!]?|--) ?(.*)")
+# The head of a file names what is in it: `The status of a store`, not `What a store says of itself`.
+ANSWERS = re.compile(r"(For the clauses within the crate: )?(What|Why|Which|Whether|How|When|Where|Who)\b", re.I)
+
+
+def compiled(patterns):
+    return {re.compile(rf"\b({pattern})\b", re.I): rather for pattern, rather in patterns.items()}
+
+
+AVOIDED_ON_PAGES = compiled({**AVOID, **ON_PAGES})
+AVOIDED_IN_COMMENTS = compiled({**AVOID, **IN_COMMENTS})
 
 
 def pages():
     names = ["README.md", "CHANGELOG.md", "CONTRIBUTING.md", "SECURITY.md"]
     found = [ROOT / name for name in names if (ROOT / name).exists()]
     return found + [ROOT / "crates" / "README.md"] + sorted((ROOT / "docs").glob("*/*.md"))
+
+
+def sources():
+    return sorted([*ROOT.glob("crates/*/src/**/*.rt"), *ROOT.glob("crates/*/specs/**/*.antt")])
 
 
 def without_fences(text):
@@ -85,6 +112,39 @@ def sentences_of(part):
     return [sentence for sentence in ended if words_of(sentence)]
 
 
+def uses_in(sentence, avoided):
+    """Each use of a word to avoid, outside of code: (word, what to say instead)."""
+    plain = re.sub(r"`[^`]*`", "", sentence)
+    for pattern, rather in avoided.items():
+        for use in pattern.finditer(plain):
+            yield use.group(), rather
+
+
+def comments_of(path):
+    """Each comment of a file: (the number of its first line, its text)."""
+    lines, first = [], 0
+    for number, line in enumerate([*path.read_text(encoding="utf-8").splitlines(), ""], 1):
+        found = COMMENT.fullmatch(line)
+        if found and found[1]:
+            first = first if lines else number
+            lines.append(found[1].strip())
+        elif lines:
+            yield first, " ".join(lines)
+            lines = []
+
+
+def faults_of_comments():
+    """Each fault of the comments: (its file and line, the fault, the sentence)."""
+    for path in sources():
+        for number, text in comments_of(path):
+            place = f"{path.relative_to(ROOT).as_posix()}:{number}"
+            for sentence in sentences_of(text):
+                for word, rather in uses_in(sentence, AVOIDED_IN_COMMENTS):
+                    yield place, f"`{word}`: say {rather}", sentence
+            if number == 1 and ANSWERS.match(text):
+                yield place, "the head of a file names what is in it", text
+
+
 class Page:
     def __init__(self, path):
         self.name = path.resolve().relative_to(ROOT).as_posix()
@@ -101,10 +161,8 @@ class Page:
     def avoided(self):
         """Each use of a word to avoid, outside of code, with its sentence."""
         for sentence in self.sentences:
-            plain = re.sub(r"`[^`]*`", "", sentence)
-            for pattern, rather in AVOIDED.items():
-                for use in pattern.finditer(plain):
-                    yield use.group(), rather, sentence
+            for word, rather in uses_in(sentence, AVOIDED_ON_PAGES):
+                yield word, rather, sentence
 
     def faults(self):
         if self.average >= MOST_ON_AVERAGE:
@@ -126,10 +184,12 @@ def check(counted, whole):
     total = limited_words(counted)
     if whole and total > MOST_WORDS:
         faults.append(("README.md and docs", f"{total:,} words, at most {MOST_WORDS:,} are wanted"))
+    if whole:
+        faults += [("comments", f"{place}: {fault}") for place, fault, _ in faults_of_comments()]
     for name, fault in faults:
         print(f"{name}: {fault}")
     failed = len({name for name, _ in faults})
-    print(f"{len(counted) + whole - failed} passed, {failed} failed")
+    print(f"{len(counted) + 2 * whole - failed} passed, {failed} failed")
     return 1 if failed else 0
 
 
@@ -159,6 +219,9 @@ def main():
         if asked.avoid:
             for word, rather, sentence in page.avoided():
                 print(f"{page.name}: `{word}`, say {rather}: {sentence}\n")
+    if asked.avoid and not asked.pages:
+        for place, fault, sentence in faults_of_comments():
+            print(f"{place}: {fault}: {sentence}\n")
     if not (asked.long or asked.avoid):
         show(counted)
     return 0

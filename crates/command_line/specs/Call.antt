@@ -1,4 +1,4 @@
--- What a call asks for, in which range its numbers lie, and which words are its row.
+-- Calls: what one asks for, in which range its numbers are, and which words are its row.
 use Rattle.std.specs.Prelude.{◌≡◌, ◌≢◌, ◌≤◌, ◌⊎◌, ℕ, Bool, false, if◌then◌else◌, List, [], ◌∷◌, ◌++◌, codes, decimal, get_or}
 use Rattle.std.specs.Str.Parse.{IsNumeral, digits_value, without_leading_plus}
 use Rattle.command_line.specs.declared.call.Call.{Call}
@@ -42,7 +42,7 @@ IsNoOption text = get_or text 0 0 ≢ 45
 abbrev pub IsGiven : List ℕ → ℕ → ℕ → List (List ℕ) → Type 0
 IsGiven option default n words = ((1 ≤ n) × (words ≡ option ∷ decimal n ∷ [])) ⊎ ((n ≡ default) × (words ≡ []))
 
--- the text spells the mode in octal, of which a plus may stand in front
+-- the text spells the mode in octal, with or without a plus in front
 abbrev pub SpellsMode : List ℕ → ℕ → Type 0
 SpellsMode text mode = IsNumeral 8 (without_leading_plus text) × (digits_value 8 (without_leading_plus text) ≡ mode)
 
@@ -55,7 +55,7 @@ IsModeGiven mode words =
 abbrev pub InEitherOrder : List (List ℕ) → List (List ℕ) → List (List ℕ) → Type 0
 InEitherOrder one other words = (words ≡ one ++ other) ⊎ (words ≡ other ++ one)
 
--- the flag's word where it is set
+-- the flag's word if it is set
 abbrev pub flag_words : List ℕ → Bool → List (List ℕ)
 flag_words flag set = if set then flag ∷ [] else []
 

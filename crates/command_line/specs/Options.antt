@@ -96,7 +96,7 @@ HoldsFile file options = first_of (codes "file") options ≡ Some file
 abbrev pub HoldsNew : Text → List Row → Type 0
 HoldsNew new options = first_of (codes "new") options ≡ Some new
 
--- the text spells the number by decimal digits, of which a plus may stand in front
+-- the text spells the number by decimal digits, with or without a plus in front
 abbrev pub Spells : Text → ℕ → Type 0
 Spells text n = IsNumeral 10 (without_leading_plus text) × (digits_value 10 (without_leading_plus text) ≡ n)
 
@@ -121,7 +121,8 @@ abbrev pub HoldsMode : ℕ → List Row → Type 0
 HoldsMode mode options =
     ((text : Text) × (first_of (codes "mode") options ≡ Some text) × SpellsMode text mode) ⊎ ((mode ≡ OWNER_ALONE) × (first_of (codes "mode") options ≡ None))
 
--- the options of a call hold its files, spell its numbers, or leave one out where it has a default, and say whether its flag is set
+-- the options of a call hold its files, spell its numbers, or leave one out if it has a default, and say whether its
+-- flag is set
 abbrev pub Holds : Asked → List Row → Type 0
 Holds (format file sectors version mode sparse) options =
     HoldsFile file options × HoldsNumber (codes "sectors") sectors options × MayHold (codes "format") 2 version options

@@ -1,4 +1,4 @@
-//! From words to a call.
+//! The reading of words as a call.
 ghost use Rattle.std.specs.Prelude.{◌≡◌, ◌⊎◌, ◌≤◌, ◌<◌, ◌^◌, ℕ, Bool, List, IfOk, IfErr, IfSome, IsSomeAnd, Some, codes, map, option_map, MatchResult};
 ghost use Rattle.clap.specs.Words.{fault_of, first_of, found_of, HasKind, IsAmong, kind_of, rows_of, subcommand_of, subcommand_rows_of};
 ghost use Rattle.clap.specs.declared.error.kind.ErrorKind.TheVariants.{InvalidValue, OutOfMemory};
@@ -60,19 +60,20 @@ pub enum Call<'a> {
 /// What the words ask the program to do, and to say.
 #[derive(Clone, Copy)]
 pub struct Order<'a> {
-    /// What is to be done.
+    /// The work that is asked for.
     pub call: Call<'a>,
-    /// Whether it is to be said why a file isn't made or opened.
+    /// Whether the program says why a file isn't made or opened.
     pub why: bool,
 }
 
 /// Reads the words after the program's name.
 ///
-/// The call is what the words mean to `clap`, however they are written: `--sectors=16`, or an option before FILE.
-/// Where `--format` is absent its number is 2 for a new file and 3 for an upgrade, that of `--batch` is 1, that of
-/// `--pump` 0, and the mode is 0600. Refuses, by `clap`'s own errors, what is no call, an option or a flag that is given twice, a number out
-/// of the range of its option, a mode that is no octal number up to 0777, and a request for help; it also fails if memory runs out. Words that are a call's row
-/// fail only if memory runs out; in a row no file begins with a hyphen, since such a word is read as an option.
+/// The call is what the words mean to `clap`, however they are written: `--sectors=16`, or an option before FILE. If
+/// `--format` is absent, its number is 2 for a new file and 3 for an upgrade, that of `--batch` is 1, that of `--pump`
+/// 0, and the mode is 0600. Refuses, by `clap`'s own errors, what is no call, an option or a flag that is given twice,
+/// a number out of the range of its option, a mode that is no octal number up to 0777, and a request for help; it also
+/// fails if memory runs out. Words that are a call's row fail only if memory runs out; in a row no file begins with a
+/// hyphen, since such a word is read as an option.
 pub fn order_of<'a>(alloc: Global, words: &'a [&'a str]) -> Result<Order<'a>, Error>
     ensures in_range { IfOk result (λ order. InRange (asked_of order.call)) }
     ensures sound { IfOk result (λ order. Means (subcommand_of app (map (λ w. w.now) words.entry.now)) (asked_of order.call)) }
@@ -246,7 +247,7 @@ fn new_in<'a>(options: &ArgMatches<'a>) -> Option<&'a str>
     options.get_str("new")
 }
 
-// The number of sectors that the options hold, where it is in the range.
+// The number of sectors that the options hold, if it is in the range.
 fn sectors_in(options: &ArgMatches, most: u64) -> Option<u64>
     ensures in_range { IfSome result (λ n. (MIN_SECTORS ≤ n) × (n ≤ most)) }
     ensures sound { IfSome result (λ n. HoldsNumber (codes "sectors") n (rows_of (found_of options.now))) }
@@ -269,7 +270,7 @@ fn format_number(options: &ArgMatches, default: u64) -> Option<u64>
     }
 }
 
-// The mode that the options give, in octal, where it has permission bits alone, or its default where they give none.
+// The mode that the options give, in octal, if it has permission bits alone, or its default if they give none.
 fn mode_in(options: &ArgMatches) -> Option<u32>
     ensures in_range { IfSome result (λ mode. mode ≤ MAX_MODE) }
     ensures sound { IfSome result (λ mode. HoldsMode mode (rows_of (found_of options.now))) }
@@ -301,8 +302,8 @@ fn flag_in(options: &ArgMatches, name: &str) -> Option<bool>
     options.get_one::<bool>(name)
 }
 
-// The number that the options hold for the option of that name, where it is in the range from 1 on, or its default
-// where they hold none.
+// The number that the options hold for the option of that name, if it is in the range from 1 on, or its default if they
+// hold none.
 fn number_or(options: &ArgMatches, name: &str, default: u64, most: u64) -> Option<u64>
     requires small { default ≤ 1 }
     requires room { default ≤ most }
@@ -316,7 +317,7 @@ fn number_or(options: &ArgMatches, name: &str, default: u64, most: u64) -> Optio
     }
 }
 
-// The number that the options hold for the option of that name, where it is in the range.
+// The number that the options hold for the option of that name, if it is in the range.
 fn number_in(options: &ArgMatches, name: &str, least: u64, most: u64) -> Option<u64>
     ensures in_range { IfSome result (λ n. (least ≤ n) × (n ≤ most)) }
     ensures sound { IfSome result (λ n. HoldsNumber name.now n (rows_of (found_of options.now))) }

@@ -35,7 +35,7 @@ fn new_argument<'a>(alloc: Global) -> Arg<'a>
         .action(ArgAction::Set)
 }
 
-// An option of that name that may be absent, with any text, for which `value` stands in the help.
+// An option of that name that may be absent, with any text. The help shows `value` in the text's place.
 fn text_option<'a>(alloc: Global, name: &'a str, value: &'a str, help: &'a str) -> Arg<'a>
     ensures rule { rule_of result ≡ option_rule name.now }
     ensures local { result.global ≡ false }

@@ -18,7 +18,7 @@ pub const MAX_FORMAT: u64 = 3;
 /// The most changes that one commit may be asked to take together.
 pub const MAX_BATCH: u64 = 1_024;
 
-/// The most sectors that a step of a copy behind a change may be asked to write.
+/// The most sectors that a step of a copy after a change may be asked to write.
 pub const MAX_PUMP: u64 = 1_000_000;
 
 /// The mode of a new file that its owner alone may read and write (0600 in octal).

@@ -20,24 +20,24 @@ abbrev pub on_place : Option Place → Doc → (Doc → List Place) → List Pla
 on_place None d rest = []
 on_place (Some p) d rest = on_child p (child p d) rest
 
--- as far as they lead, and then what stands at their end
+-- as far as they lead, and then what is at their end
 abbrev pub places_along : (Doc → List Place) → Tokens → Doc → List Place
 places_along end [] d = end d
 places_along end (t ∷ ts) d = on_place (place_named t d) d (places_along end ts)
 
--- the index behind the first n elements, where the token names it
+-- the index after the first n elements, if the token names it
 abbrev pub index_behind : ℕ → Token → Option ℕ
 index_behind n t = option_and_then (λ i. if nat_eq i n then Some i else None) (index_below (suc n) t)
 
--- among n elements the index of the last, where an addition at the token put it behind the others
+-- among n elements the index of the last, if an addition at the token put it after the others
 abbrev pub index_added : ℕ → Token → Option ℕ
 index_added n t = if bytes_eq t dash then Some (n - 1) else index_behind (n - 1) t
 
--- by whether it is there, or was behind the n
+-- by whether it is there, or was after the n
 abbrev pub end_index : Bool → ℕ → Token → Option ℕ
 end_index there n t = if there then index_added n t else index_behind n t
 
--- the place of a child that came or went, where each other child stays at its place
+-- the place of a child that came or went, if each other child stays at its place
 abbrev pub end_place : End → Doc → Option Place
 end_place e (object ms) = Some (name e.token.now)
 end_place e (list ds) = option_map index (end_index e.is_there (elements_len ds) e.token.now)

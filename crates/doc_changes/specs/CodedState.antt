@@ -1,4 +1,4 @@
--- The code of a state, by which a proof tells states apart.
+-- The code of a state, by which a proof distinguishes states.
 use Rattle.std.specs.Prelude.{ℕ, List, refl}
 use Rattle.std.specs.Coded.{Coded, code_by, coded×, coded_ℕ, coded_list}
 use Rattle.doc_tree.specs.Doc.{Doc}

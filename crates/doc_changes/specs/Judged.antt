@@ -45,7 +45,7 @@ HoldsMade ds (patch name ops if_rev) judged = IsPatched ds name ops judged.patch
 HoldsMade ds (set_schema name schema) judged = IsRead schema judged.rules
 HoldsMade ds (delete name) judged = ⊤
 
--- The state accepts the change, a journal can hold it, and the judgement has what is to be made.
+-- The state accepts the change, a journal can hold it, and the judgement has what it makes.
 pub record IsJudged (s : State) (c : Change) (judged : Judged) : Type 0 where
   pub accepted : refusal_of s c ≡ None
   pub sound : IsSoundChange c
@@ -54,7 +54,7 @@ pub record IsJudged (s : State) (c : Change) (judged : Judged) : Type 0 where
 
 -- ---- before seq is looked at
 
--- so far, but for seq
+-- the same before seq is looked at
 pub record IsJudgedIn (ds : List Document) (c : Change) (judged : Judged) : Type 0 where
   pub accepted : first (refusals_in ds c) ≡ None
   pub sound : IsSoundChange c
@@ -64,7 +64,7 @@ pub record IsJudgedIn (ds : List Document) (c : Change) (judged : Judged) : Type
 abbrev pub RefusesIn : List Document → Change → Refusal → Type 0
 RefusesIn ds c r = (r ≡ plain MEMORY) ⊎ (first (refusals_in ds c) ≡ Some r)
 
--- all but a patch was judged so far
+-- all but a patch was judged in this way
 abbrev pub IsReady : List Document → Change → Judged → Type 0
 IsReady ds (create name schema doc) judged = IsJudgedIn ds (create name schema doc) judged
 IsReady ds (patch name ops if_rev) judged = ⊤

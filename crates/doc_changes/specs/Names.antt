@@ -1,4 +1,4 @@
--- What a document may be called.
+-- The names that documents may have.
 use Rattle.std.specs.Prelude.{ℕ, Bool, List, length, ◌&&◌, ◌||◌, nat_le, nat_eq}
 use Rattle.std.specs.List.{list_all}
 

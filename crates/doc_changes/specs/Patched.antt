@@ -1,4 +1,4 @@
--- What a patch makes of a document, as it is spelled.
+-- The document that a patch makes, as the patch is spelled.
 use Rattle.std.specs.Prelude.{List, Option, None, Result, Ok, Err}
 use Rattle.doc_tree.specs.Doc.{Doc}
 use Rattle.doc_edits.specs.Operation.{Operation}
@@ -13,7 +13,7 @@ abbrev pub or_refused : Result Doc PatchFault → Result Doc Refusal
 or_refused (Ok d) = Ok d
 or_refused (Err fault) = Err (of_patch fault)
 
--- what the operations make of the document, where they were read
+-- what the operations make of the document, if they were read
 abbrev pub made_by : Result (List Operation) PatchFault → Doc → Result Doc Refusal
 made_by (Ok os) d = or_refused (patch os d)
 made_by (Err fault) d = Err (of_patch fault)
@@ -22,7 +22,7 @@ made_by (Err fault) d = Err (of_patch fault)
 abbrev pub patched : Doc → Doc → Result Doc Refusal
 patched ops d = made_by (operations_of ops) d
 
--- what was made; where nothing was, the old document
+-- what was made; if nothing was, the old document
 abbrev pub made_or : Doc → Result Doc Refusal → Doc
 made_or d (Ok made) = made
 made_or d (Err r) = d

@@ -1,4 +1,4 @@
--- For the clauses within the crate: a patch of what is kept, judged and made where it stands.
+-- For the clauses within the crate: a patch of what is kept, judged and made in its place.
 use Rattle.std.specs.Prelude.{◌≡◌, ◌⊎◌, ℕ, ◌<◌, List, Option, None, Some, Result, Ok, [], ◌∷◌, length, position, bytes_eq, String, string_bytes}
 use Rattle.std.specs.Map.{keys_of}
 use Rattle.std.specs.Result.{result_err}

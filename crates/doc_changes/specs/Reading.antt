@@ -1,4 +1,4 @@
--- What the reading calls answer, but for queries.
+-- The answers of the reading calls, but for queries.
 use Rattle.std.specs.Prelude.{ℕ, List, map, if◌then◌else◌, Option, None, Some, Result, Ok, Err}
 use Rattle.doc_tree.specs.Doc.{Doc}
 use Rattle.doc_pointer.specs.Place.{resolve}

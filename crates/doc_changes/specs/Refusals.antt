@@ -21,7 +21,7 @@ other_revision revision = record { number = REVISION; op = None; rev = Some revi
 abbrev pub at_change : ℕ → Refusal → Refusal
 at_change place r = record r { change = Some place }
 
--- that refusal where the test holds
+-- that refusal if the test holds
 abbrev pub refused_if : Bool → ℕ → Option Refusal
 refused_if test n = if test then Some (plain n) else None
 

@@ -1,4 +1,4 @@
--- Why a schema is refused, and when a document is valid under one, by what doc_schema says of both.
+-- The refusal of a schema, and the validity of a document under one, by what doc_schema says of both.
 use Rattle.std.specs.Prelude.{Bool, false, Option, option_map}
 use Rattle.doc_tree.specs.Doc.{Doc, boolean}
 use Rattle.doc_schema.specs.Faults.{first_fault}

@@ -19,7 +19,7 @@ pub record State : Type 0 where
   pub documents : List Document
   pub seq : ℕ
 
--- no documents, after so many changes
+-- no documents, after `seq` changes
 abbrev pub empty_at : ℕ → State
 empty_at seq = record { documents = []; seq = seq }
 

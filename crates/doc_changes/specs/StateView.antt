@@ -1,4 +1,4 @@
--- How documents that are kept, or lent, are seen.
+-- The view of documents that are kept, or lent.
 use Rattle.std.specs.Prelude.{◌≡◌, ℕ, List, Some, map, string_bytes, String}
 use Rattle.std.specs.declared.alloc.Global.{Global}
 use Rattle.doc_tree.specs.TreeView.{view}
@@ -19,7 +19,7 @@ document_of e = named (string_bytes e.0) e.1
 abbrev pub IsStoredAt : List ℕ → Stored → List Document → Type 0
 IsStoredAt n s ds = find n ds ≡ Some (named n s)
 
--- the state whose documents are the entries of a map, after so many changes
+-- the state whose documents are the entries of a map, after `seq` changes
 abbrev pub kept_state : List (String Global × Stored) → ℕ → State
 kept_state es seq = record { documents = map document_of es; seq = seq }
 

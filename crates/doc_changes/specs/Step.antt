@@ -18,15 +18,15 @@ use Rattle.refusals.specs.declared.numbers.TheConstants.{MEMORY, DEPTH, TOO_LARG
 abbrev pub name_refusal : List ℕ → Option Refusal
 name_refusal name = refused_if (not (is_name name)) NAME
 
--- a document of that name stands already
+-- a document of that name already exists
 abbrev pub exists_refusal : List Document → List ℕ → Option Refusal
 exists_refusal ds name = refused_if (is_some (find name ds)) EXISTS
 
--- no document of that name stands
+-- there is no document of that name
 abbrev pub absent_refusal : List Document → List ℕ → Option Refusal
 absent_refusal ds name = refused_if (not (is_some (find name ds))) NO_DOCUMENT
 
--- as many documents as there may be stand already
+-- as many documents as there may be already exist
 abbrev pub room_refusal : List Document → Option Refusal
 room_refusal ds = refused_if (nat_le 1_024 (length ds)) TOO_MANY
 
@@ -61,7 +61,7 @@ seq_refusal seq = refused_if (nat_eq seq 0xffff_ffff_ffff_ffff) SEQ_END
 
 -- ---- changes
 
--- why the document of that name refuses, if it stands and does
+-- why the document of that name refuses, if there is one and it does
 abbrev pub refusal_at : (Document → Option Refusal) → Option Document → Option Refusal
 refusal_at f None = None
 refusal_at f (Some d) = f d
@@ -80,7 +80,7 @@ refusals_in ds (delete name) = name_refusal name ∷ absent_refusal ds name ∷ 
 abbrev pub refusal_of : State → Change → Option Refusal
 refusal_of s c = first (refusals_in s.documents c ++ seq_refusal s.seq ∷ [])
 
--- the documents after a change that isn't refused, where what it changes gets that revision
+-- the documents after a change that isn't refused; what it changes gets that revision
 abbrev pub documents_after : List Document → Change → ℕ → List Document
 documents_after ds (create name schema doc) rev = ds ++ record { name = name; schema = schema; doc = doc; revision = rev } ∷ []
 documents_after ds (patch name ops if_rev) rev = changed (λ d. record { name = d.name; schema = d.schema; doc = made_or d.doc (patched ops d.doc); revision = rev }) name ds
@@ -99,7 +99,8 @@ Refuses s c r = (r ≡ plain MEMORY) ⊎ (refusal_of s c ≡ Some r)
 abbrev pub IsOwn : Refusal → Type 0
 IsOwn r = (r.number ≢ FULL) × (r.number ≢ DEVICE) × (r.number ≢ BROKEN)
 
--- From old, a change was answered so and led to new: the new seq, or the refusal, or want of memory, and after these two nothing changed.
+-- From old, a change was answered in this way and led to new: the new seq, or the refusal, or that memory ran out, and
+-- after these two nothing changed.
 abbrev pub Steps : State → Change → Result ℕ Refusal → State → Type 0
 Steps old c (Ok seq) new = (refusal_of old c ≡ None) × (new ≡ after old c) × (seq ≡ new.seq)
 Steps old c (Err r) new = Refuses old c r × (new ≡ old)

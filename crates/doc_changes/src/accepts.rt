@@ -1,4 +1,4 @@
-//! Whether what a patch made of a valid document is valid.
+//! The validity of what a patch made of a valid document.
 ghost use Rattle.std.specs.Prelude.{◌≡◌, Ok, true};
 ghost use Rattle.doc_tree.specs.Doc.{Doc};
 ghost use Rattle.doc_tree.specs.TreeView.{view};
@@ -12,8 +12,8 @@ use doc_schema::Schema;
 use doc_tree::Tree;
 use std::alloc::Global;
 
-/// Whether what the patch made of a document that is valid under the schema is valid too: judged where the patch changed it,
-/// if it did, or as a whole if there is no memory for the way there.
+/// Whether what the patch made of a document that is valid under the schema is valid too: judged at the places that the
+/// patch changed, if there are any, or as a whole if there is no memory for the way there.
 pub fn accepts_patched(schema: &Schema, changes: &Patch, made: &Tree, alloc: Global) -> bool
     ensures { (before : Doc) → Judges (view schema.now) before true → patch (operations changes.now) before ≡ Ok (view made.now)
         → Judges (view schema.now) (view made.now) result }

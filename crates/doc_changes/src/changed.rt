@@ -16,9 +16,10 @@ use doc_patch::Patch;
 use doc_tree::{Step, Tree};
 use std::alloc::{AllocError, Global};
 
-/// The steps that lead in the document which the patch made to the place at and below which it differs from the one
-/// before: none if that is the root. `None` if no operation changes anything. Where one alone does, and what it brings or
-/// takes leaves each other child at its place, that is the child's place; else it is what holds all that they reach.
+/// The steps that lead, in the document which the patch made, to the place at and below which it differs from the one
+/// before: none if that is the root. `None` if no operation changes anything. If one operation alone changes something,
+/// and what it brings or takes leaves each other child at its place, that is the child's place; else it is what holds
+/// all that they reach.
 pub fn changed_steps(
     changes: &Patch,
     made: &Tree,

@@ -40,7 +40,7 @@ impl<'m> Model for Documents<'m> {
 }
 
 impl<'m> Documents<'m> {
-    /// Lends the documents that are kept in this map, after so many accepted changes.
+    /// Lends the documents that are kept in this map, after `seq` accepted changes.
     pub fn lend(alloc: Global, documents: &'m IndexMap<String, Stored>, seq: u64) -> Documents<'m>
         requires good { Good (kept_state documents.now.entries seq) }
         ensures same { result ≡ kept_state documents.now.entries seq }
@@ -97,7 +97,7 @@ impl<'m> Documents<'m> {
 
     /// What is kept of the document of that name. It takes no memory.
     ///
-    /// `NAME` where the text is no name, else `NO_DOCUMENT` where no document has it.
+    /// `NAME` if the text is no name, else `NO_DOCUMENT` if no document has it.
     pub fn document(&self, name: &str) -> Result<&'m Stored, Refusal>
         ensures stored { MatchResult result
             (λ s. document_at self.now name.now ≡ Ok (named name.now s.now))

@@ -63,7 +63,7 @@ pub(crate) fn end_step(end: End, document: &Tree, alloc: Global) -> Result<Optio
     }
 }
 
-// The index of the child where it is the last of so many elements, or was behind them.
+// The index of the child, if it is the last of `len` elements, or came after them.
 fn end_index(end: End, len: u64) -> Option<u64>
     requires { len + 1 < 2 ^ 64 }
     ensures { result ≡ end_index end.entry.is_there len end.entry.token.now }
@@ -75,7 +75,7 @@ fn end_index(end: End, len: u64) -> Option<u64>
     }
 }
 
-// The index of the last of so many elements, if an addition at the token put it there.
+// The index of the last of `len` elements, if an addition at the token put it there.
 fn index_added(token: &str, len: u64) -> Option<u64>
     requires { len + 1 < 2 ^ 64 }
     ensures { result ≡ index_added len token.now }
@@ -87,7 +87,7 @@ fn index_added(token: &str, len: u64) -> Option<u64>
     index_behind(token, last)
 }
 
-// The index behind so many elements, if the token names it.
+// The index after `len` elements, if the token names it.
 fn index_behind(token: &str, len: u64) -> Option<u64>
     requires { len + 1 < 2 ^ 64 }
     ensures { result ≡ index_behind len token.now }

@@ -1,4 +1,4 @@
-//! Why a change is refused: a judgement only reads.
+//! The judgement of a change: why it is refused. It only reads.
 ghost use Rattle.std.specs.Prelude.{◌≡◌, ◌⊎◌, Ok, Err, IfOk, IfErr, MatchResult};
 ghost use Rattle.doc_tree.specs.Sound.{IsSound};
 ghost use Rattle.doc_tree.specs.TreeView.{view};
@@ -53,7 +53,7 @@ impl<'m> Documents<'m> {
         }
     }
 
-    /// Why a change is refused where no more can be counted.
+    /// The refusal of a change if no more can be counted.
     pub fn refuse_at_end(&self, command: &Command) -> Refusal
         requires { self.now.seq ≡ LAST_SEQ }
         ensures refused { Refuses self.now (change_of command.now) result }
@@ -65,7 +65,7 @@ impl<'m> Documents<'m> {
         }
     }
 
-    /// Judges all but a patch, which `make` judges where the document stands. Refuses as `judge`, but never as `SEQ_END`.
+    /// Judges all but a patch, which `make` judges in place. Refuses as `judge`, but never as `SEQ_END`.
     pub fn prepare(&self, command: &Command) -> Result<Judged, Refusal>
         ensures ready { IfOk result (IsReady self.now.documents (change_of command.now)) }
         ensures refused_in { IfErr result (RefusesIn self.now.documents (change_of command.now)) }

@@ -1,4 +1,4 @@
-//! What judging a change found.
+//! The result of judging a change.
 use doc_schema::Schema;
 use doc_tree::Tree;
 

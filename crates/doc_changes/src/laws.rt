@@ -34,7 +34,7 @@ pub fn storable_documents_are_framed()
     changes_of_small_parts_are_framed();
 }
 
-/// A schema is refused exactly where it has a fault, and then by the number of its first.
+/// A schema is refused exactly when it has a fault, and then by the number of its first.
 pub fn schemas_are_refused_by_their_first_fault()
     ensures { (s : Doc) → ((schema_refusal s ≡ None) ↔ IsFaultless s)
         × ((n : ℕ) → (schema_refusal s ≡ Some (plain n)) ↔ IsFirstFault s n) }

@@ -2,9 +2,9 @@
 //!
 //! `Documents` are lent to read and to judge. `make` does a judged change on the map that keeps them, and answers the
 //! `Undo` by which `unmake` takes it back without memory; `make_for_good` keeps none, and `patch_read_for_good` does
-//! the same of a patch that was read already. A patch is judged and made where its document stands: only
-//! what it can have changed is judged (`changed_steps`, `accepts_patched`). What a change makes, and why it is refused, is
-//! defined in `specs/Step.antt`; what every state keeps, in `specs/State.antt`; refusals as calls answer them, in
+//! the same of a patch that was read already. A patch is judged and made in its document's place: only what it can have
+//! changed is judged (`changed_steps`, `accepts_patched`). What a change makes, and why it is refused, is defined in
+//! `specs/Step.antt`; what every state keeps, in `specs/State.antt`; refusals as calls answer them, in
 //! `specs/Refusals.antt`.
 #![tactic(auto)]
 

@@ -1,4 +1,4 @@
-//! What a document may be called.
+//! The names that documents may have.
 ghost use Rattle.std.specs.Prelude.{◌≡◌};
 ghost use Rattle.std.specs.List.{list_all};
 ghost use Rattle.doc_changes.specs.Names.{is_name, is_name_byte};

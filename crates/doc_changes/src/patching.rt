@@ -1,4 +1,4 @@
-//! Patches that are judged and made where the document stands, and taken back there.
+//! Patches that are judged and made in the place of the document, and taken back there.
 ghost use Rattle.std.specs.List.{AllByRecursion};
 ghost use Rattle.std.specs.Prelude.{◌≡◌, ◌+◌, ◌<◌, ◌≤◌, ◌⊎◌, ℕ, List, Option, None, Err, Ok, IfErr, IfOk, MatchResult, OnErr, map, string_bytes, true};
 ghost use Rattle.indexmap.specs.IndexMap.{spare};
@@ -127,7 +127,7 @@ fn reverse(stored: &mut Stored, reversal: Reversal, revision: u64)
     stored.revision = revision;
 }
 
-// The index of the document that is to be patched.
+// The index of the document that a patch changes.
 fn index_of(documents: &IndexMap<String, Stored>, name: &str) -> Result<usize, Refusal>
     ensures found { IfOk result (StandsAt name.now documents.now.entries) }
     ensures refused { IfErr result (λ r. (ops : Doc) (if_rev : Option ℕ)

@@ -1,17 +1,17 @@
-//! Why a call is refused.
+//! The refusal of a call.
 use doc_patch::PatchFault;
 use doc_schema::SchemaFault;
 use refusals::numbers::{MEMORY, REVISION};
 use std::alloc::{AllocError, AllocFailed};
 
-/// Why a call is refused.
+/// The refusal of a call.
 #[derive(Clone, Copy, Debug, PartialEq, Eq)]
 pub struct Refusal {
     /// One of `numbers`.
     pub number: u16,
     /// The operation of a patch at fault, counted from 0.
     pub op: Option<u64>,
-    /// The document's revision, where a patch asks for another.
+    /// The document's revision, if a patch asks for another.
     pub rev: Option<u64>,
     /// The change of a transaction that was refused, counted from 0.
     pub change: Option<u64>,

@@ -1,4 +1,4 @@
-//! What is kept of a document.
+//! A document as a store keeps it.
 use doc_patch::Document;
 use doc_schema::Schema;
 

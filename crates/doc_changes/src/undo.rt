@@ -1,9 +1,9 @@
-//! What takes a change back that was made in memory.
+//! The data that takes a change back that was made in memory.
 use crate::stored::Stored;
 use doc_patch::Reversal;
 use doc_schema::Schema;
 
-/// What takes a change back: what it replaced, and where that stood.
+/// The data that takes a change back: what it replaced, and its place.
 #[derive(Drop)]
 pub enum Undo {
     /// The last document is new.
@@ -20,7 +20,7 @@ pub enum Undo {
         rules: Schema,
         revision: u64,
     },
-    /// This stood at that place.
+    /// This document was at that place.
     Removed {
         index: usize,
         name: String,

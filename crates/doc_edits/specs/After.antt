@@ -1,4 +1,4 @@
--- What an operation leaves.
+-- The knowledge that an operation leaves.
 use Rattle.std.specs.Prelude.{◌≡◌, ℕ, Result, Ok, MatchResult}
 use Rattle.std.specs.Option.{ForSome}
 use Rattle.doc_tree.specs.Doc.{Doc}

@@ -1,4 +1,4 @@
--- What a `Change` does at the last token of its place.
+-- The effect of a `Change` at the last token of its place.
 use Rattle.std.specs.Prelude.{◌≡◌, List, [], ◌∷◌, map, String, string_bytes, Option, option_map, option_and_then, ⊤}
 use Rattle.std.specs.declared.alloc.Global.{Global}
 use Rattle.doc_tree.specs.Doc.{Doc, Members, Elements}
@@ -36,13 +36,13 @@ abbrev pub value_at : Token → Tokens → Doc → Option Doc
 value_at t [] d = child_named t d
 value_at t (u ∷ us) d = option_and_then (value_at u us) (child_named t d)
 
--- what a removal took is the value that stood at the place
+-- what a removal took is the value that was at the place
 abbrev pub Takes : Change → Token → Tokens → Doc → Option Tree → Type 0
 Takes (Add v) t ts d old = ⊤
 Takes Remove t ts d old = option_map view old ≡ value_at t ts d
 Takes (Replace v) t ts d old = ⊤
 
--- a change that takes no memory fails only where its place isn't there
+-- a change that takes no memory fails only if its place isn't there
 abbrev pub Fails : Change → OperationFault → Type 0
 Fails (Add v) fault = ⊤
 Fails Remove fault = fault.number ≡ PATCH_MISSING

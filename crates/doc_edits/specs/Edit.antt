@@ -21,7 +21,7 @@ abbrev pub elements_len : Elements → ℕ
 elements_len no_elements = 0
 elements_len (element d ds) = suc (elements_len ds)
 
--- the first of so many numbers from n on whose decimal text is the token, as how far it is from n
+-- the first of `count` numbers from n on whose decimal text is the token, as how far it is from n
 abbrev pub number_named : ℕ → ℕ → Token → Option ℕ
 number_named n zero t = None
 number_named n (suc count) t = if bytes_eq (decimal n) t then Some 0 else option_map (λ i. suc i) (number_named (suc n) count t)
@@ -42,7 +42,7 @@ ends_in_dash (t ∷ u ∷ us) = ends_in_dash (u ∷ us)
 
 -- ---- elements and members
 
--- the first i elements, v, and the others; none where there are fewer than i
+-- the first i elements, v, and the others; none if there are fewer than i
 abbrev pub insert_element : ℕ → Doc → Elements → Option Elements
 insert_element zero v ds = Some (element v ds)
 insert_element (suc i) v no_elements = None
@@ -53,7 +53,7 @@ abbrev pub append_element : Doc → Elements → Elements
 append_element v no_elements = element v no_elements
 append_element v (element d ds) = element d (append_element v ds)
 
--- the first i elements, and those after the next; none where there is no next
+-- the first i elements, and those after the next; none if there is no next
 abbrev pub remove_element : ℕ → Elements → Option Elements
 remove_element i no_elements = None
 remove_element zero (element d ds) = Some ds
@@ -118,19 +118,19 @@ add_member v t ms = Some (put_or_set (get_member t ms) v t ms)
 abbrev pub add_item : Doc → Token → Elements → Option Elements
 add_item v t ds = if bytes_eq t dash then Some (append_element v ds) else option_and_then (λ i. insert_element i v ds) (index_below (suc (elements_len ds)) t)
 
--- the member of that name goes; none where there is no such member (section 4.2)
+-- the member of that name goes; none if there is no such member (section 4.2)
 abbrev pub remove_member : Token → Members → Option Members
 remove_member t ms = option_map (λ _. cut t ms) (get_member t ms)
 
--- the element at the index goes; none where there is no such element (section 4.2)
+-- the element at the index goes; none if there is no such element (section 4.2)
 abbrev pub remove_item : Token → Elements → Option Elements
 remove_item t ds = option_and_then (λ i. remove_element i ds) (index_below (elements_len ds) t)
 
--- v stands for the value of the member of that name; none where there is no such member (section 4.3)
+-- v replaces the value of the member of that name; none if there is no such member (section 4.3)
 abbrev pub replace_member : Doc → Token → Members → Option Members
 replace_member v t ms = option_map (λ _. set_member t v ms) (get_member t ms)
 
--- v stands for the element at the index; none where there is no such element (section 4.3)
+-- v replaces the element at the index; none if there is no such element (section 4.3)
 abbrev pub replace_item : Doc → Token → Elements → Option Elements
 replace_item v t ds = option_map (λ i. set_element i v ds) (index_below (elements_len ds) t)
 
@@ -148,17 +148,17 @@ replace_here v t d = in_holder (replace_member v t) (replace_item v t) d
 
 -- ---- the changes
 
--- the document with v added at the place; none where the place can't be (section 4.1)
+-- the document with v added at the place; none if the place can't be (section 4.1)
 abbrev pub add : Tokens → Doc → Doc → Option Doc
 add [] v d = Some v
 add (t ∷ ts) v d = at_last (add_here v) t ts d
 
--- the document without what is at the place; none where nothing is, and none is left without its root (section 4.2)
+-- the document without what is at the place; none if nothing is, and none for the root (section 4.2)
 abbrev pub remove : Tokens → Doc → Option Doc
 remove [] d = None
 remove (t ∷ ts) d = at_last remove_here t ts d
 
--- the document with v in place of what is at the place; none where nothing is (section 4.3)
+-- the document with v in place of what is at the place; none if nothing is (section 4.3)
 abbrev pub replace : Tokens → Doc → Doc → Option Doc
 replace [] v d = Some v
 replace (t ∷ ts) v d = at_last (replace_here v) t ts d

@@ -1,4 +1,4 @@
--- What is kept of a document before an operation changes it, and takes the operation back.
+-- The part of a document that is kept before an operation changes it, and takes the operation back.
 use Rattle.std.specs.Prelude.{◌≡◌, ℕ, [], ◌∷◌, Bool, true, false, if◌then◌else◌, Option, Some, None, option_and_then}
 use Rattle.std.specs.Str.{bytes_eq}
 use Rattle.doc_tree.specs.Doc.{Doc, list, object, get_member}
@@ -11,7 +11,7 @@ use Rattle.doc_edits.specs.declared.back.Back.{Back}
 use Rattle.doc_edits.specs.declared.keeping.Met.{Met}
 use Rattle.doc_edits.specs.declared.keeping.Met.TheVariants as met
 
--- what an addition meets: a member that it replaces, a place where nothing stands, or the end of so many elements
+-- what an addition meets: a member that it replaces, a free place, or the end of a number of elements
 pub data Meeting : Type 0 where
   over : Doc → Meeting
   free : Meeting
@@ -44,7 +44,7 @@ abbrev pub with_last : Token → Token → Tokens → Tokens
 with_last k t [] = k ∷ []
 with_last k t (u ∷ us) = t ∷ with_last k u us
 
--- it takes e back to d; where nothing is kept, e is d
+-- the step takes e back to d; if nothing is kept, e is d
 abbrev pub TakesBack : Option Back → Doc → Doc → Type 0
 TakesBack None d e = e ≡ d
 TakesBack (Some b) d e = step_back (step_of b) e ≡ Some d

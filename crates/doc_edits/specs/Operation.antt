@@ -1,4 +1,4 @@
--- What an operation makes of a document (RFC 6902, section 4).
+-- The document that an operation makes of another (RFC 6902, section 4).
 use Rattle.std.specs.Prelude.{ℕ, [], ◌∷◌, Option, Some, None, Result, Ok, Err, if◌then◌else◌}
 use Rattle.std.specs.Cmp.Lexicographic.{pointwise}
 use Rattle.std.specs.Str.{bytes_eq}
@@ -31,7 +31,7 @@ abbrev pub and_then : Result Doc ℕ → (Doc → Result Doc ℕ) → Result Doc
 and_then (Err n) f = Err n
 and_then (Ok d) f = f d
 
--- the value v, which stands at `from`, is taken away and then added at `path`, if that is another place (section 4.4)
+-- the value v, which is at `from`, is taken away and then added at `path`, if that is another place (section 4.4)
 abbrev pub moved : Tokens → Tokens → Doc → Doc → Result Doc ℕ
 moved from path d v = if pointwise bytes_eq from path then Ok d else and_then (or_missing (edit.remove from d)) (λ e. or_missing (edit.add path v e))
 

@@ -1,4 +1,4 @@
--- Which refusal of one operation a call answers.
+-- The refusal that a call answers for one operation.
 use Rattle.std.specs.Prelude.{◌≡◌, ◌⊎◌, ℕ, Option, None, Result, Err}
 use Rattle.doc_edits.specs.declared.fault.OperationFault.{OperationFault}
 use Rattle.refusals.specs.declared.numbers.TheConstants.{PATCH_MISSING, MEMORY}

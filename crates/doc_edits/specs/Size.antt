@@ -1,4 +1,4 @@
--- The length of a document's text, and the comma that stands beside a child where there are others.
+-- The length of a document's text, and the comma beside a child if there are others.
 use Rattle.std.specs.Prelude.{ℕ, length}
 use Rattle.doc_tree.specs.Doc.{Doc, Elements, no_elements, element, Members, no_members, member}
 use Rattle.doc_tree.specs.Text.{text_of}

@@ -1,4 +1,4 @@
--- How a document's height and the length of its text change.
+-- The growth of a document: how its height and the length of its text change.
 use Rattle.std.specs.Prelude.{◌≡◌, ℕ, ◌+◌, ◌<◌, ◌≤◌, max, min, Option, Some, None, MatchOption, Result, Ok, MatchResult}
 use Rattle.std.specs.Option.{ForSome}
 use Rattle.doc_tree.specs.Doc.{Doc, height}
@@ -35,7 +35,7 @@ capped_height v = min (height v) 0xffff_ffff_ffff_ffff
 abbrev pub IsOf : KnownSize → Doc → Type 0
 IsOf x v = ForSome x.height (λ h. h ≡ capped_height v) × ForSome x.len (λ n. n ≡ size v)
 
--- what is known is so of whatever stands at the place
+-- what is known holds of whatever value is at the place
 abbrev pub IsKnown : KnownPlace → Doc → Type 0
 IsKnown k d = (v : Doc) → resolve (tokens_of k.path.now) d ≡ Some v → IsOf k.extent v
 
@@ -45,7 +45,7 @@ IsWeightOf w v = (w.height ≡ capped_height v) × IsBytes w.len (size v)
 
 -- ---- one change, from a text of m bytes to one of n
 
--- the bytes of the text of what went, 0 where nothing did
+-- the bytes of the text of what went, 0 if nothing did
 abbrev pub old_size : Option Tree → ℕ
 old_size None = 0
 old_size (Some t) = size (view t)
@@ -63,13 +63,14 @@ Grows (Replace v) made m n = (n + old_size made.old ≡ m + size (view v)) × (o
 abbrev pub IsGrown : SizeChange → ℕ → ℕ → Type 0
 IsGrown g m n = (g.lost ≤ m) × MatchOption g.gained (DOCUMENT_BYTES < n) (λ more. n + g.lost ≡ m + more)
 
--- from d, at most so high, to e: how high e is is told by how deep what came reaches, and the length of its text by the bytes that came and went
+-- from d, at most `most` high, to e: the height of e is given by how deep what came reaches, and the length of its text
+-- by the bytes that came and went
 pub record Grew (most : ℕ) (g : SizeChange) (d e : Doc) : Type 0 where
   pub deep : height d ≤ DOCUMENT_HEIGHT → DOCUMENT_HEIGHT < g.reach → DOCUMENT_HEIGHT < height e
   pub high : height d ≤ most → g.reach ≤ DOCUMENT_HEIGHT → height e ≤ max most g.reach
   pub longer : size d ≤ DOCUMENT_BYTES → IsGrown g (size d) (size e)
 
--- the value v was put at a place: so many bytes came beside it, and so many went with what stood there
+-- the value v was put at a place: `beside` bytes came beside it, and `old` went with the value that was there
 pub record IsPlaced (p : Placed) (v d e : Doc) : Type 0 where
   pub beside : ℕ
   pub old : ℕ
@@ -94,7 +95,7 @@ pub record IsMeasured (m : DocumentSize) (d : Doc) : Type 0 where
 abbrev pub Measures : Result Doc ℕ → Doc → Result DocumentSize OperationFault → Type 0
 Measures made d result = MatchResult result (λ m. (made ≡ Ok d) × IsMeasured m d) (IsOperationFaultOf made)
 
--- what `e` is, where it grew so from a document of that measure
+-- the limits of `e`, if it grew in this way from a document of that measure
 pub record IsGrownFrom (m : DocumentSize) (g : SizeChange) (e : Doc) : Type 0 where
   pub short : m.len ≤ DOCUMENT_BYTES
   pub low : m.most ≤ DOCUMENT_HEIGHT

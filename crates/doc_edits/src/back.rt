@@ -1,4 +1,4 @@
-//! What takes one operation back.
+//! The step that takes one operation back.
 
 ghost use Rattle.std.specs.Prelude.{◌≡◌, Some, is_some, true};
 ghost use Rattle.doc_edits.specs.Back.{step_back, step_of};
@@ -14,9 +14,9 @@ use std::mem;
 /// Takes one operation back.
 #[derive(Drop)]
 pub enum Back {
-    /// What stands at the place goes.
+    /// The value at the place goes.
     TakeOut { path: Vec<String> },
-    /// The value replaces what stands at the place.
+    /// The value replaces the one at the place.
     PutBack { path: Vec<String>, value: Tree },
 }
 
@@ -31,7 +31,7 @@ pub fn take_step_back(alloc: Global, tree: &mut Tree, step: Back)
     }
 }
 
-// Removes what stands at the place, which is not the root.
+// Removes the value at the place, which is not the root.
 fn take_out(alloc: Global, tree: &mut Tree, path: &[String])
     requires { is_some (edit.remove (tokens_of path.now) (view tree.old)) ≡ true }
     ensures { edit.remove (tokens_of path.now) (view tree.old) ≡ Some (view tree.new) }
@@ -41,7 +41,7 @@ fn take_out(alloc: Global, tree: &mut Tree, path: &[String])
     }
 }
 
-// Replaces what stands at the place.
+// Replaces the value at the place.
 fn put_back(alloc: Global, tree: &mut Tree, path: &[String], value: Tree)
     requires { is_some (edit.replace (tokens_of path.now) (view value) (view tree.old)) ≡ true }
     ensures { edit.replace (tokens_of path.now) (view value) (view tree.old) ≡ Some (view tree.new) }

@@ -19,25 +19,25 @@ use std::alloc::Global;
 pub enum Change {
     /// The value is added (RFC 6902, section 4.1).
     Add(Tree),
-    /// What stands there goes (section 4.2).
+    /// The value there goes (section 4.2).
     Remove,
-    /// The value replaces what stands there (section 4.3).
+    /// The value replaces the one there (section 4.3).
     Replace(Tree),
 }
 
 /// What a change took from the document, and what came or went beside its value.
 #[derive(Drop)]
 pub struct Made {
-    /// The value that stood at the place and no longer does.
+    /// The value that was at the place and no longer does.
     pub old: Option<Tree>,
-    /// The bytes that came or went beside the value: a member's name with its colon, and a comma.
-    /// `None` where they are more than a document may have.
+    /// The bytes that came or went beside the value: a member's name with its colon, and a comma. `None` if they are
+    /// more than a document may have.
     pub beside: Option<u64>,
 }
 
 /// Makes the change at the place that the token and those after it lead to.
 ///
-/// `PATCH_MISSING` where the place isn't there, and `MEMORY` where an addition got none; then the document is as it was. A
+/// `PATCH_MISSING` if the place isn't there, and `MEMORY` if an addition got none; then the document is as it was. A
 /// removal and a replacement take no memory.
 pub fn change_at(
     alloc: Global,

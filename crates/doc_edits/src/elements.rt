@@ -78,7 +78,7 @@ pub fn replace(items: &mut Vec<Tree>, token: &str, value: Tree) -> Result<Made, 
     })
 }
 
-// The byte of the comma that stands beside a further element.
+// The byte of the comma beside a further element.
 fn comma_beside(items: &Vec<Tree>) -> u64
     ensures { result ≡ sizes.comma_beside (elements_view items.now.items) }
 {

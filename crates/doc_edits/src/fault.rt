@@ -1,4 +1,4 @@
-//! Why an edit is refused.
+//! The refusal of an edit.
 
 use refusals::numbers::{MEMORY, PATCH_MISSING};
 use std::alloc::{AllocError, AllocFailed};

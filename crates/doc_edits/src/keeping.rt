@@ -1,4 +1,4 @@
-//! What is kept of a document before an operation changes it in place.
+//! The part of a document that is kept before an operation changes it in place.
 
 ghost use Rattle.std.specs.Prelude.{◌≡◌, ◌<◌, ◌^◌, Ok, Some, IfOk, decimal, option_map};
 ghost use Rattle.doc_edits.specs.Change.{tokens_of};
@@ -22,11 +22,11 @@ pub enum Met<'t> {
     Value(&'t Tree),
     /// Nothing that it replaces.
     Nothing,
-    /// The end of an array with so many elements, named by `-`.
+    /// The end of an array with this number of elements, named by `-`.
     End(u64),
 }
 
-/// What takes the operation back, if it is made. `None` where it changes nothing, or can't be made.
+/// What takes the operation back, if it is made. `None` if it changes nothing, or can't be made.
 pub fn back_of(
     alloc: Global,
     tree: &Tree,

@@ -1,4 +1,4 @@
-//! How long and how high documents may be.
+//! The limits of a document: its height, and the length of its text.
 
 ghost use Rattle.std.specs.Option.{ForSome};
 ghost use Rattle.doc_edits.specs.SizeChange.{IsGrownFrom, Measures};
@@ -16,9 +16,9 @@ pub const DOCUMENT_BYTES: u64 = 1_048_576;
 /// How deep arrays and objects of a document nest at most, after each operation.
 pub const DOCUMENT_HEIGHT: u64 = 64;
 
-/// The document's measure, if it is within the limits; else `DEPTH` where it is too high, and `TOO_LARGE` where its text
-/// is too long. `before` is the one before the last operation, where the document was within the limits then, and
-/// `growth` what came and went with it; only where `before` is unknown the document is walked over.
+/// The document's measure, if it is within the limits; else `DEPTH` if it is too high, and `TOO_LARGE` if its text is
+/// too long. `before` is the measure before the last operation, if the document was within the limits then, and
+/// `growth` is what came and went with it. The document is walked over only if `before` is unknown.
 pub fn check_limits(
     tree: &Tree,
     before: Option<DocumentSize>,

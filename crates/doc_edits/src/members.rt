@@ -92,7 +92,7 @@ pub fn replace(
     }
 }
 
-// The bytes of the name and its colon, and of a comma where there are other members.
+// The bytes of the name and its colon, and of a comma if there are other members.
 fn bytes_beside(name: &str, has_others: bool) -> Option<u64>
     ensures { IsBytes result (length (quoted name.now) + 1 + (if has_others then 1 else 0)) }
 {

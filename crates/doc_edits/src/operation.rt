@@ -54,7 +54,7 @@ pub struct Done<'a> {
 }
 
 impl<'a> Done<'a> {
-    // Nothing is known of what stands anywhere.
+    // Nothing is known of the value at any place.
     fn of(growth: SizeChange) -> Done<'a>
         ensures { result ≡ record { growth = growth; known = None } }
     {
@@ -66,9 +66,9 @@ impl<'a> Done<'a> {
 }
 
 impl Operation {
-    /// Makes of the document what the operation says, in place, and answers its measure. `before` is
-    /// the measure before, or `None` where the document may be over the limits; `known` is what the operation before
-    /// left. After a refusal nothing is said of the document.
+    /// Makes of the document what the operation says, in place, and answers its measure. `before` is the measure
+    /// before, or `None` if the document may be over the limits; `known` is what the operation before left. After a
+    /// refusal the document's contents are not stated.
     pub fn apply<'a>(
         &'a self,
         alloc: Global,
@@ -141,7 +141,7 @@ fn add(
     place::add(alloc, tree, path.tokens(), value.copy(alloc)?, weight)
 }
 
-// Takes away what stands at the place, which is not the root.
+// Takes away the value at the place, which is not the root.
 fn remove(
     alloc: Global,
     tree: &mut Tree,

@@ -22,10 +22,10 @@ use std::mem;
 /// What came and went beside a value that was put at a place.
 #[derive(Drop)]
 pub struct Placed {
-    /// The bytes that came beside it: a member's name with its colon, and a comma. `None` where they
-    /// are more than a document may have.
+    /// The bytes that came beside it: a member's name with its colon, and a comma. `None` if they are more than a
+    /// document may have.
     pub beside: Option<u64>,
-    /// The bytes of the value that stood there.
+    /// The bytes of the value that was there.
     pub lost: u64,
 }
 
@@ -40,7 +40,7 @@ pub struct Taken {
 
 /// Adds the value, of that weight, at the place (RFC 6902, section 4.1).
 ///
-/// `PATCH_MISSING` where the place can't be, and `MEMORY` where there was none; then the document is as it was.
+/// `PATCH_MISSING` if the place can't be, and `MEMORY` if there was none; then the document is as it was.
 pub fn add(
     alloc: Global,
     tree: &mut Tree,
@@ -93,7 +93,7 @@ pub fn insert(
 
 /// Takes the value at the place away (RFC 6902, section 4.2), without a look at it.
 ///
-/// `PATCH_MISSING` where nothing is there, and for the root; then the document is as it was.
+/// `PATCH_MISSING` if nothing is there, and for the root; then the document is as it was.
 pub fn remove(alloc: Global, tree: &mut Tree, path: &[String]) -> Result<Taken, OperationFault>
     ensures made { let made = edit.remove (tokens_of path.now) (view tree.old) in
         MatchResult result (λ _. made ≡ Some (view tree.new)) (IsMissing made) }
@@ -121,7 +121,7 @@ pub fn remove(alloc: Global, tree: &mut Tree, path: &[String]) -> Result<Taken, 
 
 /// Replaces the value at the place (RFC 6902, section 4.3), and measures the new one.
 ///
-/// `PATCH_MISSING` where nothing is there; then the document is as it was.
+/// `PATCH_MISSING` if nothing is there; then the document is as it was.
 pub fn replace(
     alloc: Global,
     tree: &mut Tree,

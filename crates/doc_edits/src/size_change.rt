@@ -1,4 +1,4 @@
-//! How an operation alters a document's height and the length of its text, known without a walk
+//! The growth of a document by an operation: how its height and the length of its text change, known without a walk
 //! over the document.
 
 ghost use Rattle.std.specs.Prelude.{◌≡◌, ◌+◌, ◌<◌, ◌≤◌, ℕ, Some, None, max};
@@ -19,11 +19,11 @@ use doc_tree::Tree;
 pub struct DocumentSize {
     /// The bytes of its compact text.
     pub len: u64,
-    /// Its arrays and objects nest at most so deep.
+    /// The greatest depth to which its arrays and objects may nest.
     pub most: u64,
 }
 
-/// How high a value is and how long its text, each where that is known.
+/// The height of a value and the length of its text, each if that is known.
 #[derive(Clone, Copy, Drop)]
 pub struct KnownSize {
     /// How deep its arrays and objects nest.
@@ -47,27 +47,27 @@ pub struct KnownPlace<'a> {
 pub struct ValueSize {
     /// How deep its arrays and objects nest.
     pub height: u64,
-    /// The bytes of its compact text, or `None` where they are more than `DOCUMENT_BYTES`.
+    /// The bytes of its compact text, or `None` if they are more than `DOCUMENT_BYTES`.
     pub len: Option<u64>,
 }
 
 /// How deep a moved value nests at its new place, and what is known of it then.
 #[derive(Clone, Copy, Drop)]
 pub struct MovedHeight {
-    /// How deep arrays and objects nest at most from the root down through the value; 0 where that is no deeper than
+    /// How deep arrays and objects nest at most from the root down through the value; 0 if that is no deeper than
     /// before.
     pub reach: u64,
-    /// How deep those of the value nest, where that is known.
+    /// How deep those of the value nest, if that is known.
     pub height: Option<u64>,
 }
 
 /// What came with an operation, and what went.
 #[derive(Clone, Copy, Drop)]
 pub struct SizeChange {
-    /// How deep arrays and objects nest at most from the root down through what came; 0 where
-    /// nothing did. It is over the limit only where they do nest so deep.
+    /// How deep arrays and objects nest at most from the root down through what came; 0 if nothing did. It is over the
+    /// limit only if they do nest that deep.
     pub reach: u64,
-    /// The bytes that came, or `None` where they alone are more than `DOCUMENT_BYTES`.
+    /// The bytes that came, or `None` if they alone are more than `DOCUMENT_BYTES`.
     pub gained: Option<u64>,
     /// The bytes that went.
     pub lost: u64,
@@ -86,7 +86,7 @@ impl KnownSize {
 }
 
 impl SizeChange {
-    /// Nothing came, and so many bytes went.
+    /// Nothing came, and `lost` bytes went.
     pub fn loss(lost: u64) -> SizeChange
         ensures { result ≡ record { reach = 0; gained = Some 0; lost = lost } }
     {
@@ -105,7 +105,7 @@ pub fn both(a: Option<u64>, b: Option<u64>) -> Option<u64>
     a?.checked_add(b?)
 }
 
-/// What is known of the value at the place, if that is where the last operation put one.
+/// What is known of the value at the place, if the last operation put one there.
 pub fn extent_at(known: Option<KnownPlace>, place: &[String]) -> KnownSize
     ensures { (d v : Doc) → ForSome known.entry (λ k. IsKnown k d) → resolve (tokens_of place.now) d ≡ Some v → IsOf result v }
 {
@@ -158,9 +158,9 @@ pub fn old_len(old: &Option<Tree>) -> u64
     }
 }
 
-/// How deep a value that is moved nests at its new place, from the lengths of both places and a bound of
-/// the document's height: 0 where it gets no deeper than it was. The value is looked at only where its height isn't
-/// known and the document may pass its limit.
+/// How deep a value that is moved nests at its new place, from the lengths of both places and a bound of the document's
+/// height: 0 if it gets no deeper than it was. The value is looked at only if its height isn't known and the document
+/// may pass its limit.
 pub fn reach_of_move(
     value: &Tree,
     known: Option<u64>,

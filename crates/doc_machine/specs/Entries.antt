@@ -26,7 +26,8 @@ abbrev pub AreTaken : State → List Entry → Type 0
 AreTaken s [] = ⊤
 AreTaken s (e ∷ es) = Takes s e × AreTaken (with_entry s e) es
 
--- From old, an entry was answered so and led to new: it was taken, or refused, or memory was, and after these two nothing changed.
+-- From old, an entry was answered in this way and led to new: it was taken, or refused, or memory was, and after these
+-- two nothing changed.
 abbrev pub Taken : {A : Type 0} → State → Entry → Result A Refusal → State → Type 0
 Taken old e (Ok a) new = Takes old e × (new ≡ with_entry old e)
 Taken old e (Err r) new = RefusesIn old.documents e.change r × (new ≡ old)

@@ -1,4 +1,4 @@
--- How the fields of a machine are seen.
+-- The view of a machine's fields.
 use Rattle.doc_changes.specs.State.{State}
 use Rattle.doc_changes.specs.StateView.{kept_state}
 use Rattle.doc_machine.specs.declared.machine.Machine.TheInside.{Inside}

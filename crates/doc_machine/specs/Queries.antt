@@ -1,4 +1,4 @@
--- What queries answer.
+-- The answers to queries.
 use Rattle.std.specs.Prelude.{ℕ, List, if◌then◌else◌, Result, Ok, Err}
 use Rattle.doc_tree.specs.Doc.{Doc}
 use Rattle.path_grammar.specs.Syntax.{Segments}
@@ -11,7 +11,8 @@ use Rattle.doc_changes.specs.declared.refusal.Refusal.{Refusal}
 use Rattle.doc_changes.specs.Reading.{document_at, in_document}
 use Rattle.doc_changes.specs.State.{State}
 
--- what the query selects from a value: each node with its location and its value; refused where a list of its evaluation has too many nodes (RFC 9535, section 2.1.2)
+-- what the query selects from a value: each node with its location and its value; refused if a list of its evaluation
+-- has too many nodes (RFC 9535, section 2.1.2)
 abbrev pub nodes_in : Segments → Doc → Result (List Located) Refusal
 nodes_in q d = if too_many d q (only_node d) then Err (plain PATH_NODES) else Ok (nodelist d q (only_node d))
 

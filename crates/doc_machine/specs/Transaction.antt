@@ -75,7 +75,7 @@ abbrev pub changes_of : Transaction → List Change
 changes_of (single c) = c ∷ []
 changes_of (several cs) = cs
 
--- a transaction, without where it lies in memory
+-- a transaction, without its place in memory
 abbrev pub transaction_of : Held → Transaction
 transaction_of (Single command) = single (change_of command)
 transaction_of (Several commands) = several (map change_of commands.items)
@@ -93,7 +93,8 @@ abbrev pub refused_or : ℕ → Option Refusal → Option Refusal → Option Ref
 refused_or place None later = later
 refused_or place (Some r) later = Some (refused_at place r)
 
--- Why changes are refused, where the first of them has that place, and those before it keep so many bytes: each is judged after those before it, first whether it and they keep too many, and then by itself. The first reason counts.
+-- Why changes are refused. The first of them has the place `place`, and those before it keep `kept` bytes. Each is
+-- judged after those before it, first whether it and they keep too many, and then by itself. The first reason counts.
 abbrev pub first_refused : ℕ → ℕ → State → List Change → Option Refusal
 first_refused place kept s [] = None
 first_refused place kept s (c ∷ cs) =
@@ -127,7 +128,8 @@ pub record IsTransacted (old : TrialView) (t : Transaction) (seq : ℕ) (new : T
 abbrev pub RefusesTransaction : State → Transaction → Refusal → Type 0
 RefusesTransaction s t r = (r ≡ plain MEMORY) ⊎ (refusal_in s t ≡ Some r)
 
--- From old, the first of these changes were made, and of the next one the transaction is refused so; or memory was refused to that one, and then those made and it don't keep too many bytes.
+-- From old, the first of these changes were made, and the transaction is refused for the next one; or memory was
+-- refused to that one, and then those made and it don't keep too many bytes.
 pub record StopsAt (old : TrialView) (cs : List Change) (r : Refusal) (new : TrialView) : Type 0 where
   pub made_first : List Change
   pub next : Change

@@ -1,4 +1,4 @@
--- What can be taken back, and the fields of a trial.
+-- The changes that can be taken back, and the fields of a trial.
 use Rattle.std.specs.Prelude.{◌-◌, ◌<◌, ◌≤◌, List, [], ◌∷◌, length, ⊤}
 use Rattle.indexmap.specs.IndexMap.{spare}
 use Rattle.doc_changes.specs.State.{State, Good}

@@ -1,8 +1,8 @@
 //! The documents in memory: each change is made whole, or refused and nothing changes.
 //!
 //! `Trial::transact` is the way of every change of a store. On a `Trial` transactions are judged and made one after
-//! another, each all or none (`specs/Transaction.antt`), so that a device can be written before they count. Then the
-//! oldest so many of them are kept, and the others taken back, which takes no memory. `Machine::take_for_good` and
+//! another, each all or none (`specs/Transaction.antt`), so that a device can be written before they count. Then some of
+//! them are kept, the oldest, and the others taken back, which takes no memory. `Machine::take_for_good` and
 //! `take_patch_for_good` take again what a journal holds. `Machine::step` makes one change with no trial.
 //!
 //! Each of these equals its definition exactly, with refusals and their order: what a change makes is defined in

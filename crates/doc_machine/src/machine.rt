@@ -61,7 +61,7 @@ impl Machine {
         }
     }
 
-    /// A machine with no documents after so many changes, which takes again what a journal of that seq holds.
+    /// A machine with no documents after `seq` changes, which takes again what a journal of that seq holds.
     pub fn at(alloc: Global, seq: u64) -> Machine
         ensures empty { result ≡ empty_at seq }
         ensures good { Good result }
@@ -95,14 +95,13 @@ impl Machine {
     /// Applies a change whole and answers the new number of accepted changes, or refuses it and
     /// nothing changes.
     ///
-    /// Of several reasons the first of these is answered, and `MEMORY` may come before any.
-    /// A creation: `NAME`, `EXISTS`, `TOO_MANY`, what reading the schema answers (`SCHEMA_SIZE`,
-    /// `SCHEMA_FORM`, `SCHEMA_KEYWORD`, `SCHEMA_REF`, `SCHEMA_LOOP`), `DEPTH`, `TOO_LARGE`, `INVALID`.
-    /// A patch: `NAME`, `NO_DOCUMENT`, `REVISION` where it asks for another revision than the document's
-    /// (the refusal tells the document's), what reading it and then applying it answers, with the
-    /// operation at fault (RFC 6902, sections 3 to 5), and `INVALID` for what the whole patch makes.
-    /// A schema: `NAME`, `NO_DOCUMENT`, what reading it answers, and `INVALID` for the document that
-    /// stands. A deletion: `NAME`, `NO_DOCUMENT`. Each of them: `SEQ_END` at last.
+    /// Of several reasons the first of these is answered, and `MEMORY` may come before any. A creation: `NAME`,
+    /// `EXISTS`, `TOO_MANY`, what reading the schema answers (`SCHEMA_SIZE`, `SCHEMA_FORM`, `SCHEMA_KEYWORD`,
+    /// `SCHEMA_REF`, `SCHEMA_LOOP`), `DEPTH`, `TOO_LARGE`, `INVALID`. A patch: `NAME`, `NO_DOCUMENT`, `REVISION` if it
+    /// asks for another revision than the document's (the refusal has the document's), what reading it and then
+    /// applying it answers, with the operation at fault (RFC 6902, sections 3 to 5), and `INVALID` for what the whole
+    /// patch makes. A schema: `NAME`, `NO_DOCUMENT`, what reading it answers, and `INVALID` for the document that it
+    /// has. A deletion: `NAME`, `NO_DOCUMENT`. Each of them: `SEQ_END` at last.
     pub fn step(&mut self, command: Command) -> Result<u64, Refusal>
         ensures step { Steps self.old (change_of command) result self.new }
         ensures good { Good self.new }
@@ -118,8 +117,8 @@ impl Machine {
         Ok(seq)
     }
 
-    /// Takes a change that a journal holds with that seq, which is to be at most the machine's: what it
-    /// changes gets the seq as its revision, and no change is counted.
+    /// Takes a change that a journal holds with that seq, which must be at most the machine's: what it changes gets the
+    /// seq as its revision, and no change is counted.
     ///
     /// Refuses as `step` does, but never as `SEQ_END`. A refusal changes nothing.
     pub fn take(&mut self, command: Command, seq: u64) -> Result<(), Refusal>
@@ -134,7 +133,8 @@ impl Machine {
         Ok(())
     }
 
-    /// The same for good, for who drops the machine where a change is refused: nothing is kept to take a change back.
+    /// The same for good, for a caller that drops the machine if a change is refused: nothing is kept to take a change
+    /// back.
     pub fn take_for_good(self, command: Command, seq: u64) -> Result<Machine, Refusal>
         requires { seq ≤ self.seq }
         ensures taken { MatchResult result (λ machine. Takes self (entry seq (change_of command)) × (machine ≡ with_entry self (entry seq (change_of command))))

@@ -1,4 +1,4 @@
-//! What is changed at once.
+//! A transaction: one change, or several that are made together.
 ghost use Rattle.std.specs.Prelude.{◌≡◌, IfOk, map};
 ghost use Rattle.record_text.specs.Change.{change_of};
 

@@ -1,4 +1,4 @@
--- The code of a document, by which a proof tells documents apart: each part goes into one tree of numbers.
+-- The code of a document, by which a proof distinguishes documents: each part goes into one tree of numbers.
 use Rattle.std.specs.Prelude.{◌≡◌, ℕ, List, refl}
 use Rattle.std.specs.Coded.{Coded, coded_ℕ, coded_ℤ, coded_bool, coded_list}
 use Rattle.std.proofs.Common.{ap}

@@ -1,4 +1,4 @@
--- Which refusal a call answers.
+-- The refusal that a call answers.
 use Rattle.std.specs.Prelude.{◌≡◌, ◌⊎◌, Result, Err, None}
 use Rattle.doc_patch.specs.declared.fault.PatchFault.{PatchFault}
 use Rattle.refusals.specs.declared.numbers.TheConstants.{MEMORY}

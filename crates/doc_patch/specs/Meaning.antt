@@ -1,4 +1,4 @@
--- The operations that a `Patch` holds, and what the spellings that are read stand for.
+-- The operations that a `Patch` holds, and those that the spellings which are read represent.
 use Rattle.std.specs.Prelude.{List, map}
 use Rattle.doc_tree.specs.TreeView.{view}
 use Rattle.doc_edits.specs.Meaning.{meaning}

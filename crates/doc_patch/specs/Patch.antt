@@ -1,4 +1,5 @@
--- What a patch makes of a document, or a refusal that names its operation, counted from 0 (RFC 6902, section 5).
+-- The document that a patch makes of another, or a refusal that names its operation, counted from 0 (RFC 6902, section
+-- 5).
 use Rattle.std.specs.Prelude.{ℕ, suc, List, [], ◌∷◌, Some, Result, Ok, Err}
 use Rattle.doc_tree.specs.Doc.{Doc}
 use Rattle.doc_edits.specs.Operation.{Operation, op}

@@ -18,13 +18,14 @@ pub record IsTextOfPatch (bytes : List ℕ) (os : List Operation) : Type 0 where
   pub sound : IsSound ops
   pub low : height ops ≤ 66
 
--- each of the elements spells the operation that stands at its index
+-- each of the elements spells the operation at its index
 abbrev pub Spell : Elements → List Operation → Type 0
 Spell no_elements [] = ⊤
 Spell (element d ds) (o ∷ os) = (operation_of d ≡ Ok o) × Spell ds os
 Spell _ _ = ⊥
 
--- the bytes are the text of elements that spell these operations, up to the closing bracket; `later` says that an element stands before
+-- the bytes are the text of elements that spell these operations, up to the closing bracket; `later` says whether an
+-- element comes before
 pub record IsTextOfOperations (later : Bool) (bytes : List ℕ) (os : List Operation) : Type 0 where
   pub ds : Elements
   pub text : bytes ≡ elements_text later ds
@@ -47,7 +48,7 @@ pub record BeginsWithPointer (bytes : List ℕ) (tokens : Tokens) (rest : List �
   pub read : pointer_of written ≡ Some tokens
   pub sound : IsUtf8 written
 
--- an operation's text from its beginning, where these bytes follow `{"from":`
+-- the text of an operation from its beginning, if these bytes follow `{"from":`
 abbrev pub before_from : List ℕ → List ℕ
 before_from rest = 123 ∷ (quoted (codes "from") ++ 58 ∷ rest)
 
@@ -57,7 +58,8 @@ pub record BeginsWithValue (bytes : List ℕ) (v : Doc) (rest : List ℕ) : Type
   pub sound : IsSound v
   pub low : height v ≤ 64
 
--- the bytes are what stands behind `"path":` in an operation with this pointer and this value, and what follows the operation
+-- the bytes are the text after `"path":` of an operation with this pointer and this value, and what follows the
+-- operation
 pub record BeginsWithPathAndValue (bytes : List ℕ) (tokens : Tokens) (v : Doc) (rest : List ℕ) : Type 0 where
   pub behind_path : List ℕ
   pub behind_value : List ℕ

@@ -1,4 +1,4 @@
--- Which places an operation leaves as they are, for the laws.
+-- The places that an operation leaves as they are, for the laws.
 use Rattle.std.specs.Prelude.{List, [], ◌∷◌, Bool, true, false, ◌&&◌, if◌then◌else◌}
 use Rattle.std.specs.Str.{bytes_eq}
 use Rattle.doc_edits.specs.Edit.{Tokens}

@@ -1,4 +1,4 @@
--- What takes operations back, one after another.
+-- The steps that take operations back, one after another.
 use Rattle.std.specs.Prelude.{List, [], ◌∷◌, map, Option, Some, option_and_then}
 use Rattle.doc_tree.specs.Doc.{Doc}
 use Rattle.doc_edits.specs.Back.{Step, step_back, step_of}

@@ -7,7 +7,7 @@ use Rattle.doc_edits.specs.Edit.{Tokens, with_child}
 use Rattle.doc_edits.specs.Operation.{Operation, add, remove, replace, move, copy, test}
 use Rattle.doc_patch.specs.Patch.{patch}
 
--- the second is the first with another value at the place, where both have one
+-- the second is the first with another value at the place, and both have a value there
 abbrev pub DiffersWithin : Tokens → Doc → Doc → Type 0
 DiffersWithin [] d e = ⊤
 DiffersWithin (t ∷ ts) d e = (c : Doc) × (new : Doc) × (child_named t d ≡ Some c) × (e ≡ with_child t new d) × DiffersWithin ts c new

@@ -23,7 +23,7 @@ use std::marker::Model;
 // The bytes of the text of null.
 const NULL_LEN: u64 = 4;
 
-/// A document within the limits. Clauses see it as what it stands for.
+/// A document within the limits. Clauses see it as the document that its tree represents.
 #[derive(Drop)]
 pub struct Document {
     tree: Tree,
@@ -53,7 +53,7 @@ impl Model for Document {
 }
 
 impl Document {
-    /// The document of that tree, by a walk over it, or the tree again, where it is over `limits`.
+    /// The document of that tree, by a walk over it, or the tree again, if it is over `limits`.
     pub fn new(tree: Tree) -> Result<Document, Tree>
         ensures { MatchResult result (λ d. d ≡ view tree) (λ _. IsWithin (view tree) → ⊥) }
     {

@@ -1,4 +1,4 @@
-//! What the definitions answer for small documents. Each function does nothing: its contract is the
+//! Examples: the answers of the definitions for small documents. Each function does nothing: its contract is the
 //! example.
 
 ghost use Rattle.std.specs.Prelude.{◌≡◌, [], ◌∷◌, Ok, Err, codes};

@@ -1,4 +1,4 @@
-//! Why a patch is refused.
+//! The refusal of a patch.
 
 ghost use Rattle.std.specs.Prelude.{◌≡◌, ◌≢◌, ◌⊎◌};
 ghost use Rattle.doc_patch.specs.Fault.{no_memory};
@@ -14,13 +14,13 @@ use std::alloc::{AllocError, AllocFailed};
 pub struct PatchFault {
     /// One of `numbers`.
     pub number: u16,
-    /// The operation that is refused, counted from 0. `None` where the patch as a whole is, and for
+    /// The operation that is refused, counted from 0. `None` if the patch as a whole is, and for
     /// `refusals::numbers::MEMORY`.
     pub op: Option<u64>,
 }
 
 impl PatchFault {
-    /// The refusal of the patch whose operation is refused so.
+    /// The refusal of the patch of which this operation is refused.
     pub(crate) fn of(refused: OperationFault, operation: u64) -> PatchFault
         ensures { ((refused.number ≢ MEMORY) × (result ≡ fault_at refused.number operation))
             ⊎ ((refused.number ≡ MEMORY) × (result ≡ no_memory)) }

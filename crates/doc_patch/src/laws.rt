@@ -1,4 +1,4 @@
-//! What follows from the definitions. Each function does nothing: its contract is the law.
+//! Laws of the definitions. Each function does nothing: its contract is the law.
 
 ghost use Rattle.std.specs.Prelude.{◌≡◌, Ok, true, List};
 ghost use Rattle.doc_edits.specs.Edit.{Tokens};

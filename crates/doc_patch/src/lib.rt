@@ -20,14 +20,14 @@
 //! - `copy`: a copy of the value at `from`, a walk over it unless the operation before put it there, and one over a
 //!   value that it replaces.
 //! - `move`: no copy. Its text's length is carried, and its height too. The value's containers are walked over only
-//!   where it goes deeper, the highest that the document may be by then is over the limit, and its height isn't known;
+//!   if it goes deeper, the highest that the document may be by then is over the limit, and its height isn't known;
 //!   what is found goes with it, so that the operation that takes it from there walks over nothing. A value that it
 //!   replaces goes, and is walked over.
 //! - `test`: a comparison up to the first difference.
-//! - in an array `add`, `remove` and `move` shift all elements behind the index, as a `Vec` does:
+//! - in an array `add`, `remove` and `move` shift all elements after the index, as a `Vec` does:
 //!   an insertion at the front of 500,000 elements moves some 16 MB.
-//! - where it can be taken back, what an operation replaces is copied first, to be put back. The first `remove` or
-//!   `move` of a patch copies the whole document: a `BTreeMap` may want memory to take a member again, which taking back
+//! - if it can be taken back, what an operation replaces is copied first, to be put back. The first `remove` or
+//!   `move` of a patch copies the whole document: a `BTreeMap` may need memory to take a member again, which taking back
 //!   can't ask for.
 #![tactic(auto)]
 

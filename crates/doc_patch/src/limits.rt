@@ -1,4 +1,5 @@
-//! How long and how high documents and patches may be. The limits of documents are those of `doc_edits`.
+//! The limits of documents and patches: how long and how high they may be. Those of documents are the limits of
+//! `doc_edits`.
 
 /// Bytes of a document's compact text at most, after each operation.
 pub const DOCUMENT_BYTES: u64 = doc_edits::limits::DOCUMENT_BYTES;

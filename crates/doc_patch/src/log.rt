@@ -21,7 +21,7 @@ use doc_edits::{
 use doc_tree::Tree;
 use std::alloc::{AllocError, Global};
 
-/// The steps that take back what was applied so far.
+/// The steps that take back what was applied until now.
 #[derive(Drop)]
 pub struct Log {
     pub steps: Vec<Back>,

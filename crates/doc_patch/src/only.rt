@@ -12,7 +12,7 @@ use crate::patch::Patch;
 use doc_edits::Operation;
 
 impl Patch {
-    /// The one operation that changes anything, where all others are tests. `None` where there are more, or none.
+    /// The one operation that changes anything, if all others are tests. `None` if there are more, or none.
     pub fn only_change(&self) -> Option<&Operation>
         ensures { IfSome result (λ o. (d e : Doc) → patch (operations self.now) d ≡ Ok e → change (meaning o.now) d ≡ Ok e) }
     {

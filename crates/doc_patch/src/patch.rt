@@ -28,10 +28,9 @@ impl Patch {
     /// What the operations make of the document, one after the other; the document itself never
     /// changes.
     ///
-    /// The first operation that is refused refuses the patch, and is named. Its number is
-    /// `PATCH_MISSING`, `PATCH_TEST` or `PATCH_ROOT` as the operation says, else `DEPTH`, else
-    /// `TOO_LARGE`, where it leaves the document over `limits`. `MEMORY` where there was none, and
-    /// then no operation is named.
+    /// The first operation that is refused refuses the patch, and is named. Its number is `PATCH_MISSING`, `PATCH_TEST`
+    /// or `PATCH_ROOT` as the operation says, else `DEPTH`, else `TOO_LARGE`, if it leaves the document over `limits`.
+    /// `MEMORY` if there was none, and then no operation is named.
     pub fn apply(&self, alloc: Global, tree: &Tree) -> Result<Tree, PatchFault>
         ensures made { let made = patch (operations self.now) (view tree.now) in
             MatchResult result (λ t. made ≡ Ok (view t)) (IsFaultOf made) }

@@ -1,5 +1,5 @@
-//! Patches that are read quickly: most texts hold no escape. Their operations are read where they stand, and what is
-//! read is compared with the text. `None` says nothing of a text.
+//! Patches that are read quickly: most texts hold no escape. Their operations are read in place, and what is read is
+//! compared with the text. `None` says nothing of a text.
 
 ghost use Rattle.std.specs.Prelude.{◌≡◌, ◌∷◌, ◌++◌, false, IfSome};
 ghost use Rattle.serde_json.specs.Written.{comma_if};
@@ -40,9 +40,9 @@ const VALUE_HEIGHT: u64 = 64;
 impl Patch {
     /// The patch whose compact text the bytes are, read with no tree of its operations.
     ///
-    /// `None` says nothing. It is answered where the bytes are no such text, or the patch is over a limit, and also where
-    /// it has an escape, the number -2^63, an operation with more members than are defined for it, or no operation, or
-    /// memory is refused.
+    /// `None` says nothing. It is answered if the bytes are no such text, or the patch is over a limit. It is also
+    /// answered if the text has an escape, the number -2^63, an operation with more members than are defined for it, or
+    /// no operation, and if memory is refused.
     pub fn read_unescaped(alloc: Global, bytes: &[u8]) -> Option<Patch>
         ensures { IfSome result (λ p. IsTextOfPatch bytes.now (operations p)) }
     {
@@ -57,7 +57,7 @@ impl Patch {
     }
 }
 
-// The operations behind the opening bracket, up to the closing one, which ends the text.
+// The operations after the opening bracket, up to the closing one, which ends the text.
 fn plain_operations(alloc: Global, bytes: &[u8]) -> Option<Vec<Operation>>
     ensures { IfSome result (λ v. IsTextOfOperations false bytes.now (meanings v.items)) }
 {
@@ -114,7 +114,7 @@ fn plain_operation(alloc: Global, bytes: &[u8]) -> Option<(Operation, &[u8])>
     }
 }
 
-// The operation whose members behind `"from":` the bytes begin with, and what follows it.
+// The operation whose members after `"from":` the bytes begin with, and what follows it.
 fn operation_with_from(alloc: Global, bytes: &[u8]) -> Option<(Operation, &[u8])>
     ensures { IfSome result (λ r. BeginsWithOperation (before_from bytes.now) (meaning r.0) r.1.now) }
 {
@@ -130,7 +130,7 @@ fn operation_with_from(alloc: Global, bytes: &[u8]) -> Option<(Operation, &[u8])
     }
 }
 
-// The members of an operation behind `"path":`, and what follows it.
+// The members of an operation after `"path":`, and what follows it.
 fn path_and_value(alloc: Global, bytes: &[u8]) -> Option<(Pointer, Tree, &[u8])>
     ensures { IfSome result (λ r. BeginsWithPathAndValue bytes.now r.0 (view r.1) r.2.now) }
 {

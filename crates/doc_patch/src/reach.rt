@@ -11,8 +11,9 @@ use crate::patch::Patch;
 use doc_edits::Operation;
 
 impl Patch {
-    /// The tokens of a place that holds all that the operations change: the longest that they have in common, where what
-    /// comes or goes changes the object or array that holds it. `None` where none changes anything. Takes no memory.
+    /// The tokens of a place that holds all that the operations change: the longest that they have in common. If a
+    /// value comes or goes, the operation changes the object or array that holds it. `None` if no operation changes
+    /// anything. Takes no memory.
     pub fn reach(&self) -> Option<&[String]>
         ensures some { IfSome result (λ place. holds_all (tokens_of place.now) (operations self.now) ≡ true) }
         ensures none { IfNone result (Unchanging (operations self.now)) }
@@ -25,7 +26,7 @@ impl Patch {
     }
 }
 
-// The place, if there is one, in so far as it holds what the operation reaches.
+// The place, if there is one, as far as it holds what the operation reaches.
 fn narrowed<'p>(found: Option<&'p [String]>, operation: &'p Operation) -> Option<&'p [String]>
     ensures { Narrows (option_map (λ p. tokens_of p.now) result) (option_map (λ p. tokens_of p.now) found.entry) (meaning operation.now) }
 {

@@ -1,4 +1,4 @@
-//! From a document to the patch that it spells.
+//! The reading of a patch from the document that spells it.
 
 ghost use Rattle.std.specs.Prelude.{◌≡◌, ◌⊎◌, Some, None, Ok, IfOk, MatchResult, false, length, nat_lt};
 ghost use Rattle.doc_edits.specs.Change.{tokens_of};
@@ -28,10 +28,9 @@ use std::alloc::Global;
 impl Patch {
     /// The operations that the document spells (RFC 6902, sections 3 and 4).
     ///
-    /// The refusals are, in this order: `PATCH_LONG` where it is over a limit, and `PATCH_SHAPE`
-    /// where it is no array, both without an operation; then the first operation that has a fault,
-    /// with its first of `PATCH_SHAPE`, `PATCH_POINTER` and `PATCH_INTO_ITSELF`. `MEMORY` where
-    /// there was none, and then no operation is named.
+    /// The refusals are, in this order: `PATCH_LONG` if it is over a limit, and `PATCH_SHAPE` if it is no array, both
+    /// without an operation; then the first operation that has a fault, with its first of `PATCH_SHAPE`,
+    /// `PATCH_POINTER` and `PATCH_INTO_ITSELF`. `MEMORY` if there was none, and then no operation is named.
     pub fn read(alloc: Global, tree: &Tree) -> Result<Patch, PatchFault>
         ensures read { let read = operations_of (view tree.now) in
             MatchResult result (λ p. read ≡ Ok (operations p)) (IsFaultOf read) }
@@ -68,7 +67,7 @@ fn is_over_limits(tree: &Tree) -> bool
     count(tree) > PATCH_OPERATIONS || is_text_too_long(tree) || is_too_high(tree)
 }
 
-// How many operations the patch has; none where it is no array.
+// How many operations the patch has; none if it is no array.
 fn count(tree: &Tree) -> usize
     ensures { result ≡ operation_count (view tree.now) }
 {

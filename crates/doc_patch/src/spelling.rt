@@ -19,7 +19,7 @@ pub enum Spelling<'t> {
     Test { path: &'t str, value: &'t Tree },
 }
 
-/// The members of the operation that the document is, or `None` where it has not the form of one.
+/// The members of the operation that the document is, or `None` if it doesn't have the form of one.
 pub fn spelling_of(tree: &Tree) -> Option<Spelling<'_>>
     ensures { option_map spelled result ≡ spelling (view tree.now) }
 {

@@ -1,4 +1,4 @@
-//! What takes a patch back that was applied in place.
+//! The steps that take a patch back that was applied in place.
 
 ghost use Rattle.std.specs.Prelude.{◌≡◌, Some, is_some, true};
 ghost use Rattle.doc_edits.specs.Change.{tokens_of};

@@ -1,4 +1,4 @@
--- When a text is refused, and with which number.
+-- The texts that are refused, and the number of the refusal.
 use Rattle.std.specs.Prelude.{◌≡◌, ◌≢◌, ◌⊎◌, ℕ, List}
 use Rattle.doc_pointer.specs.Text.{escaped, pointer_text}
 use Rattle.doc_pointer.specs.declared.fault.PointerFault.{PointerFault}
@@ -12,10 +12,10 @@ IsNoPointer text = (ks : List (List ℕ)) → pointer_text ks ≢ text
 abbrev pub IsFaultOf : List ℕ → PointerFault → Type 0
 IsFaultOf text fault = ((fault.number ≡ POINTER) × IsNoPointer text) ⊎ (fault.number ≡ MEMORY)
 
--- no token is written so
+-- no token is written in this way
 abbrev pub IsNoToken : List ℕ → Type 0
 IsNoToken text = (k : List ℕ) → escaped k ≢ text
 
--- no token is written so, or there was no memory
+-- no token is written in this way, or there was no memory
 abbrev pub IsTokenFaultOf : List ℕ → PointerFault → Type 0
 IsTokenFaultOf text fault = ((fault.number ≡ POINTER) × IsNoToken text) ⊎ (fault.number ≡ MEMORY)

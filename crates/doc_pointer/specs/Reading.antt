@@ -2,17 +2,17 @@
 use Rattle.std.specs.Prelude.{ℕ, List, [], ◌∷◌, ◌==◌, if◌then◌else◌, Option, Some, None, option_map, option_and_then}
 use Rattle.doc_pointer.specs.Text.{slash, tilde}
 
--- the digit 0, which after a `~` stands for a `~`
+-- the digit 0, which after a `~` represents a `~`
 abbrev pub zero_digit : ℕ
 zero_digit = 48
 
--- the digit 1, which after a `~` stands for a `/`
+-- the digit 1, which after a `~` represents a `/`
 abbrev pub one_digit : ℕ
 one_digit = 49
 
--- the token that is written so
+-- the token that a part writes
 abbrev mutual
-  -- of what stands outside of an escape
+  -- of the text outside of an escape
   pub unescaped : List ℕ → Option (List ℕ)
   unescaped [] = Some []
   unescaped (c ∷ cs) = if c == tilde then after_tilde cs else option_map (λ k. c ∷ k) (unescaped cs)
@@ -27,7 +27,7 @@ abbrev pub onto_first : ℕ → List (List ℕ) → List (List ℕ)
 onto_first c [] = []
 onto_first c (p ∷ ps) = (c ∷ p) ∷ ps
 
--- what stands between the slashes of a text, and before the first and after the last
+-- the parts of a text between its slashes, before the first and after the last
 abbrev pub parts : List ℕ → List (List ℕ)
 parts [] = [] ∷ []
 parts (c ∷ cs) = if c == slash then [] ∷ parts cs else onto_first c (parts cs)

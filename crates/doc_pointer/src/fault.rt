@@ -1,4 +1,4 @@
-//! Why a text is refused as a pointer.
+//! The refusal of a text that is no pointer.
 
 use refusals::numbers::MEMORY;
 use std::alloc::{AllocError, AllocFailed};

@@ -1,4 +1,4 @@
-//! What follows from the definitions. Each function does nothing: its contract is the law.
+//! Laws of the definitions. Each function does nothing: its contract is the law.
 
 ghost use Rattle.std.specs.Prelude.{◌≡◌, ◌↔◌, ℕ, List, ◌++◌, option_and_then, codes, Some, None};
 ghost use Rattle.doc_pointer.specs.Place.{child_named, resolve};
@@ -11,7 +11,7 @@ pub fn texts_differ()
     ensures { (ks ls : List (List ℕ)) → pointer_text ks ≡ pointer_text ls → ks ≡ ls }
 {}
 
-/// What `pointer_of` reads is what `pointer_text` writes, and where it reads nothing no list of tokens has the text.
+/// What `pointer_of` reads is what `pointer_text` writes. If it reads nothing, no list of tokens has the text.
 pub fn reads_what_is_written()
     ensures { (text : List ℕ) (ks : List (List ℕ)) → (pointer_of text ≡ Some ks) ↔ (pointer_text ks ≡ text) }
 {}

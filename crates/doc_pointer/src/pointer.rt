@@ -17,8 +17,8 @@ impl Model for Pointer {
 }
 
 impl Pointer {
-    /// The tokens from the root on, decoded: `~1` stands as `/` and `~0` as `~` (RFC 6901, section 4). The pointer to
-    /// the whole document has none. Takes no memory.
+    /// The tokens from the root on, decoded: `/` for `~1` and `~` for `~0` (RFC 6901, section 4). The pointer to the
+    /// whole document has none. Takes no memory.
     pub fn tokens(&self) -> &[String]
         ensures { map string_bytes result.now ≡ self.now }
     {

@@ -1,4 +1,4 @@
-//! From text to a pointer.
+//! The reading of a pointer from its text.
 
 ghost use Rattle.std.specs.Prelude.{◌≡◌, ℕ, List, string_bytes, IfOk, IfErr};
 ghost use Rattle.doc_pointer.specs.Fault.{IsFaultOf, IsTokenFaultOf};
@@ -14,7 +14,8 @@ use std::alloc::Global;
 impl Pointer {
     /// The pointer that the text writes (RFC 6901, section 3).
     ///
-    /// Answers `refusals::numbers::POINTER` where the text writes no pointer, and `refusals::numbers::MEMORY` where there was no memory.
+    /// Answers `refusals::numbers::POINTER` if the text writes no pointer, and `refusals::numbers::MEMORY` if there was
+    /// no memory.
     pub fn read(alloc: Global, text: &str) -> Result<Pointer, PointerFault>
         ensures ok { IfOk result (λ p. pointer_text p ≡ text.now) }
         // No other list of tokens has this text.
@@ -37,7 +38,7 @@ impl Pointer {
     }
 }
 
-// The token that is written so. One pass, so that a `~` or `/` which came from an escape begins none.
+// The token that a part writes. One pass, so that a `~` or `/` which came from an escape begins none.
 fn token_of(alloc: Global, part: &str) -> Result<String, PointerFault>
     requires { Lacks slash part.now }
     ensures ok { IfOk result (λ s. escaped (string_bytes s) ≡ part.now) }

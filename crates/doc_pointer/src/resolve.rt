@@ -9,8 +9,8 @@ use crate::pointer::Pointer;
 use doc_tree::Tree;
 
 impl Pointer {
-    /// The value in the tree that the tokens lead to (RFC 6901, section 4), or `None` where one of them names nothing.
-    /// `-` names the place after an array's last element, where there is no value. Takes no memory.
+    /// The value in the tree that the tokens lead to (RFC 6901, section 4), or `None` if one of them names nothing. `-`
+    /// names the place after an array's last element, which has no value. Takes no memory.
     pub fn resolve<'t>(&self, tree: &'t Tree) -> Option<&'t Tree>
         ensures { option_map (λ t. view t.now) result ≡ resolve self.now (view tree.now) }
     {
@@ -22,7 +22,7 @@ impl Pointer {
     }
 }
 
-/// The member or the element that one token names, or `None` where it names nothing. Takes no memory.
+/// The member or the element that one token names, or `None` if it names nothing. Takes no memory.
 pub fn child_at<'t>(tree: &'t Tree, token: &str) -> Option<&'t Tree>
     ensures { option_map (λ t. view t.now) result ≡ child_named token.now (view tree.now) }
 {

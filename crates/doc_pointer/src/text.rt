@@ -1,4 +1,4 @@
-//! From a pointer to its text.
+//! The text of a pointer.
 
 ghost use Rattle.std.specs.Prelude.{◌≡◌, ◌++◌, string_bytes, IfOk};
 ghost use Rattle.doc_pointer.specs.Text.{escaped, pointer_text};

@@ -1,4 +1,4 @@
--- For the clauses within the crate: what holds of a schema before loops are looked for.
+-- For the clauses within the crate: a schema before loops are looked for.
 use Rattle.doc_tree.specs.Doc.{Doc}
 use Rattle.doc_schema.specs.Defects.{HasDefect}
 use Rattle.doc_schema.specs.Faults.{IsTooLarge}

@@ -1,4 +1,4 @@
--- What can be wrong with a position by itself.
+-- The defects that a position may have by itself.
 use Rattle.std.specs.Prelude.{◌≡◌, List, [], ◌∷◌, Bool, true, false, not, ◌||◌}
 use Rattle.doc_tree.specs.Doc.{Doc, boolean, object, Members, no_members, member, Place}
 use Rattle.schema_graph.specs.Walks.{In}

@@ -1,4 +1,4 @@
--- Which number refuses a schema: the first of these that holds of it.
+-- The number that refuses a schema: that of the first of these faults that it has.
 use Rattle.std.specs.Prelude.{◌≡◌, ◌<◌, ◌⊎◌, ℕ, List, [], ◌∷◌, length, Bool, ◌||◌, nat_lt, nat_le, if◌then◌else◌, Option, Some, None}
 use Rattle.std.specs.List.{list_any}
 use Rattle.doc_tree.specs.Doc.{Doc, height}
@@ -31,7 +31,7 @@ pub record IsFaultless (s : Doc) : Type 0 where
 abbrev pub IsSchema : Tree → Type 0
 IsSchema t = IsFaultless (view t)
 
--- the number is that of the first fault, each told of the whole schema
+-- the number is that of the first fault that the whole schema has
 pub data IsFirstFault (s : Doc) (number : ℕ) : Type 0 where
   too_large : number ≡ SCHEMA_SIZE → IsTooLarge s → IsFirstFault s number
   malformed : number ≡ SCHEMA_FORM → (IsTooLarge s → ⊥) → HasDefect Form s → IsFirstFault s number

@@ -1,4 +1,4 @@
--- Whether an instance is valid under a schema, judged with a number of steps (JSON Schema Core, section 4.3; Validation).
+-- The judgement of an instance under a schema, with a number of steps (JSON Schema Core, section 4.3; Validation).
 use Rattle.std.specs.Prelude.{◌≡◌, ◌≤◌, ℕ, zero, suc, ◌+◌, ◌*◌, List, [], ◌∷◌, length, Bool, true, ◌&&◌, Option, Some, None, option_map, option_and_then}
 use Rattle.doc_tree.specs.Doc.{Doc, boolean, object, Members, no_members, member, height}
 use Rattle.schema_rules.specs.Keywords.{keyword_of}
@@ -6,11 +6,11 @@ use Rattle.schema_rules.specs.Rules.{Ask, asks, joins}
 use Rattle.schema_rules.specs.declared.keyword.Keyword.{Keyword}
 use Rattle.doc_schema.specs.Positions.{positions}
 
--- undecided where either part is
+-- undecided if either part is
 abbrev pub both : Option Bool → Option Bool → Option Bool
 both a b = option_and_then (λ x. option_map (λ y. x && y) b) a
 
--- the answers to what is asked, undecided where one is
+-- the answers to what is asked; undecided if one is
 abbrev pub answers : (Doc → Doc → Option Bool) → List Ask → Option (List Bool)
 answers judged [] = Some []
 answers judged (a ∷ rest) = option_and_then (λ b. option_map (λ bs. b ∷ bs) (answers judged rest)) (judged a.schema a.instance)
@@ -24,7 +24,7 @@ abbrev pub all_say : (Doc → Doc → Option Bool) → Doc → Members → Membe
 all_say judged root beside no_members t = Some true
 all_say judged root beside (member k v ms) t = both (says judged root beside (keyword_of k) v t) (all_say judged root beside ms t)
 
--- what a schema says, where parts are judged so
+-- the answer of a schema, if parts are judged in this way
 abbrev pub step : (Doc → Doc → Option Bool) → Doc → Doc → Doc → Option Bool
 step judged root (boolean b) t = Some b
 step judged root (object ms) t = all_say judged root ms ms t

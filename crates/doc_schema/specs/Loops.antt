@@ -11,12 +11,12 @@ use Rattle.schema_rules.specs.declared.keyword.Keyword.{Keyword}
 use Rattle.schema_rules.specs.declared.keyword.Keyword.TheVariants.{AllOf, AnyOf, OneOf, Not, If, Then, Else, Ref}
 use Rattle.doc_schema.specs.Positions.{Position, position, positions}
 
--- where a definition of that name stands
+-- the location of a definition of that name
 abbrev pub definition_location : Option (List ℕ) → List Place
 definition_location None = []
 definition_location (Some n) = name (codes "$defs") ∷ name n ∷ []
 
--- where the schema stands that a reference names, if it names one
+-- the location of the schema that a reference names, if it names one
 abbrev pub target_location : Doc → List Place
 target_location (text s) = if bytes_eq s (codes "#") then [] else definition_location (without_front (codes "#/$defs/") s)
 target_location _ = []

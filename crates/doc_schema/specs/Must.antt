@@ -1,4 +1,5 @@
--- Which schemas must hold at which parts of a document for the whole schema to hold of it: those that keywords apply which hold exactly where each schema that they apply does (JSON Schema Core, sections 8.2.3.1 and 10).
+-- The schemas that must hold of parts of a document for the whole schema to hold of it: those that keywords apply which
+-- hold exactly when each schema that they apply does (JSON Schema Core, sections 8.2.3.1 and 10).
 use Rattle.std.specs.Prelude.{◌≡◌, ◌⊎◌, ◌↔◌, List, [], ◌++◌, Bool, true, false, ◌&&◌, if◌then◌else◌}
 use Rattle.doc_tree.specs.Doc.{Doc, boolean, object, Members, no_members, member}
 use Rattle.schema_graph.specs.Walks.{In}
@@ -11,7 +12,7 @@ use Rattle.doc_schema.specs.Steps.{holds, verdict}
 
 -- ---- what must hold
 
--- the keyword holds exactly where each schema that it applies does
+-- the keyword holds exactly when each schema that it applies does
 abbrev pub wants_all : Keyword → Bool
 wants_all Properties = true
 wants_all AdditionalProperties = true
@@ -50,6 +51,7 @@ holds_itself root _ t = true
 
 -- ---- a change
 
--- the new document is valid exactly where each schema that must hold of a part had to hold of the same part before, or holds itself
+-- the new document is valid exactly when each schema that must hold of a part had to hold of the same part before, or
+-- holds itself
 abbrev pub IsJudgedByChange : Doc → Doc → Doc → Type 0
 IsJudgedByChange root old new = Judges root new true ↔ ((s t : Doc) → MustHold root new s t → MustHold root old s t ⊎ (holds_itself root s t ≡ true))

@@ -1,4 +1,4 @@
--- Schemas as numbered nodes: what a member says is a rule, which asks other nodes by their numbers, and nothing is looked up by name.
+-- Schemas as numbered nodes: the rule of a member asks other nodes by their numbers, and nothing is looked up by name.
 use Rattle.std.specs.Prelude.{◌≡◌, ℕ, zero, suc, List, [], ◌∷◌, Bool, true, Option, Some, None, option_map, option_and_then}
 use Rattle.doc_tree.specs.Doc.{Doc, boolean, object, Members}
 pub use Rattle.schema_levels.specs.Rules.{Rule}
@@ -10,7 +10,7 @@ pub data Node : Type 0 where
   fixed : Bool → Node
   ruled : List Rule → Node
 
--- the answers to what is asked, undecided where one is
+-- the answers to what is asked; undecided if one is
 abbrev pub node_answers : (ℕ → Doc → Option Bool) → List (ℕ × Doc) → Option (List Bool)
 node_answers judged [] = Some []
 node_answers judged (a ∷ rest) = option_and_then (λ b. option_map (λ bs. b ∷ bs) (node_answers judged rest)) (judged a.0 a.1)
@@ -20,7 +20,7 @@ abbrev pub rules_say : (ℕ → Doc → Option Bool) → List Rule → Doc → O
 rules_say judged [] t = Some true
 rules_say judged (r ∷ rules) t = both (option_map (r.joined t) (node_answers judged (r.asked t))) (rules_say judged rules t)
 
--- what a node says, where parts are judged so
+-- the answer of a node, if parts are judged in this way
 abbrev pub node_step : (ℕ → Doc → Option Bool) → Node → Doc → Option Bool
 node_step judged (fixed b) t = Some b
 node_step judged (ruled rules) t = rules_say judged rules t

@@ -1,11 +1,11 @@
--- The schemas in a schema, and where each stands (JSON Schema Core, sections 4.3 and 10).
+-- The schemas in a schema, each with its location (JSON Schema Core, sections 4.3 and 10).
 use Rattle.std.specs.Prelude.{ℕ, suc, List, [], ◌∷◌, ◌++◌}
 use Rattle.doc_tree.specs.Doc.{Doc, null, boolean, int, text, list, object, Elements, no_elements, element, Members, no_members, member, Place, name, index}
 use Rattle.schema_rules.specs.Keywords.{keyword_of, shape_of}
 use Rattle.schema_rules.specs.declared.keyword.Shape.{Shape}
 use Rattle.schema_rules.specs.declared.keyword.Shape.TheVariants.{One, Several, Named}
 
--- a schema, and the location at which it stands in the whole one
+-- a schema, and its location in the whole one
 pub record Position : Type 0 where
   pub location : List Place
   pub schema : Doc

@@ -1,4 +1,6 @@
--- Profile 1 of schemas, under names of its own: which schemas it accepted, and what they said. `Profile1Keywords`, `Profile1Forms` and `Profile1Rules` have its rows. Shared are documents and their text, walks that come back, and how answers are joined where one isn't decided.
+-- Profile 1 of schemas, under names of its own: which schemas it accepted, and what they said. `Profile1Keywords`,
+-- `Profile1Forms` and `Profile1Rules` have its rows. Shared are documents and their text, walks that come back, and how
+-- answers are joined if one isn't decided.
 use Rattle.std.specs.Prelude.{◌≡◌, ◌⊎◌, ◌<◌, ℕ, zero, suc, ◌+◌, ◌*◌, List, [], ◌∷◌, ◌++◌, length, Bool, true, false, not, ◌||◌, Option, Some, None, option_map}
 use Rattle.doc_tree.specs.Doc.{Doc, null, boolean, int, text, list, object, Elements, no_elements, element, Members, no_members, member, height, Place, name, index}
 use Rattle.doc_tree.specs.Text.{text_of}

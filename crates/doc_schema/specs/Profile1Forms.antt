@@ -1,4 +1,6 @@
--- Which values the keywords of profile 1 might have, and which members it refused: rows of its own, of which a later profile has no part. Shared are plain words about documents: their parts, when two are equal, what a reference names.
+-- The values that the keywords of profile 1 might have, and the members that it refused: rows of its own, of which a
+-- later profile has no part. Shared are plain words about documents: their parts, when two are equal, what a reference
+-- names.
 use Rattle.std.specs.Prelude.{ℤ, pos, int_le, Bool, true, false, not, ◌&&◌, ◌||◌, is_none, codes}
 use Rattle.std.specs.List.{list_all}
 use Rattle.std.specs.Str.{bytes_eq}
@@ -34,7 +36,7 @@ abbrev pub is_number_1 : Doc → Bool
 is_number_1 (int z) = true
 is_number_1 _ = false
 
--- a number that is at least so large
+-- a number that is at least `least`
 abbrev pub is_number_from_1 : ℤ → Doc → Bool
 is_number_from_1 least (int z) = int_le least z
 is_number_from_1 least _ = false

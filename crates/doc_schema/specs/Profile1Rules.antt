@@ -1,4 +1,6 @@
--- What the keywords of profile 1 said of an instance: rows of its own, of which a later profile has no part. Shared are plain words about documents and answers: their parts, when two are equal, how many of some answers are true, what a reference names and where.
+-- The answers of the keywords of profile 1 on an instance: rows of its own, of which a later profile has no part.
+-- Shared are plain words about documents and answers: their parts, when two are equal, how many of some answers are
+-- true, which schema a reference names and at which location.
 use Rattle.std.specs.Prelude.{ℕ, suc, pos, int_le, int_lt, int_rem, ◌==◌, List, [], ◌∷◌, ◌++◌, length, Bool, true, false, not, ◌||◌, if◌then◌else◌, Option, Some, None, is_some, codes}
 use Rattle.std.specs.List.{list_any, list_all}
 use Rattle.std.specs.Ordering.{int_eq}
@@ -133,7 +135,7 @@ joins_1 Not v t answers = not (every answers)
 joins_1 Ref v t answers = every answers
 joins_1 k v t answers = asserts_1 k v t
 
--- ---- where a keyword applied schemas to the instance itself
+-- ---- keywords that applied schemas to the instance itself
 
 -- the elements of an array of schemas, the first of which has the index n
 abbrev pub elements_at_1 : List Place → ℕ → Elements → List Position

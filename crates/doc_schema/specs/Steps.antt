@@ -1,4 +1,4 @@
--- How many steps a judgement takes, and what it says in the end.
+-- The steps that a judgement takes, and its answer in the end.
 use Rattle.std.specs.Prelude.{◌≡◌, ℕ, suc, max, ◌+◌, ◌*◌, List, [], ◌∷◌, length, Bool, true, false, ◌&&◌, Option, Some, None}
 use Rattle.doc_tree.specs.Doc.{Doc, boolean, object, Members, no_members, member, height}
 use Rattle.schema_graph.specs.Walks.{In, depth}
@@ -8,7 +8,7 @@ use Rattle.schema_rules.specs.declared.keyword.Keyword.{Keyword}
 use Rattle.doc_schema.specs.Judge.{judge}
 use Rattle.doc_schema.specs.Schemas.{schemas, applied}
 
--- ---- the table where each part is known
+-- ---- the table if each part is known
 
 abbrev pub told : (Doc → Doc → Bool) → List Ask → List Bool
 told known [] = []

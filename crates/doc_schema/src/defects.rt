@@ -1,4 +1,4 @@
-//! What can be wrong with a schema in a schema by itself.
+//! The defects that a schema in a schema may have by itself.
 
 ghost use Rattle.std.specs.Prelude.{◌≡◌, false};
 ghost use Rattle.std.specs.List.{list_any};

@@ -1,4 +1,4 @@
-//! Why a document is refused as a schema.
+//! The refusal of a document that is no schema.
 
 use refusals::numbers::MEMORY;
 use std::alloc::{AllocError, AllocFailed};

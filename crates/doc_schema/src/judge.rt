@@ -1,4 +1,4 @@
-//! Whether an instance passes, by recursion over the schema and the instance. No memory is taken.
+//! The judgement of an instance, by recursion over the schema and the instance. No memory is taken.
 
 ghost use Rattle.std.specs.Prelude.{◌≡◌, ◌==◌, Some, option_map, codes, if◌then◌else◌};
 ghost use Rattle.doc_tree.specs.Doc.{get_member, object};
@@ -195,7 +195,7 @@ fn contains_accepted(
     is_enough(member_named(siblings, "minContains"), many, instance)
 }
 
-// Whether the schema of `contains`, if there is one, accepts at most so many.
+// Whether the schema of `contains`, if there is one, accepts at most `most` elements.
 #[cycle(judge)]
 fn limit_accepted(
     root: &Tree,
@@ -320,7 +320,7 @@ fn found_accepts(root: &Tree, found: Option<&Tree>, instance: Instance<'_>) -> b
     }
 }
 
-// Whether the schema accepts where the condition, if there is one, does or doesn't, as told.
+// Whether the schema accepts the instance, or the condition's answer isn't `holds`; also true without a condition.
 #[cycle(judge)]
 fn accepts_where(
     root: &Tree,

@@ -25,7 +25,7 @@ pub fn enough_steps_decide()
     ensures { (schema instance : Doc) → (HasSchemaLoop schema → ⊥) → IsSettledFor schema instance }
 {}
 
-/// The schema of a position is what stands at its location.
+/// The schema of a position is the value at its location.
 pub fn positions_stand_at_their_locations()
     ensures { (schema : Doc) (p : Position) → IsSound schema → In p (positions schema) → at p.location schema ≡ Some p.schema }
 {}
@@ -41,13 +41,14 @@ pub fn loops_are_walks_over_schemas()
     ensures { (schema : Doc) → (HasSchemaLoop schema ↔ IsLoopedSchema schema) }
 {}
 
-/// Nodes with numbers in place of names judge alike: where each says what the schema of its number says, both judgements agree at every number of steps.
+/// Nodes with numbers in place of names give the same judgement: if each says what the schema of its number says, both
+/// judgements agree at every number of steps.
 pub fn numbered_nodes_judge_alike()
     ensures { (root : Doc) (schema : ℕ → Doc) (node : ℕ → Node) → AreNodesOf root schema node →
         (n p : ℕ) (instance : Doc) → judge_node node n p instance ≡ judge root n (schema p) instance }
 {}
 
-/// The tests find a number exactly where it is that of the first fault, and none exactly where nothing is wrong.
+/// The tests find a number exactly when it is that of the first fault, and none exactly when nothing is wrong.
 pub fn first_faults_are_found()
     ensures fault { (schema : Doc) (n : ℕ) → (first_fault schema ≡ Some n) ↔ IsFirstFault schema n }
     ensures none { (schema : Doc) → (first_fault schema ≡ None) ↔ IsFaultless schema }
@@ -59,14 +60,14 @@ pub fn schemas_of_profile_1_stay()
     ensures alike { (schema : Doc) → IsFaultless_1 schema → (instance : Doc) (b : Bool) → (Judges_1 schema instance b ↔ Judges schema instance b) }
 {}
 
-/// A schema that must hold of a part of a valid document holds of it, in whatever document that part stands.
+/// A schema that must hold of a part of a valid document holds of that part in every document.
 pub fn what_must_hold_holds()
     ensures { (schema document : Doc) → IsFaultless schema → Judges schema document true →
         (s t : Doc) → MustHold schema document s t → verdict schema s t ≡ true }
 {}
 
-/// A document that came from a valid one is valid exactly where each schema that must hold of a part had to hold of the
-/// same part before, or holds itself: what its keywords say that aren't answered by other parts alone.
+/// A document that came from a valid one is valid exactly when each schema that must hold of a part had to hold of the
+/// same part before, or holds itself: what those of its keywords say that aren't answered by other parts alone.
 pub fn changes_are_judged_where_they_reach()
     ensures { (schema old new : Doc) → IsFaultless schema → Judges schema old true → IsJudgedByChange schema old new }
 {}

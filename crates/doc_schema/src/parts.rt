@@ -1,4 +1,4 @@
-//! The parts of a document that a keyword speaks of, nothing where it has none.
+//! The parts of a document that a keyword speaks of, nothing if it has none.
 
 ghost use Rattle.std.specs.Prelude.{◌≡◌, MatchOption, codes, drop, is_some, length, option_map};
 ghost use Rattle.doc_tree.specs.Doc.{get_member, no_members};
@@ -13,7 +13,7 @@ use doc_tree::Tree;
 use schema_rules::{Instance, at_least, at_most, member_named};
 use std::collections::BTreeMap;
 
-// The elements, none where it is no array.
+// The elements; none if it is no array.
 pub(crate) fn elements_of(value: &Tree) -> &[Tree]
     ensures { elements_view result.now ≡ elements_in (view value.now) }
 {
@@ -23,7 +23,7 @@ pub(crate) fn elements_of(value: &Tree) -> &[Tree]
     }
 }
 
-// The elements of an instance, none where it is no array.
+// The elements of an instance; none if it is no array.
 pub(crate) fn items_of<'t>(instance: Instance<'t>) -> &'t [Tree]
     ensures { elements_view result.now ≡ elements_in (seen instance.entry) }
 {
@@ -63,7 +63,7 @@ pub(crate) fn prefix_len(siblings: &BTreeMap<String, Tree>) -> usize
     }
 }
 
-// The elements after the first so many.
+// The elements after the first `count`.
 pub(crate) fn after(items: &[Tree], count: usize) -> &[Tree]
     ensures { result.now ≡ drop count items.now }
 {
@@ -85,7 +85,7 @@ pub(crate) fn is_named(siblings: &BTreeMap<String, Tree>, name: &str) -> bool
     }
 }
 
-// Whether so many are at least the number of `minContains`, or 1 without it; of an array alone.
+// Whether `many` is at least the number of `minContains`, or 1 without it; of an array alone.
 pub(crate) fn is_enough(least: Option<&Tree>, many: usize, instance: Instance<'_>) -> bool
     ensures { result ≡ on_list (λ _. at_least (or_one (option_map (λ t. view t.now) least.entry)) many) (seen instance.entry) }
 {
@@ -107,7 +107,7 @@ fn is_least(least: Option<&Tree>, many: usize) -> bool
     }
 }
 
-// Whether so many are at most the number of `maxContains`; of an array alone.
+// Whether `many` is at most the number of `maxContains`; of an array alone.
 pub(crate) fn is_within(most: &Tree, many: usize, instance: Instance<'_>) -> bool
     ensures { result ≡ on_list (λ _. at_most (view most.now) many) (seen instance.entry) }
 {

@@ -50,8 +50,9 @@ impl Model for Schema {
 impl Schema {
     /// The schema that the document is (JSON Schema 2020-12).
     ///
-    /// Answers the number of the first of these that holds, each told of the whole schema: `refusals::numbers::SCHEMA_SIZE`,
-    /// `SCHEMA_FORM`, `SCHEMA_KEYWORD`, `SCHEMA_REF`, `SCHEMA_LOOP`; and `refusals::numbers::MEMORY` where there was no memory.
+    /// Answers the number of the first of these that holds of the whole schema: `refusals::numbers::SCHEMA_SIZE`,
+    /// `SCHEMA_FORM`, `SCHEMA_KEYWORD`, `SCHEMA_REF`, `SCHEMA_LOOP`; and `refusals::numbers::MEMORY` if there was no
+    /// memory.
     pub fn read(alloc: Global, source: &Tree) -> Result<Schema, SchemaFault>
         ensures ok { IfOk result (λ s. (view s ≡ view source.now) × IsFaultless (view s)) }
         ensures sound { IfOk result (λ s. IsSound (view s)) }
@@ -103,7 +104,7 @@ impl Schema {
     }
 }
 
-// The nodes of a schema, none where it leads back to itself. There are at most a third as many as bytes of its text, and
+// The nodes of a schema; none if it leads back to itself. There are at most a third as many as bytes of its text, and
 // at most a thirteenth as many counters.
 fn nodes_of(source: &Tree, alloc: Global) -> Result<Option<Compiled>, AllocError>
     requires { IsChecked (view source.now) }

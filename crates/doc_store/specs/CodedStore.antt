@@ -1,4 +1,4 @@
--- The code of a store's value, by which a proof tells values apart.
+-- The code of a store's value, by which a proof distinguishes values.
 use Rattle.std.specs.Prelude.{ℕ, Bool, Option, refl}
 use Rattle.std.specs.Coded.{Coded, code_by, coded×, coded_ℕ, coded_bool, coded_option}
 use Rattle.doc_changes.specs.CodedState.{coded_state}

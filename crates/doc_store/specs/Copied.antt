@@ -12,7 +12,8 @@ use Rattle.doc_store.specs.Opening.{IsOpenedFrom}
 abbrev pub copied_of : Account → Carried
 copied_of a = filled (snapshot_bytes a.state.documents) a.state.seq a.opens
 
--- the image stands for the same state: the documents in their order, their schemas and revisions, and seq; and it was opened as often
+-- the image holds the same state: the documents in their order, their schemas and revisions, and seq; and it was opened
+-- as often
 pub record IsCopyOf (a : Account) (image : Image) : Type 0 where
   pub stands : Stands a.state image
   pub carried_is : stands.carried ≡ copied_of a

@@ -19,7 +19,7 @@ abbrev pub rides_in : Format → Bool
 rides_in Two = false
 rides_in Three = true
 
--- the format of a store: 3 where small commits ride
+-- the format of a store: 3 if small commits ride
 abbrev pub format_of : Account → Format
 format_of a = if a.rides then Three else Two
 
@@ -27,7 +27,7 @@ format_of a = if a.rides then Three else Two
 abbrev pub account_in : Format → Account → Account
 account_in format a = record a { rides = rides_in format }
 
--- the calls of the device from a format to another: write 0, sync; a sync before them where bytes may ride no more
+-- the calls of the device from a format to another: write 0, sync; a sync before them if bytes no longer may ride
 abbrev pub calls_between : Format → Format → ℕ
 calls_between Two Three = 2
 calls_between Three Two = 3
@@ -41,7 +41,7 @@ FormatAnswers old format (Err r) new =
     ((r ≡ plain DEVICE) × (old.broken ≡ false) × (format_of old ≢ format) × (new ≡ account_broken old))
     ⊎ ((r ≡ plain BROKEN) × (old.broken ≡ true) × (new ≡ old))
 
--- the image stands for the account's state, in its format, in as many bytes of the same half, and was opened as often
+-- the image holds the account's state, in its format, in as many bytes of the same half, and was opened as often
 pub record IsImageOf (a : Account) (image : Image) : Type 0 where
   pub stands : Stands a.state image
   pub version_is : stands.carried.version ≡ 2

@@ -1,4 +1,4 @@
--- For the clauses within the crate: what was read of a device and replayed.
+-- For the clauses within the crate: the bytes that were read of a device, and their replay.
 use Rattle.std.specs.Prelude.{◌≡◌, ℕ, List, length, false}
 use Rattle.sector_device.specs.Disk.{Disk}
 use Rattle.sector_device.specs.Sectors.{KeepsImages}

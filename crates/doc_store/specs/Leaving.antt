@@ -1,4 +1,4 @@
--- What a crash leaves, as far as the calls of the next life depend on it.
+-- The images that a crash leaves, as far as the calls of the next life depend on them.
 use Rattle.std.specs.Prelude.{◌≡◌, ◌⊎◌, None, Option, Some, if◌then◌else◌, nat_eq, ⊤}
 use Rattle.sector_device.specs.Disk.{Disk, Image}
 use Rattle.refusals.specs.declared.numbers.TheConstants.{DEVICE}
@@ -13,7 +13,9 @@ use Rattle.store_commits.specs.Room.{Fits, IsOver}
 use Rattle.store_commits.specs.SnapshotAnswers.{account_with_snapshot}
 use Rattle.store_commits.specs.declared.pump.Pump.{Pump}
 
--- A fault hit an event at the account a and left b: this is what the commit makes that was hit. Of a transaction that is its own, or, where its frames don't fit behind the used bytes, the snapshot or its own behind it; of a step of a copy there is one only where its sectors are the last.
+-- A fault hit an event at the account a and left b: this is what the commit makes that was hit. Of a transaction that
+-- is its own, or, if its frames don't fit after the used bytes, the snapshot or its own after it; of a step of a copy
+-- there is one only if its sectors are the last.
 abbrev pub HitMakes : Account → Event → Account → Account → Type 0
 HitMakes a (change t) b made =
     (Fits a (size_of t) × (b ≡ account_broken a) × (made ≡ account_with a t))
@@ -35,12 +37,12 @@ pub record Hit : Type 0 where
   pub before : Account
   pub event : Event
 
--- the hit, if any, once an event was answered so
+-- the hit, if any, once an event was given this reply
 abbrev pub hit_with : Option Hit → Account → Event → Reply → Option Hit
 hit_with h a e (Refused r) = if nat_eq r.number DEVICE then Some (record { before = a; event = e }) else h
 hit_with h a e r = None
 
--- an image that is left at the last account: as this one where nothing was hit, or as the hit says
+-- an image that is left at the last account: as this one if nothing was hit, or as the hit says
 abbrev pub IsLeftAs : Option Hit → Account → Image → Type 0
 IsLeftAs None last image = StandsAs (extent_of last) image
 IsLeftAs (Some h) last image = MayStandAs h.before h.event last image

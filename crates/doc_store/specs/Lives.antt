@@ -1,4 +1,4 @@
--- What lives tell: each is opened with what the one before left, is asked, and ends in a crash.
+-- Lives: each is opened with what the one before left, is asked its events, and ends in a crash.
 use Rattle.std.specs.Prelude.{◌≡◌, ◌≤◌, List, [], ◌∷◌, ◌++◌, length, map, true, false, Option, Some, None, ⊤}
 use Rattle.sector_device.specs.Disk.{Disk, Image}
 use Rattle.sector_device.specs.History.{left_after}
@@ -28,7 +28,8 @@ replies_of part = part.replies.items
 abbrev pub accepted_of : Part → List Transaction
 accepted_of part = map transaction_of part.accepted.items
 
--- A life that was opened, from its first account to its last: it began with a state, was asked these events, told this part, and left another state.
+-- A life that was opened, from its first account to its last: it began with a state, was asked these events, gave this
+-- part, and left another state.
 pub record IsOpened (first last : Account) (s : State) (events : List Event) (part : Part) (t : State) : Type 0 where
   pub dones : List Transaction
   pub in_doubt : List Transaction
@@ -42,7 +43,8 @@ pub record IsOpened (first last : Account) (s : State) (events : List Event) (pa
   -- accepted are those that were done and those that a fault of the device hit, acknowledged are those that were done
   pub accepted_are : accepted_of part ≡ dones ++ in_doubt
   pub acknowledged_are : part.acknowledged ≡ length dones
-  -- the crash kept the first of the accepted ones, each whole, and all that were acknowledged; so many changes these have
+  -- the crash kept the first of the accepted ones, each whole, and all that were acknowledged; `kept` is the number of
+  -- their changes
   pub kept_ones : List Transaction
   pub lost : List Transaction
   pub parts : kept_ones ++ lost ≡ accepted_of part
@@ -50,7 +52,7 @@ pub record IsOpened (first last : Account) (s : State) (events : List Event) (pa
   pub counted : part.kept ≡ length (all_changes kept_ones)
   pub leaves : t ≡ after_each s kept_ones
 
--- nothing is told, as of a life that was not opened
+-- the part of a life that was not opened: it has nothing
 pub record TellsNothing (part : Part) : Type 0 where
   pub opened : part.opened ≡ false
   pub replies : part.replies.items ≡ []
@@ -70,19 +72,20 @@ LivesSo {L} state_of more s (life ∷ lives) (part ∷ parts) t =
     (mid : L) × (accounts : Option (Account × Account)) × IsLife accounts (state_of s) (events_of life) part (state_of mid) × more s life part accounts mid × LivesSo state_of more mid lives parts t
 LivesSo {L} state_of more s lives parts t = ⊥
 
--- what lives tell
+-- the parts that lives give
 abbrev pub IsLives : State → List Life → List Part → State → Type 0
 IsLives = LivesSo (λ s. s) (λ s life part accounts t. ⊤)
 
--- every image that a crash may leave stands for the state
+-- every image that a crash may leave holds the state
 abbrev pub AllStand : Disk → State → Type 0
 AllStand disk s = (image : Image) → disk.left image → Stands s image
 
--- so of a disk in memory, by its history
+-- the same of a disk in memory, by its history
 abbrev pub DiskStands : MemDisk → State → Type 0
 DiskStands disk s = (image : Image) → left_after disk.history image → Stands s image
 
--- The lives were told so and left a state, every image of the disk after them stands for it, and one of the disk's own calls failed when it was opened.
+-- The lives gave these parts and left a state, every image of the disk after them holds it, and one of the disk's own
+-- calls failed when it was opened.
 pub record FailsAtLast (s : State) (lives : List Life) : Type 0 where
   pub parts : List Part
   pub state : State

@@ -12,7 +12,8 @@ use Rattle.doc_store.specs.Lives.{events_of, replies_of}
 use Rattle.doc_store.specs.declared.life.Life.{Life}
 use Rattle.doc_store.specs.declared.life.Part.{Part}
 
--- The transactions that were accepted and count, the oldest first, and the state before them. The first so many of them last: no crash loses these.
+-- The transactions that were accepted and count, the oldest first, and the state before them. The first `lasting` of
+-- them last: no crash loses these.
 pub record Ledger : Type 0 where
   pub begins : State
   pub counted : List Transaction
@@ -51,16 +52,17 @@ abbrev pub History : Ledger → List Happening → Ledger → Type 0
 History l [] m = m ≡ l
 History l (h ∷ hs) m = (mid : Ledger) × Becomes l h mid × History mid hs m
 
--- What happened, as the replies tell it: some were accepted and answered as done, and then some were accepted that stay in doubt.
+-- The events by their replies: some were accepted and answered as done, and then some were accepted that stay in doubt.
 abbrev pub happened : List Event → List Reply → List Happening
 happened events replies = map accepts (dones_of events replies) ++ answers ∷ map accepts (hits_of events replies)
 
--- of lives one after another, with what each told: a crash follows the replies of each
+-- the events of lives one after another, with their parts: a crash follows the replies of each
 abbrev pub all_happened : List Life → List Part → List Happening
 all_happened (life ∷ lives) (part ∷ parts) = happened (events_of life) (replies_of part) ++ crashes ∷ all_happened lives parts
 all_happened lives parts = []
 
--- What lives keep that begin with a state and leave another: what happened is a history from the one to a ledger that makes the other.
+-- Lives that begin with a state and leave another keep the promise: what happened is a history from the one to a ledger
+-- that makes the other.
 pub record LivesKeep (s : State) (lives : List Life) (parts : List Part) (t : State) : Type 0 where
   pub ledger : Ledger
   pub history : History (begun s) (all_happened lives parts) ledger

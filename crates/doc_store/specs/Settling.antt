@@ -1,4 +1,4 @@
--- For the clauses within the crate: what becomes of an opened journal when its opening is counted.
+-- For the clauses within the crate: an opened journal whose opening is counted.
 use Rattle.std.specs.Prelude.{◌≡◌, ◌⊎◌, ◌<◌, ◌≤◌, length}
 use Rattle.sector_device.specs.Disk.{Disk}
 use Rattle.store_journal.specs.Layout.{capacity_of}
@@ -16,7 +16,8 @@ use Rattle.doc_store.specs.Opening.{calls_to_settle, carried_after}
 abbrev pub IsSettled : {D : Type 0} → Disk → Disk → Carried → JournalView D → JournalView D → State → Type 0
 IsSettled disk new_disk was old new state = Became disk new_disk old new (carried_after was state) (length (carried_after was state).bytes) (calls_to_settle was state)
 
--- Why it isn't counted: memory was refused, or bytes of format 1 are in a half that has no room for the snapshot of the state, and then nothing was done; or the device failed, where a half has room.
+-- Why it isn't counted: memory was refused, or bytes of format 1 are in a half that has no room for the snapshot of the
+-- state, and then nothing was done; or the device failed, if a half has room.
 abbrev pub IsNotSettled : {D : Type 0} → Disk → Disk → Carried → JournalView D → JournalView D → State → Refusal → Type 0
 IsNotSettled disk new_disk was old new state r =
     ((r ≡ plain MEMORY) × (new ≡ old))

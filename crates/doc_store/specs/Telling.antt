@@ -1,4 +1,4 @@
--- For the clauses within the crate: what is told of the events of a life.
+-- For the clauses within the crate: the part of a life as its events are answered.
 use Rattle.std.specs.Prelude.{◌≡◌, ℕ, ◌+◌, ◌≤◌, List, [], ◌∷◌, ◌++◌, length, Option, None, vec_len, vec_capacity}
 use Rattle.sector_device.specs.Disk.{Disk}
 use Rattle.store_commits.specs.Account.{StoreView}
@@ -11,13 +11,13 @@ use Rattle.doc_store.specs.Leaving.{Hit, LeavesThen, hit_with}
 use Rattle.doc_store.specs.Lives.{accepted_of, replies_of}
 use Rattle.doc_store.specs.declared.life.Part.{Part}
 
--- there is room for so many events more
+-- there is room for `n` events more
 pub record HasPlaces (n : ℕ) (p : Part) : Type 0 where
   pub replies : vec_len p.replies + n ≤ vec_capacity p.replies
   pub accepted : vec_len p.accepted + n ≤ vec_capacity p.accepted
   pub acknowledged : p.acknowledged + n ≤ vec_capacity p.accepted
 
--- the transaction that such a reply accepts is told now, and the reply itself isn't yet
+-- the part now has the transaction that such a reply accepts, and not the reply itself yet
 pub record Grows (e : Event) (r : Reply) (old new : Part) : Type 0 where
   pub replies : new.replies ≡ old.replies
   pub accepted : accepted_of new ≡ (accepted_of old ++ done_by e r) ++ hit_by e r
@@ -31,7 +31,7 @@ pub data Asked {D : Type 0} (disk : D → Disk) (start : StoreView D) : List Eve
       → Asked disk start es rs mid hit → Answered mid.account e r end.account → IsCharged disk mid e r end → IsStandingAs (disk end.device) end.account → LeavesThen (disk end.device) mid.account e r end.account
       → Asked disk start (es ++ e ∷ []) (rs ++ r ∷ []) end (hit_with hit mid.account e r)
 
--- The events are a run of the store, and this is told of them.
+-- The events are a run of the store, and this is their part.
 pub record Told {D : Type 0} (disk : D → Disk) (start end : StoreView D) (events : List Event) (p : Part) : Type 0 where
   pub ran : Ran disk start end events (replies_of p)
   pub hit : Option Hit

@@ -1,4 +1,4 @@
--- Lives by the clock of their device: each call counts one, and the fuse stops it after so many.
+-- Lives by the clock of their device: each call counts one, and the fuse stops it after `stop` calls.
 use Rattle.std.specs.Prelude.{◌≡◌, ℕ, ◌+◌, ◌≤◌, ◌<◌, List, [], ◌∷◌, ◌++◌, length, Bool, true, Option, Some, None}
 use Rattle.sector_device.specs.Disk.{Disk, Image}
 use Rattle.store_journal.specs.Carries.{EitherCarried}
@@ -16,24 +16,26 @@ use Rattle.store_commits.specs.Images.{Stands}
 use Rattle.doc_store.specs.declared.life.Life.{Life}
 use Rattle.doc_store.specs.declared.life.Part.{Part}
 
--- An event after so many calls: done, all its calls were within the stop; hit, though the disk itself never failed, they pass it.
+-- An event after `spent` calls: done, all its calls were within the stop; hit, though the disk itself never failed,
+-- they pass it.
 abbrev pub IsInTime : ℕ → ℕ → ℕ → Account → Event → Reply → Type 0
 IsInTime stop faults spent a e (Refused r) = r.number ≡ DEVICE → faults ≡ 0 → stop < spent + cost_of a e
 IsInTime stop faults spent a e r = spent + cost_of a e ≤ stop
 
--- the calls once it was answered: one that was refused made none, and behind one that was hit there are none
+-- the calls once it was answered: one that was refused made none, and after one that was hit none follow
 abbrev pub spent_with : ℕ → Account → Event → Reply → ℕ
 spent_with spent a e (Refused r) = spent
 spent_with spent a e r = spent + cost_of a e
 
--- Events one after another, from an account that so many calls opened, and at the end the one that a fault hit, if any.
+-- Events one after another, from an account that was opened by `opening` calls, and at the end the one that a fault
+-- hit, if any.
 pub data AreInTime (stop faults opening : ℕ) (first : Account) : List Event → List Reply → ℕ → Account → Option Hit → Type 0 where
   opened : AreInTime stop faults opening first [] [] opening first None
   and_more : (es : List Event) (rs : List Reply) (spent : ℕ) (a : Account) (e : Event) (r : Reply) (b : Account) (hit : Option Hit)
       → AreInTime stop faults opening first es rs spent a hit → Answered a e r b → IsInTime stop faults spent a e r
       → AreInTime stop faults opening first (es ++ e ∷ []) (rs ++ r ∷ []) (spent_with spent a e r) b (hit_with hit a e r)
 
--- what a crash leaves: a state, the image that stands for it, and whether a crash may leave no other
+-- what a crash leaves: a state, the image that holds it, and whether a crash may leave no other
 pub record Left : Type 0 where
   pub state : State
   pub image : Image
@@ -65,7 +67,7 @@ pub record IsLate (l : Left) (stop faults : ℕ) (t : Left) : Type 0 where
   pub leaves : l.settled ≡ true → EitherCarried stands.carried (carried_after stands.carried l.state) t.image
   pub settles : t.settled ≡ true
 
--- a life by the clock: in time where it was opened, and late where it was not
+-- a life by the clock: in time if it was opened, and late if it was not
 abbrev pub IsByClock : Left → Life → Part → Option (Account × Account) → Left → Type 0
 IsByClock l life part (Some accounts) t = IsTimely l life.stop part.disk_faults (events_of life) (replies_of part) accounts.0 accounts.1 t
 IsByClock l life part None t = IsLate l life.stop part.disk_faults t

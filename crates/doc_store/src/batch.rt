@@ -18,13 +18,13 @@ use std::alloc::AllocError;
 use store_commits::{Reply, commit_batch};
 
 impl<D: SectorDevice> Store<D> {
-    /// Makes transactions by as few commits as their room allows, and answers one reply to each, as `transact` answers it.
-    /// Each is judged after the accepted ones before it, and its own changes are all made, or none; those that are accepted
-    /// wait for one commit. One whose frames don't fit behind the used bytes beside those that wait commits them first, and
-    /// then goes on by itself, as `transact` does.
+    /// Makes transactions by as few commits as their room allows, and answers one reply to each, as `transact` answers
+    /// it. Each is judged after the accepted ones before it, and its own changes are all made, or none; those that are
+    /// accepted wait for one commit. One whose frames don't fit after the used bytes beside those that wait commits
+    /// them first, and then goes on by itself, as `transact` does.
     ///
-    /// `DEVICE` to all that waited where the device failed in their commit; what was answered before stands, refusals of
-    /// transactions that were judged for that commit too, and all others are `BROKEN`. So are all of a broken store.
+    /// `DEVICE` to all that waited if the device failed in their commit. What was answered before stays, also refusals
+    /// of transactions that were judged for that commit, and all others are `BROKEN`. So are all of a broken store.
     ///
     /// The `Err` is `MEMORY`, before the device is called: nothing was done.
     pub fn transact_batch(&mut self, transactions: Vec<Transaction>) -> Result<Vec<Reply>, Refusal>
@@ -36,8 +36,8 @@ impl<D: SectorDevice> Store<D> {
         Ok(self.make(transactions, false)?)
     }
 
-    /// The same, but no further than the first transaction that is refused as `FULL`: those behind it aren't judged, and
-    /// get no reply. Where the device failed before that one was answered, it is answered `BROKEN`, and they get none
+    /// The same, but no further than the first transaction that is refused as `FULL`: those after it aren't judged, and
+    /// get no reply. If the device failed before that one was answered, it is answered `BROKEN`, and they get none
     /// either.
     pub fn transact_until_full(
         &mut self,

@@ -1,4 +1,4 @@
-//! What a device holds is read, and its documents are made again.
+//! The reading of a device, by which its documents are made again.
 ghost use Rattle.std.specs.Prelude.{IfOk, IfErr};
 ghost use Rattle.sector_device.specs.Sectors.{KeepsImages};
 ghost use Rattle.doc_store.specs.Found.{WasFound};

@@ -92,7 +92,7 @@ impl<D: SectorDevice> Store<D> {
     }
 }
 
-// Names format 3, where small commits ride, or format 2. The half begins with all bytes already.
+// Names format 3, in which small commits ride, or format 2. The half begins with all bytes already.
 fn name_format<D: SectorDevice>(journal: &mut Journal<D>, rides: bool) -> Result<(), Refusal>
     requires version { journal.old.version ≡ 2 }
     requires settled { journal.old.settled ≡ true }

@@ -13,8 +13,7 @@ ghost use Rattle.store_commits.specs.Images.{HoldsOne, StandsForOne};
 use sector_device::SectorDevice;
 use store_commits::laws;
 
-/// Bytes of a format and a seq hold one list of documents at most, and an image of a device stands for one state at
-/// most.
+/// Bytes of a format and a seq hold one list of documents at most, and an image of a device holds one state at most.
 pub fn one_state_stands()
     ensures bytes { HoldsOne }
     ensures images { StandsForOne }

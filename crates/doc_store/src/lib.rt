@@ -12,7 +12,7 @@
 //! their revisions (`laws`). `lives` opens a disk, stops it, crashes it and opens it again, as often as one likes: each
 //! opening finds a prefix of the accepted transactions with all that were done (`specs/Lives.antt`).
 //!
-//! Accounts, answers and runs, and what commits to the journal, are in `store_commits`, where these files are; its
+//! Accounts, answers and runs, and what commits to the journal, are in `store_commits`; its
 //! definitions can be cited as this crate's.
 #![tactic(auto)]
 

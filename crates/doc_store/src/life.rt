@@ -1,4 +1,4 @@
-//! What a life of a disk is, and what it tells.
+//! A life of a disk, and its part: what the store answered in it, and what the crash kept.
 use doc_machine::Transaction;
 use store_commits::{Event, Reply};
 
@@ -14,10 +14,10 @@ pub struct Life {
     pub events: Vec<Event>,
 }
 
-/// What a life tells.
+/// The answers of a life, and what the crash kept of it.
 #[derive(Drop)]
 pub struct Part {
-    /// The opening answered. If not, nothing else is told but `disk_faults`.
+    /// The opening answered. If not, nothing else is given but `disk_faults`.
     pub opened: bool,
     /// One for each event.
     pub replies: Vec<Reply>,

@@ -19,8 +19,8 @@ use std::alloc::Global;
 use store_commits::Event;
 use store_journal::OpenFault;
 
-/// A life that ended: its part, which has the number of accepted changes that it began with in place of those that
-/// were kept, and the device as it stands.
+/// A life that ended: its part, which has the number of accepted changes that it began with in place of those that were
+/// kept, and the device as it is then.
 #[derive(Drop)]
 pub struct Ended<D: SectorDevice> {
     pub part: Part,

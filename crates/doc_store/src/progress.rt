@@ -1,4 +1,4 @@
-//! What a store answers to the events of a life.
+//! The replies of a store to the events of a life.
 ghost use Rattle.std.specs.Prelude.{◌≡◌, ℕ, ◌+◌, ◌<◌, ◌≤◌, ◌++◌, ◌∷◌, [], List, map, length, vec_len, vec_capacity, IfOk};
 ghost use Rattle.doc_machine.specs.Transaction.{transaction_of};
 ghost use Rattle.store_commits.specs.Account.{IsStanding, StoreView};
@@ -23,7 +23,7 @@ use std::alloc::{AllocError, Global};
 use store_commits::{Event, Reply};
 
 impl Part {
-    /// The part of a life that was not opened, with room for so many events.
+    /// The part of a life that was not opened, with room for `events` events.
     pub(crate) fn new(alloc: Global, events: usize) -> Result<Part, AllocError>
         ensures nothing { IfOk result TellsNothing }
         ensures room { IfOk result (HasPlaces events) }
@@ -70,7 +70,8 @@ impl Part {
         self.replies.push(reply).unwrap();
     }
 
-    // The reply to an event, which isn't told yet. If the event is a transaction that is accepted, it is told.
+    // The reply to an event, which the part doesn't have yet. If the event is a transaction that is accepted, the part
+    // has that.
     fn answer<D: SectorDevice>(
         &mut self,
         alloc: Global,
@@ -93,7 +94,7 @@ impl Part {
         }
     }
 
-    // Asks for a transaction. It is copied first, to be told if it is accepted.
+    // Asks for a transaction. It is copied first, for the part if it is accepted.
     fn change<D: SectorDevice>(
         &mut self,
         alloc: Global,
@@ -157,7 +158,7 @@ fn pump<D: SectorDevice>(store: &mut Store<D>, max: u64) -> Reply
 }
 
 impl<D: SectorDevice> Store<D> {
-    /// For the prover alone: who calls it knows from there on what the device stands for, and in how many bytes of which
+    /// For the prover alone: who calls it knows from there on what the device holds, and in how many bytes of which
     /// half.
     pub fn know(&self)
         ensures standing { IsStanding (D.disk self.now.device) self.now.account }

@@ -19,14 +19,13 @@ use store_commits::copying::{step, take_or_begin};
 use store_commits::{CopyState, Pump};
 
 impl<D: SectorDevice> Store<D> {
-    /// Writes at most `max` sectors more of a snapshot into the half that doesn't count, 0 as 1, and makes
-    /// that half the one that counts where they were the last. Where no copy runs it begins one, with a
-    /// snapshot of the present documents; each change that is accepted meanwhile puts its frame behind it.
-    /// Where a half has no room for all of it, nothing is written and the copy is dropped. The documents
-    /// and the number of accepted changes stay.
+    /// Writes at most `max` sectors more of a snapshot into the half that doesn't count, 0 as 1, and makes that half
+    /// the one that counts if they were the last. If no copy runs, it begins one, with a snapshot of the present
+    /// documents; each change that is accepted meanwhile puts its frame after it. If a half has no room for all of it,
+    /// nothing is written and the copy is dropped. The documents and the number of accepted changes stay.
     ///
-    /// `BROKEN` where the device failed before; `DEVICE` where it failed in this call. `MEMORY` may come
-    /// where no copy runs, before the device is called. All but `DEVICE` leave everything as it was.
+    /// `BROKEN` if the device failed before; `DEVICE` if it failed in this call. `MEMORY` may come if no copy runs,
+    /// before the device is called. All but `DEVICE` leave everything as it was.
     pub fn pump(&mut self, max: u64) -> Result<Pump, Refusal>
         ensures answer { PumpAnswers self.old.account max result self.new.account }
         ensures ran { Ran D.disk self.old self.new (pump max ∷ []) (reply_of Pumped result ∷ []) }

@@ -1,4 +1,4 @@
-//! An opening is counted, and bytes of format 1 give way to a snapshot.
+//! The count of an opening, by which bytes of format 1 give way to a snapshot.
 ghost use Rattle.std.specs.Prelude.{◌≡◌, ◌↔◌, IfErr, OnOk, length, false};
 ghost use Rattle.sector_device.specs.Disk.{LeavesOnly};
 ghost use Rattle.store_journal.specs.Carries.{EitherCarried};
@@ -17,7 +17,7 @@ use store_journal::Journal;
 /// Counts the opening of a journal whose bytes, these, hold the machine's documents. In format 1 these bytes give way to the
 /// snapshot of the documents, for which all memory is taken before the device is called.
 ///
-/// `MEMORY`; `NO_ROOM` where a half has no room for that snapshot; `DEVICE`.
+/// `MEMORY`; `NO_ROOM` if a half has no room for that snapshot; `DEVICE`.
 pub(crate) fn settle<D: SectorDevice>(
     alloc: Global,
     journal: &mut Journal<D>,

@@ -24,10 +24,10 @@ impl<D: SectorDevice> Store<D> {
     /// that doesn't count, makes it the one that counts, and answers the new number of used bytes. The
     /// documents and the number of accepted changes stay. A copy that runs is dropped.
     ///
-    /// `BROKEN` where the device failed before; else `FULL` where the frames of these creations are
-    /// longer than a half; `DEVICE` where the device failed in this call. `MEMORY` may come in place of
-    /// any other, before the device is called. All but `DEVICE` leave the device as it was, and all but
-    /// `DEVICE` and `FULL`, which drop a copy that runs, everything else.
+    /// `BROKEN` if the device failed before; else `FULL` if the frames of these creations are longer than a half;
+    /// `DEVICE` if the device failed in this call. `MEMORY` may come in place of any other, before the device is
+    /// called. All but `DEVICE` leave the device as it was, and all but `DEVICE` and `FULL`, which drop a copy that
+    /// runs, everything else.
     pub fn snapshot(&mut self) -> Result<u64, Refusal>
         ensures answer { SnapshotAnswers self.old.account result self.new.account }
         ensures ran { Ran D.disk self.old self.new (snapshot ∷ []) (reply_of Snapped result ∷ []) }

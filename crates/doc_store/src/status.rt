@@ -3,7 +3,7 @@
 /// The status of a store.
 #[derive(Clone, Copy, Debug, PartialEq, Eq)]
 pub struct Status {
-    /// The documents that stand.
+    /// The number of its documents.
     pub documents: u64,
     /// The changes that were accepted since the device was formatted.
     pub seq: u64,

@@ -20,13 +20,12 @@ use sector_device::MemDisk;
 use std::alloc::Global;
 
 impl Store<MemDisk> {
-    /// Lives of a disk, one after another, what each tells, and the store that opens at last. In each life the disk is
-    /// opened through a fuse that passes so many calls and then fails each, the store is asked its events, and the
-    /// power goes: of each sector the crash keeps what the picks name. The last opening has no fuse.
+    /// Lives of a disk, one after another: the part of each, and the store that opens at last. In each life the disk is
+    /// opened through a fuse that passes a given number of calls and then fails each, the store is asked its events,
+    /// and the power goes: of each sector the crash keeps what the picks name. The last opening has no fuse.
     ///
-    /// `MEMORY` where an opening, or what a life has to tell, was refused memory; `NO_ROOM` where an opening was refused
-    /// as that, which a disk in format 1 alone is; `DEVICE` where the disk failed at the last opening, for want of
-    /// memory too.
+    /// `MEMORY` if an opening, or the part of a life, was refused memory; `NO_ROOM` if an opening was refused as that,
+    /// which only a disk in format 1 is; `DEVICE` if the disk failed at the last opening, also if its memory ran out.
     pub fn lives(
         alloc: Global,
         disk: MemDisk,
@@ -53,7 +52,7 @@ impl Store<MemDisk> {
     }
 }
 
-// All lives, one after another: their parts, which don't tell yet what was kept, and the disk after the last crash.
+// All lives, one after another: their parts, which don't have yet what was kept, and the disk after the last crash.
 fn live_all(alloc: Global, disk: MemDisk, lives: Vec<Life>) -> Result<(Vec<Part>, MemDisk), Refusal>
     ensures lived { (s : State) (settled : Bool) → AllStand (mem_disk disk) s → (settled ≡ true → HasOneImage (mem_disk disk)) → IfOk result (λ lived. (t : State) × (now : Bool)
         × TimedIf ((mem_disk disk).failures_saturated → ⊥) (left s (mem_disk disk).seen settled) lives.items (all_with_kept lived.0.items t.seq) (left t (mem_disk lived.1).seen now)

@@ -1,4 +1,4 @@
--- What a document is, with nothing of memory in it: a JSON value (RFC 8259, section 3) whose numbers are whole.
+-- A document, with nothing of memory in it: a JSON value (RFC 8259, section 3) whose numbers are whole.
 use Rattle.std.specs.Prelude.{ℕ, zero, suc, max, ℤ, List, [], ◌∷◌, Bool, Option, Some, None, option_and_then}
 use Rattle.std.specs.Ordering.{nat_cmp, match_ordering}
 use Rattle.std.specs.Cmp.Lexicographic.{slice_cmp}
@@ -44,7 +44,7 @@ abbrev mutual
   members_height no_members = 0
   members_height (member k d ms) = max (height d) (members_height ms)
 
--- the members with d at the name k, in order where they were in order
+-- the members with d at the name k, in order if they were in order
 abbrev pub put : List ℕ → Doc → Members → Members
 put k d no_members = member k d no_members
 put k d (member l e ms) = match_ordering (slice_cmp nat_cmp k l) (member k d (member l e ms)) (member l d ms) (member l e (put k d ms))
@@ -73,17 +73,17 @@ child (name k) (object ms) = get_member k ms
 child (index n) (list ds) = get_element n ds
 child _ _ = None
 
--- what stands at a location, a list of places to be followed in order
+-- the value at a location, which is a list of places to follow in order
 abbrev pub at : List Place → Doc → Option Doc
 at [] d = Some d
 at (p ∷ ps) d = option_and_then (at ps) (child p d)
 
--- the elements, where it is a list
+-- the elements, if it is a list
 abbrev pub as_list : Doc → Option Elements
 as_list (list ds) = Some ds
 as_list _ = None
 
--- the members, where it is an object
+-- the members, if it is an object
 abbrev pub as_object : Doc → Option Members
 as_object (object ms) = Some ms
 as_object _ = None

@@ -1,10 +1,10 @@
--- Which number refuses a text.
+-- The number that refuses a text.
 use Rattle.std.specs.Prelude.{◌≡◌, ◌≢◌, ℕ, Option, Some, None}
 use Rattle.doc_tree.specs.Read.{Reading, document, not_json, not_whole}
 use Rattle.doc_tree.specs.declared.fault.TreeFault.{TreeFault}
 use Rattle.refusals.specs.declared.numbers.TheConstants.{NOT_JSON, NUMBER, MEMORY}
 
--- the number of what a text is read as, where it is refused
+-- the number that refuses a text, by what it is read as, if it is refused
 abbrev pub refusal_of : Reading → Option ℕ
 refusal_of (document d) = None
 refusal_of not_json = Some NOT_JSON

@@ -1,4 +1,4 @@
--- When two documents are equal, as a test (RFC 6902, section 4.6).
+-- The equality of two documents, as a test has it (RFC 6902, section 4.6).
 use Rattle.std.specs.Prelude.{Bool, true, false, ◌&&◌}
 use Rattle.std.specs.Ordering.{int_eq}
 use Rattle.std.specs.Str.{bytes_eq}

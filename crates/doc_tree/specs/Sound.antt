@@ -1,4 +1,4 @@
--- What holds of the document of every tree that is held in memory; a `Doc` by itself may have any numbers, bytes and order.
+-- The property that every document of a tree in memory has; a `Doc` by itself may have any numbers, bytes and order.
 use Rattle.std.specs.Prelude.{◌≡◌, List, ℕ, FitsSigned, ⊤}
 use Rattle.std.specs.Int.{w64}
 use Rattle.std.specs.Ordering.{nat_cmp}
@@ -7,12 +7,12 @@ use Rattle.std.specs.Str.{IsUtf8}
 use Rattle.std.specs.declared.cmp.Ordering.{Ordering}
 use Rattle.doc_tree.specs.Doc.{Doc, null, boolean, int, text, list, object, Elements, no_elements, element, Members, no_members, member}
 
--- the name stands before each of the members'
+-- the name comes before each of the members'
 abbrev pub IsBefore : List ℕ → Members → Type 0
 IsBefore k no_members = ⊤
 IsBefore k (member l d ms) = (slice_cmp nat_cmp k l ≡ Ordering.Less) × IsBefore k ms
 
--- numbers fit 64 bits, texts and names are UTF-8, and members stand in order of their names
+-- numbers fit 64 bits, texts and names are UTF-8, and members are in order of their names
 abbrev mutual
   -- of a document
   pub IsSound : Doc → Type 0

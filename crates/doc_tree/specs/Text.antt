@@ -30,7 +30,7 @@ abbrev mutual
 abbrev pub text_of : Doc → List ℕ
 text_of d = compact_text (data_of d)
 
--- what follows the opening bracket, where `later` says that an element stands before
+-- the text after the opening bracket; `later` says whether an element comes before
 abbrev pub elements_text : Bool → Elements → List ℕ
 elements_text later ds = items_text later (items_of ds)
 

@@ -1,4 +1,4 @@
--- The document that a `Tree` stands for.
+-- The document that a `Tree` represents.
 use Rattle.std.specs.Prelude.{List, [], ◌∷◌, map, String, string_bytes}
 use Rattle.std.specs.declared.alloc.Global.{Global}
 use Rattle.doc_tree.specs.Doc.{Doc, null, boolean, int, text, list, object, Elements, no_elements, element, Members, no_members, member}
@@ -24,7 +24,7 @@ view_step (Tree-F.Text s) = text (string_bytes s)
 view_step (Tree-F.List v) = list (elements_of v.items)
 view_step (Tree-F.Object m) = object (members_of m.entries)
 
--- the document that the tree stands for
+-- the document that the tree represents
 abbrev pub view : Tree → Doc
 view = fold-Tree Doc view_step
 

@@ -1,8 +1,8 @@
-// The quick reader of compact text.
+//! The quick reader of compact text.
 //
-// It states nothing of what it answers: who reads with it compares the tree's text with the bytes
-// (`Tree::strip_text`), and reads with `Tree::read` where nothing is answered. So all that is proved here is
-// that it ends and never panics, whatever the bytes are.
+//! It states nothing of what it answers: its callers compare the tree's text with the bytes (`Tree::strip_text`), and
+//! read with `Tree::read` if nothing is answered. So all that is proved here is that it ends and never panics, whatever
+//! the bytes are.
 use crate::tree::Tree;
 use std::alloc::Global;
 use std::collections::BTreeMap;
@@ -11,15 +11,15 @@ use std::str;
 // How deep lists and objects may nest: as deep as `Tree::read` reads.
 const MOST_LEVELS: u32 = 127;
 
-// Digits of so much or more are followed by none in a number that fits.
+// A number with digits of this value or more is too large with a further digit.
 const DIGITS_END: u64 = 1_000_000_000_000_000_000;
 
 impl Tree {
     /// A document whose compact text the bytes may begin with, and what follows it.
     ///
-    /// Nothing is stated of the answer: `strip_text` tells whether the bytes begin with that document's text.
-    /// `None` says nothing either. It is answered where there is no compact text, and also where that has an
-    /// escape or the number -2^63, is over 127 levels deep, or memory is refused.
+    /// Nothing is stated of the answer: `strip_text` says whether the bytes begin with that document's text. `None`
+    /// says nothing either. It is answered if there is no compact text, and also if that has an escape or the number
+    /// -2^63, is over 127 levels deep, or memory is refused.
     pub fn read_compact(alloc: Global, bytes: &[u8]) -> Option<(Tree, &[u8])> {
         value(alloc, MOST_LEVELS, bytes)
     }
@@ -27,7 +27,7 @@ impl Tree {
 
 /// A text that the bytes may begin with as a JSON string with no escape, and what follows it.
 ///
-/// As with `Tree::read_compact`, nothing is stated of the answer: `strip_quoted` tells.
+/// As with `Tree::read_compact`, nothing is stated of the answer: `strip_quoted` says.
 pub fn read_unescaped(alloc: Global, bytes: &[u8]) -> Option<(String, &[u8])> {
     let inside = bytes.strip_prefix(b"\"")?;
     let end = inside.iter().position(|byte| ends_plain(*byte))?;
@@ -54,7 +54,7 @@ fn value(alloc: Global, levels: u32, bytes: &[u8]) -> Option<(Tree, &[u8])> {
     }
 }
 
-// The elements behind the opening bracket: each takes at least a byte.
+// The elements after the opening bracket: each takes at least a byte.
 #[cycle(compact)]
 fn elements(alloc: Global, levels: u32, bytes: &[u8]) -> Option<(Tree, &[u8])> {
     let mut items = Vec::new(alloc);
@@ -73,7 +73,7 @@ fn elements(alloc: Global, levels: u32, bytes: &[u8]) -> Option<(Tree, &[u8])> {
     None
 }
 
-// The members behind the opening brace.
+// The members after the opening brace.
 #[cycle(compact)]
 fn members(alloc: Global, levels: u32, bytes: &[u8]) -> Option<(Tree, &[u8])> {
     let mut found = BTreeMap::new(alloc);
@@ -93,7 +93,7 @@ fn members(alloc: Global, levels: u32, bytes: &[u8]) -> Option<(Tree, &[u8])> {
     None
 }
 
-// The number that the bytes begin with, also where it has a 0 too many in front.
+// The number that the bytes begin with, also if it has a superfluous 0 in front.
 fn number(bytes: &[u8]) -> Option<(Tree, &[u8])> {
     let (negative, unsigned) = match bytes.strip_prefix(b"-") {
         Some(unsigned) => (true, unsigned),

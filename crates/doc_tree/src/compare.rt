@@ -1,4 +1,4 @@
-// When two documents are one.
+//! The equality of two documents.
 ghost use Rattle.std.specs.Prelude.{◌≡◌, ◌↔◌, IsTrue};
 ghost use Rattle.doc_tree.specs.Same.{same, same_elements, same_members};
 ghost use Rattle.doc_tree.specs.TreeView.{view, elements_view, members_view};

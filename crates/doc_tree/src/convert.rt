@@ -1,4 +1,4 @@
-// From the value that `serde_json` read to a document: texts and names are moved, not copied.
+//! The document that is made of the value which `serde_json` read: texts and names are moved, not copied.
 ghost use Rattle.std.specs.Prelude.{◌≡◌, Some, IfOk, MatchResult};
 ghost use Rattle.serde_json.specs.View.{view as data_view, items_view, members_view as data_members};
 ghost use Rattle.doc_tree.specs.Fault.{IsRefusalOf};

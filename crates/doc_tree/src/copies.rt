@@ -1,4 +1,4 @@
-// A second tree for the same document.
+//! A second tree for the same document.
 ghost use Rattle.std.specs.Prelude.{◌≡◌, IfOk};
 ghost use Rattle.doc_tree.specs.Sound.{IsSound, AreSound, MembersAreSound};
 ghost use Rattle.doc_tree.specs.TreeView.{view, elements_view, members_view};

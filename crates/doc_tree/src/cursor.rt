@@ -1,4 +1,4 @@
-// A walk over the members of an object, in the order of their names.
+//! A walk over the members of an object, in the order of their names.
 ghost use Rattle.std.specs.Prelude.{◌≡◌, ◌↔◌, ℕ, List, IsSome, IsTrue, MatchOption, option_map, pos, string_bytes};
 ghost use Rattle.doc_tree.specs.Cursor.{ahead, IsNext};
 ghost use Rattle.doc_tree.specs.Doc.{Doc, Members, as_object, int, member, no_members, text};
@@ -14,7 +14,7 @@ pub struct MemberCursor {
 }
 
 impl MemberCursor {
-    /// Stands before the first member of an object; `None` for any other value.
+    /// A walk before the first member of an object; `None` for any other value.
     pub fn of(tree: Tree) -> Option<MemberCursor>
         ensures { option_map ahead result ≡ as_object (view tree) }
     {
@@ -34,7 +34,7 @@ impl MemberCursor {
         }
     }
 
-    /// The value of the next member, where that has the name, and the walk behind it; else `None`.
+    /// The value of the next member, if that has the name, and the walk after it; else `None`.
     pub fn take(self, name: &str) -> Option<(Tree, MemberCursor)>
         ensures { MatchOption result
             ((d : Doc) (ms : Members) → ahead self ≡ member name.now d ms → ⊥)
@@ -49,7 +49,7 @@ impl MemberCursor {
         }
     }
 
-    /// The same of a member that is a text; `None` where it is none, too.
+    /// The same of a member that is a text; `None` too if it is none.
     pub fn take_text(self, name: &str) -> Option<(String, MemberCursor)>
         ensures { MatchOption result
             ((s : List ℕ) (ms : Members) → ahead self ≡ member name.now (text s) ms → ⊥)
@@ -62,7 +62,7 @@ impl MemberCursor {
         }
     }
 
-    /// The same of a member that is a number from 0 on; `None` where it is none, too.
+    /// The same of a member that is a number from 0 on; `None` too if it is none.
     pub fn take_number(self, name: &str) -> Option<(u64, MemberCursor)>
         ensures { MatchOption result
             ((n : ℕ) (ms : Members) → ahead self ≡ member name.now (int (pos n)) ms → ⊥)
@@ -78,7 +78,7 @@ impl MemberCursor {
         }
     }
 
-    /// `Some` where no member is left.
+    /// `Some` if no member is left.
     pub fn end(self) -> Option<()>
         ensures { IsSome result ↔ (ahead self ≡ no_members) }
     {

@@ -1,4 +1,4 @@
-// Why bytes are no document.
+//! The reasons why bytes are no document.
 use refusals::numbers::MEMORY;
 use std::alloc::{AllocError, AllocFailed};
 

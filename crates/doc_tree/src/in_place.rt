@@ -1,4 +1,4 @@
-// The members or elements of a tree, lent for writing in place.
+//! The members or elements of a tree, lent for writing in place.
 use crate::tree::Tree;
 use std::collections::BTreeMap;
 

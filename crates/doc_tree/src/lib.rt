@@ -1,8 +1,8 @@
-//! JSON documents whose numbers are 64-bit whole numbers, read and written by `serde_json`.
-//! A `Tree` stands for a pure `Doc` (`view`), and every contract speaks of that alone.
-//! `read` answers a document exactly where `serde_json` reads the bytes and all numbers fit, and `text`
-//! is the compact text. Lengths, heights, equality and locations are exact and take no memory.
-//! Reading the text of a document at most 127 high gives it back, so no two share a text (`laws`).
+//! JSON documents whose numbers are 64-bit whole numbers, read and written by `serde_json`. A `Tree` represents a pure
+//! `Doc` (`view`), and every contract speaks of the `Doc` alone. `read` answers a document exactly when `serde_json`
+//! reads the bytes and all numbers fit, and `text` is the compact text. Lengths, heights, equality and locations are
+//! exact and take no memory. Reading the text of a document at most 127 high gives it back, so no two share a text
+//! (`laws`).
 #![tactic(auto)]
 
 mod compact;

@@ -1,4 +1,4 @@
-// What stands at a location of a document.
+//! The value at a location of a document.
 ghost use Rattle.std.specs.Prelude.{◌≡◌, option_map, map};
 ghost use Rattle.doc_tree.specs.Doc.{child, at, get_element, get_member};
 ghost use Rattle.doc_tree.specs.Doc as place;
@@ -9,7 +9,7 @@ use crate::tree::{Step, Tree};
 use std::collections::BTreeMap;
 
 impl Tree {
-    /// What stands at the end of the steps; the tree itself for none, `None` where a step leads nowhere.
+    /// The value at the end of the steps: the tree itself for no steps, `None` if a step leads nowhere.
     pub fn at(&self, steps: &[Step]) -> Option<&Tree>
         ensures { option_map (λ t. view t.now) result ≡ at (map place_of steps.now) (view self.now) }
     {
@@ -20,7 +20,7 @@ impl Tree {
         Some(here)
     }
 
-    /// The member of that name; `None` where there is none, or no object.
+    /// The member of that name; `None` if there is none, or the value is no object.
     pub fn member(&self, name: &str) -> Option<&Tree>
         ensures { option_map (λ t. view t.now) result ≡ child (place.name name.now) (view self.now) }
     {
@@ -30,7 +30,7 @@ impl Tree {
         }
     }
 
-    /// The element at that index, counted from 0; `None` where there is none, or no list.
+    /// The element at that index, counted from 0; `None` if there is none, or the value is no list.
     pub fn item(&self, index: u64) -> Option<&Tree>
         ensures { option_map (λ t. view t.now) result ≡ child (place.index index) (view self.now) }
     {

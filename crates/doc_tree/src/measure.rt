@@ -1,4 +1,4 @@
-// How deep a document nests.
+//! The height of a document: how deep it nests.
 ghost use Rattle.std.specs.Prelude.{◌≡◌, min};
 ghost use Rattle.doc_tree.specs.Doc.{height, elements_height, members_height};
 ghost use Rattle.doc_tree.specs.Sound.{IsSound, AreSound, MembersAreSound};
@@ -8,8 +8,8 @@ use crate::tree::Tree;
 use std::collections::BTreeMap;
 
 impl Tree {
-    /// How deep lists and objects nest: 0 for a scalar, 1 for an empty container; `u64::MAX` where it is more.
-    /// The walk also shows that the tree is sound: numbers fit, texts are UTF-8, members stand in order.
+    /// How deep lists and objects nest: 0 for a scalar, 1 for an empty container; `u64::MAX` if it is more. The walk
+    /// also shows that the tree is sound: numbers fit, texts are UTF-8, members are in order.
     pub fn height(&self) -> u64
         ensures height { result ≡ min (height (view self.now)) 0xffff_ffff_ffff_ffff }
         ensures sound { IsSound (view self.now) }

@@ -1,4 +1,4 @@
-// From bytes to a document.
+//! The reading of a document from bytes.
 ghost use Rattle.std.specs.Prelude.{◌≡◌, ◌≤◌, IfOk, IfErr};
 ghost use Rattle.doc_tree.specs.Doc.{height};
 ghost use Rattle.doc_tree.specs.Fault.{IsFaultOf};
@@ -16,8 +16,8 @@ use std::alloc::Global;
 impl Tree {
     /// The document that the bytes are, as `serde_json` reads them (RFC 8259).
     ///
-    /// Refuses with `NOT_JSON` where `serde_json` doesn't read the bytes, else with `NUMBER` where
-    /// some number is no whole number from -2^63 to 2^63-1. `MEMORY` may come in place of any answer.
+    /// Refuses with `NOT_JSON` if `serde_json` doesn't read the bytes, else with `NUMBER` if some number is no whole
+    /// number from -2^63 to 2^63-1. `MEMORY` may come in place of any answer.
     pub fn read(alloc: Global, bytes: &[u8]) -> Result<Tree, TreeFault>
         ensures ok { IfOk result (λ t. read_of bytes.now ≡ document (view t)) }
         ensures sound { IfOk result (λ t. IsSound (view t)) }

@@ -1,4 +1,4 @@
-// How long a text would be, with no text made: what room is left after each part.
+//! The length of a text, found without making the text: what room is left after each part.
 ghost use Rattle.std.specs.Fmt.{signed_decimal};
 ghost use Rattle.std.specs.Prelude.{◌≡◌, ◌+◌, ◌<◌, ◌≤◌, false, length, MatchOption};
 ghost use Rattle.std.specs.Option.{SomeIff};
@@ -11,7 +11,7 @@ use crate::tree::Tree;
 use std::collections::BTreeMap;
 
 impl Tree {
-    /// The length in bytes of the compact text; `None` where it is over the limit.
+    /// The length in bytes of the compact text; `None` if it is over the limit.
     pub fn text_len_within(&self, limit: u64) -> Option<u64>
         ensures { let len = length (text_of (view self.now)) in SomeIff result (len ≤ limit) len }
     {
@@ -20,8 +20,8 @@ impl Tree {
     }
 }
 
-/// The length in bytes of the text as a JSON string (RFC 8259, section 7), with its quotes and escapes;
-/// `None` where it is over the limit.
+/// The length in bytes of the text as a JSON string (RFC 8259, section 7), with its quotes and escapes; `None` if it is
+/// over the limit.
 pub fn quoted_len_within(text: &str, limit: u64) -> Option<u64>
     ensures { let len = length (quoted text.now) in SomeIff result (len ≤ limit) len }
 {

@@ -1,4 +1,4 @@
-// A tree as serde's data: one event a value, and members in order of their names.
+//! A tree as serde's data: one event a value, and members in order of their names.
 ghost use Rattle.std.specs.Prelude.{OnOk};
 ghost use Rattle.serde.specs.Event.{Logs};
 ghost use Rattle.serde_json.specs.Data.{array, object};

@@ -1,4 +1,4 @@
-// Whether bytes begin with a document's compact text, with no text made.
+//! The comparison of bytes with the compact text of a document, with no text made.
 ghost use Rattle.std.specs.Fmt.{signed_decimal};
 ghost use Rattle.std.specs.Prelude.{◌≡◌, ◌∷◌, ◌++◌, [], true, false, IfSome};
 ghost use Rattle.json.specs.Print.{quoted, escape, escape_byte};
@@ -36,7 +36,7 @@ pub fn strip_quoted<'b>(text: &str, bytes: &'b [u8]) -> Option<&'b [u8]>
     strip_bytes(b"\"", rest)
 }
 
-/// What follows the first bytes in the second ones, where these begin with them.
+/// The rest of the second bytes after the first ones, if they begin with these.
 pub fn strip_bytes<'b>(first: &[u8], bytes: &'b [u8]) -> Option<&'b [u8]>
     ensures { IfSome result (λ rest. bytes.now ≡ first.now ++ rest.now) }
 {

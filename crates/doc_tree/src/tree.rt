@@ -1,4 +1,4 @@
-// What a document is in memory, and the steps by which its parts are named.
+//! A document in memory, and the steps by which its parts are named.
 use std::collections::BTreeMap;
 
 /// A JSON value (RFC 8259, section 3) whose numbers are 64-bit whole numbers.
@@ -10,7 +10,7 @@ pub enum Tree {
     Text(String),
     /// An array, element by element.
     List(Vec<Tree>),
-    /// An object; its members stand in the order of their names' UTF-8 bytes.
+    /// An object; its members are in the order of their names' UTF-8 bytes.
     Object(BTreeMap<String, Tree>),
 }
 

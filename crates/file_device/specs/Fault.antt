@@ -1,4 +1,4 @@
--- Why a file is not made or opened.
+-- The reasons why a file is not made or opened.
 use Rattle.std.specs.Prelude.{ℕ, List, codes, pos, ◌==◌, ◌||◌, if◌then◌else◌, unsigned_abs, unwrap_or}
 use Rattle.std.specs.IoError.{error_kind, raw_os_error}
 use Rattle.std.specs.declared.io.Error.{Error}
@@ -12,7 +12,7 @@ use Rattle.file_device.specs.declared.fault.SystemFault.{SystemFault}
 use Rattle.file_device.specs.declared.fault.FileFault.{FileFault}
 use Rattle.file_device.specs.declared.fault.FileFault.TheVariants.{InUse, NoSpace, File}
 
--- the system's number of an error, 0 where it gave none
+-- the system's number of an error; 0 if it gave none
 abbrev pub number_of : Error → ℕ
 number_of error = unsigned_abs (unwrap_or (raw_os_error error) (pos 0))
 
@@ -36,14 +36,14 @@ word_of ReadOnly = codes "read-only"
 word_of Descriptors = codes "descriptors"
 word_of Other = codes "other"
 
--- what is told of a call of the system that failed with an error of this kind and number
+-- the fault of a call of the system that failed with an error of this kind and number
 abbrev pub fault_of : ErrorKind → ℕ → FileFault
 fault_of StorageFull errno = NoSpace
 fault_of QuotaExceeded errno = NoSpace
 fault_of FileTooLarge errno = NoSpace
 fault_of kind errno = File (record { cause = cause_of kind errno; errno = errno })
 
--- what is told where a file is not locked
+-- the fault if a file is not locked
 abbrev pub lock_fault_of : TryLockError → FileFault
 lock_fault_of lock.WouldBlock = InUse
 lock_fault_of (lock.Error error) = File (record { cause = cause_of (error_kind error) (number_of error); errno = number_of error })

@@ -4,7 +4,7 @@ use Rattle.sector_device.specs.History.{KeepsTo, disk_after}
 use Rattle.sector_device.specs.Coherence.{coherent_after}
 use Rattle.file_device.specs.declared.file.FileDevice.{FileDevice}
 
--- what its calls made of what it held; it is honest as long as each read gave what stood there
+-- what its calls made of what it held; it is honest as long as each read gave what the sector held
 abbrev pub file_disk : FileDevice → Disk
 file_disk device = disk_after device.sectors device.history device.failures
 

@@ -1,4 +1,4 @@
-// A file as a device of sectors.
+//! A file as a device of sectors.
 ghost use Rattle.std.specs.Prelude.{◌≡◌, ◌<◌, ◌*◌, ◌/◌, ◌^◌, IfOk, OnErr};
 ghost use Rattle.sector_device.specs.Disk.{IsRaised};
 ghost use Rattle.std.specs.Path.{path_bytes};
@@ -23,8 +23,8 @@ const SECTOR_LEN: usize = SECTOR_BYTES as usize;
 const LAST_STREAM: i32 = 2;
 
 /// A file of the operating system that nobody else has opened as such a device. Each call is noted in a history without
-/// bytes, and what the file is as a device is read off that history: what was written stands there, and the device is
-/// honest as long as each read gave what stood there. Two premises lie with the system: that it makes each call as it is
+/// bytes, and what the file is as a device is read off that history: each sector holds what was written to it, and the
+/// device is honest as long as each read gave that. Two premises rest on the system: that it makes each call as it is
 /// noted, and that a crash leaves one of the images of the history.
 #[derive(Drop)]
 pub struct FileDevice {
@@ -55,7 +55,7 @@ impl FileDevice {
 
     /// The file at `path`, which must be there and holds what `held` says: it has as many sectors as its length divided
     /// by 512, rounded down. It is locked against every other opening until it is dropped, however its process ends.
-    /// `Err`: another opening has it, or it can't be opened for reading and writing, or its length can't be told. No
+    /// `Err`: another opening has it, or it can't be opened for reading and writing, or its length can't be found. No
     /// file is made, read or changed.
     pub fn open<R: Files<File = File>>(
         rt: &R,
@@ -72,11 +72,12 @@ impl FileDevice {
         Ok(FileDevice::new(file, length, held))
     }
 
-    /// A new file at `path`, where nothing may exist: `sectors` sectors of zeros, which are written to the disk if
-    /// `blocks` are to be allocated, while `progress` looks on. It has its `rights` before its first byte, and until then
-    /// no more than these. Its contents, its length and its name are synced, so that a crash keeps it. It is locked
-    /// against every other opening until it is dropped. `Err`: something exists there, or the file can't be made with
-    /// this length and these rights, written or synced; then what was made is removed again, if the system does so.
+    /// A new file at `path`, at which nothing may exist: `sectors` sectors of zeros, which are written to the disk if
+    /// `blocks` are to be allocated, while `progress` looks on. It has its `rights` before its first byte, and until
+    /// then no more than these. Its contents, its length and its name are synced, so that a crash keeps it. It is
+    /// locked against every other opening until it is dropped. `Err`: something exists there, or the file can't be made
+    /// with this length and these rights, written or synced; then what was made is removed again, if the system does
+    /// so.
     pub fn create<R: Files<File = File>, P: Progress>(
         rt: &R,
         path: &str,
@@ -122,7 +123,7 @@ impl FileDevice {
     }
 }
 
-// The same file under a descriptor that is no standard stream's: where one of these was closed, the system gives its
+// The same file under a descriptor that is no standard stream's: if one of these was closed, the system gives its
 // number to the next file that is opened, and what is written to the stream would land in the store.
 fn apart_from_streams(file: File) -> io::Result<File> {
     if file.as_raw_fd() > LAST_STREAM {
@@ -154,7 +155,7 @@ fn settle_new<R: Files<File = File>, P: Progress>(
     Ok(file)
 }
 
-// Where the file stands; a bare name stands in the present folder.
+// The folder that the file is in; a bare name is in the present folder.
 fn folder_of(path: &str) -> Path<'_>
     ensures { path_bytes result ≡ folder_of path.now }
 {
@@ -226,7 +227,7 @@ impl SectorDevice for FileDevice {
         }
     }
 
-    /// The system's sync of the file's contents (`fdatasync`). The file's length stands since it was created, so only
+    /// The system's sync of the file's contents (`fdatasync`). The file's length is fixed since it was created, so only
     /// its times are left out, which nothing here reads.
     fn sync(&mut self) -> Result<(), DeviceFault>
         ensures counts { Counts (file_disk self.old) (file_disk self.new) result }

@@ -1,4 +1,4 @@
-// A new file, written full of zeros.
+//! A new file, written full of zeros.
 use std::fs::File;
 use std::io;
 use std::os::unix::fs::FileExt;

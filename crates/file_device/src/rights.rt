@@ -1,4 +1,4 @@
-//! Who may read and write a new file.
+//! The owner, the group and the permission bits of a new file.
 
 use std::fs::{File, Metadata, OpenOptions, Permissions};
 use std::io;
@@ -15,12 +15,12 @@ const ALL: u32 = 0o777;
 /// Those of the group.
 const GROUP: u32 = 0o070;
 
-/// Who may read and write a new file.
+/// The owner, the group and the permission bits of a new file.
 #[derive(Clone, Copy, Debug, PartialEq, Eq)]
 pub enum Rights {
     /// These permission bits, without those that the umask of the process takes away.
     Mode(u32),
-    /// Those of a file that stands, whatever the umask.
+    /// The rights of another file, whatever the umask.
     Same(Standing),
 }
 
@@ -42,8 +42,8 @@ impl Standing {
     }
 }
 
-/// Makes a file, open for reading and writing, where nothing may exist. Until it has its rights only its owner may open
-/// it.
+/// Makes a file, open for reading and writing, at a path at which nothing may exist. Until it has its rights only its
+/// owner may open it.
 pub(crate) fn create_new<R: Files<File = File>>(
     rt: &R,
     path: &str,
@@ -66,8 +66,8 @@ pub(crate) fn settle_rights(file: &File, rights: Rights) -> io::Result<()> {
     }
 }
 
-// Gives a file the owner and the group, where the system lets this process do so, and then the permission bits. To a
-// group that isn't that of the other file no right is given.
+// Gives a file the owner and the group, if the system lets this process do so, and then the permission bits. To a group
+// that isn't that of the other file no right is given.
 fn give(file: &File, standing: Standing) -> io::Result<()> {
     let (owner, group) = (Some(standing.owner), Some(standing.group));
     if fchown(file.as_fd(), owner, group).is_err() {

@@ -1,2 +1,2 @@
--- What the program's own calls answer.
+-- The answers of the program's own calls.
 pub mod Low

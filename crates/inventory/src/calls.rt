@@ -1,4 +1,4 @@
-//! What the program does with its store by calls.
+//! The program's use of its store by calls.
 
 ghost use Rattle.std.specs.Prelude.{IfOk};
 ghost use Rattle.inventory.specs.Low.{AreLow};
@@ -13,7 +13,7 @@ use std::alloc::Global;
 /// Every count on a shelf is a whole number from 0.
 const COUNTS: &[u8] = br#"{"additionalProperties":{"minimum":0,"type":"integer"}}"#;
 
-/// Puts a shelf of that name into the store, with what stands on it, unless it is there, and counts its nuts anew. Each of
+/// Puts a shelf of that name into the store, with its contents, unless it is there, and counts its nuts anew. Each of
 /// the two changes is on the device when its call comes back.
 pub fn take_in<D: SectorDevice>(
     alloc: Global,

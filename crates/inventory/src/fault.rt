@@ -1,4 +1,4 @@
-//! Why the program ended before it was done.
+//! The reasons why the program ended before it was done.
 
 use doc_machine::Refusal;
 use doc_tree::TreeFault;
@@ -10,7 +10,7 @@ use std::io;
 use store_journal::{FormatFault, OpenFault};
 use thiserror::Error;
 
-/// Why the program ended before it was done.
+/// The reasons why the program ended before it was done.
 #[derive(Clone, Copy, Debug, PartialEq, Eq, Error)]
 pub enum Fault {
     /// Memory was refused.

@@ -1,4 +1,4 @@
-//! What the program does with its store by lines, as a service does with what a client sends.
+//! The program's use of its store by lines, as a service does with what a client sends.
 
 use crate::fault::Fault;
 use doc_store::Store;

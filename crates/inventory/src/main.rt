@@ -1,6 +1,6 @@
 //! An inventory that keeps its shelves in a store: how a program embeds the crates.
 //!
-//! The store is in the file `inventory` of the folder that the program runs in, and is made where there is none. The
+//! The store is in the file `inventory` of the folder that the program runs in, and is made if there is none. The
 //! program uses it in both ways: by calls, for what it does itself, and by lines, for what its clients send.
 #![tactic(auto)]
 
@@ -30,7 +30,7 @@ fn keep_inventory(rt: &HostRuntime) -> Result<(), Fault> {
     keep(rt, &mut store)
 }
 
-/// Takes in what came, tells how much is to be ordered, and answers a client's line.
+/// Takes in what came, says how much to order, and answers a client's line.
 fn keep(rt: &HostRuntime, store: &mut Store<FileDevice>) -> Result<(), Fault> {
     let alloc = rt.alloc();
     let mut out = io::writer(rt);

@@ -8,7 +8,7 @@ use std::fs::File;
 use std::rt::Files;
 use store_journal::format;
 
-/// Opens the store in a file, or makes one of so many sectors of 512 bytes where there is no such file.
+/// Opens the store in a file, or makes one of `sectors` sectors of 512 bytes if there is no such file.
 pub fn open_or_make<R: Files<File = File>>(
     rt: &R,
     alloc: Global,

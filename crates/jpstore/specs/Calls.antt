@@ -1,4 +1,4 @@
--- What a program did that a call asks for, by what it kept.
+-- The work of a program for a call, by what it kept.
 use Rattle.std.specs.Prelude.{◌≡◌, ℕ, List, Bool, Option, Result, Ok, Err, IfOk, MatchResult, false, pos, true, codes}
 use Rattle.std.specs.declared.snapshot.Snapshot.{Snapshot}
 use Rattle.command_line.specs.Call.{Asked, format, serve, check, copy, upgrade, mem}
@@ -25,7 +25,7 @@ use Rattle.jpstore.specs.declared.kept.Kept.TheVariants.{Formatted, Served, Chec
 use Rattle.jpstore.specs.declared.opening.Closed.{Closed}
 use Rattle.jpstore.specs.declared.opening.Unopened.{Unopened}
 
--- what was made: so many sectors, a half of which holds so many bytes
+-- the reply of a file that was made: `sectors` sectors, a half of which holds `capacity` bytes
 abbrev pub format_reply : ℕ → ℕ → Doc
 format_reply capacity sectors =
     object (member (codes "capacity") (int (pos capacity)) (member (codes "ok") (boolean true) (member (codes "sectors") (int (pos sectors)) no_members)))

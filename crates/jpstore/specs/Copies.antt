@@ -1,4 +1,4 @@
--- What `copy` makes: a new file with a copy of a store.
+-- The result of `copy`: a new file with a copy of a store.
 use Rattle.std.specs.Prelude.{◌≡◌, ◌⊎◌, ℕ, length, false, None}
 use Rattle.sector_device.specs.Disk.{Disk, Image, LeavesOnly}
 use Rattle.file_device.specs.declared.file.FileDevice.{FileDevice}
@@ -9,8 +9,9 @@ use Rattle.doc_store.specs.Account.{Account}
 use Rattle.doc_store.specs.Copied.{IsCopyOf}
 use Rattle.doc_store.specs.Snapshot.{snapshot_bytes}
 
--- A file was created with so many sectors, and the store copied into it: if all that was read stood there, each image that a crash may leave stands for the
--- same state, opened as often; and what a crash might have left at any moment until now is that, or no store.
+-- A file was created with `sectors` sectors, and the store copied into it: if all reads gave what the file held, each
+-- image that a crash may leave holds the same state, opened as often; and what a crash might have left at any moment
+-- until now is that, or no store.
 pub record IsCopiedFile (sectors : ℕ) (a : Account) (device : FileDevice) : Type 0 where
   pub size : (file_disk device).sectors ≡ sectors
   pub copies : (file_disk device).honest → (image : Image) → (file_disk device).left image → IsCopyOf a image

@@ -1,4 +1,4 @@
--- How a program exits, and what it says on standard error.
+-- The exits of programs, and their lines on standard error.
 use Rattle.std.specs.Prelude.{◌≡◌, ◌⊎◌, ◌++◌, ℕ, List, [], Bool, true, Option, None, Result, Ok, Err, IfSome, unwrap_or}
 use Rattle.std.specs.declared.snapshot.Snapshot.{Snapshot}
 use Rattle.std.specs.Io.KnownBytes.{Appends}
@@ -13,7 +13,7 @@ use Rattle.jpstore.specs.declared.fault.Fault.TheVariants.{Memory}
 use Rattle.jpstore.specs.declared.kept.Exit.{Exit}
 use Rattle.jpstore.specs.declared.kept.Performed.{Performed}
 
--- what is said of a fault: its line, and behind it why, if that was asked
+-- what is said of a fault: its line, and after it why, if that was asked
 abbrev pub said_of : Fault → Asked → Bool → List ℕ
 said_of fault asked why = line_of_fault fault ++ unwrap_or (reason_of fault asked why) []
 

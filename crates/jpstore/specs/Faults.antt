@@ -1,4 +1,4 @@
--- Which fault a program tells.
+-- The fault that a program ends with.
 use Rattle.std.specs.Prelude.{ℕ, List, [], ◌∷◌, ◌++◌, Result, Ok, Err, codes, decimal, if◌then◌else◌}
 use Rattle.file_device.specs.declared.fault.FileFault.{FileFault}
 use Rattle.file_device.specs.declared.fault.FileFault.TheVariants.{InUse, NoSpace, File}

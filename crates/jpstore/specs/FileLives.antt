@@ -16,7 +16,8 @@ use Rattle.store_commits.specs.declared.event.Reply.{Reply}
 use Rattle.doc_store.specs.Stands.{StandsAfter}
 use Rattle.jpstore.specs.Files.{IsOpenedIn, RanIn}
 
--- What a file holds, as it reads and whatever else a crash may leave of it, stands for the state after some of these transactions, each whole, the first of them first.
+-- A file, as it reads and whatever else a crash may leave of it, holds the state after some of these transactions, each
+-- whole, the first of them first.
 abbrev pub HeldStands : State → List Transaction → Snapshot Held → Type 0
 HeldStands state transactions held = (image : Image) → left_after (Opened held) image → StandsAfter state transactions image
 
@@ -39,7 +40,8 @@ abbrev pub OpensToAState : Type 0
 OpensToAState = (state : State) (transactions : List Transaction) (held : Snapshot Held) (opened : StoreView FileDevice) → HeldStands state transactions held → IsOpenedIn held opened → (file_disk opened.device).honest
     → IsStateAfter state transactions opened.account.state
 
--- It leaves the next one a file that stands for its last state, which has every transaction that it answered as done, and for those that the device's failure hit or the first of them.
+-- It leaves the next one a file that holds its last state, which has every transaction that it answered as done, or the
+-- state after some of those that the device's failure hit, the first of them first.
 abbrev pub LeavesItsState : Type 0
 LeavesItsState = (held later : Snapshot Held) (opened closed : StoreView FileDevice) (events : List Event) (replies : List Reply) (went : RanIn held opened closed events replies) → (file_disk closed.device).honest
     → FoundAtEnd closed.device later → HeldStands closed.account.state went.ran.in_doubt later

@@ -1,4 +1,4 @@
--- What the programs do with a store in a file.
+-- The programs over a store in a file.
 use Rattle.std.specs.Prelude.{◌≡◌, ◌≢◌, ◌⊎◌, ℕ, Bool, List, ◌++◌, Option, Result, Ok, Err, true, false, nat_eq, if◌then◌else◌}
 use Rattle.std.specs.declared.snapshot.Snapshot.{Snapshot}
 use Rattle.std.specs.Io.KnownBytes.{Consumes, IsAtEnd}
@@ -42,17 +42,18 @@ pub record RanSomeEvents {D : Type 0} (disk : D → Disk) (old new : StoreView D
 abbrev pub WentToTheEnd : Result (Unit {0}) Fault → Type 0
 WentToTheEnd ended = (ended ≡ Ok tt) ⊎ (ended ≡ Err (fault_of DEVICE)) ⊎ (ended ≡ Err Halted)
 
--- A store was opened in a file that held this. If all that was read stood there, it is what the file stood for, opened one time more, for which a half
--- had room where it was in format 1; and what a crash might have left at any moment until now is an image from before or stands for the same state.
+-- A store was opened in a file that held this. If all reads gave what the file held, it is the state of the file,
+-- opened one time more, for which a half had room if it was in format 1; and what a crash might have left at any moment
+-- until now is an image from before or holds the same state.
 pub record IsOpenedIn (held : Snapshot Held) (store : StoreView FileDevice) : Type 0 where
   pub works : store.account.broken ≡ false
   pub found : (file_disk store.device).honest → IsOpenedFrom held.value.seen.items store.account
   pub any_moment : (file_disk store.device).honest → (image : Image) → (file_disk store.device).left_since 0 image → OldOrStands (disk_after 0 (Opened held) 0) image
   pub standing : IsStanding (file_disk store.device) store.account
 
--- The store in a file that held this was refused, for what its device then was, of this many sectors and failures, or did. If all that was read stood there: where that stands for a state,
+-- The store in a file that held this was refused, for what its device then was, of this many sectors and failures, or did. If all that was read was there: if that holds a state,
 -- the device failed or memory was refused, or it is in format 1 and a half has no room for it in format 2, which is said of nothing else; the file has as
--- many sectors; what a crash might have left at any moment until now is an image from before or stands for that state; and but for the device's failure
+-- many sectors; what a crash might have left at any moment until now is an image from before or holds that state; and but for the device's failure
 -- it is an image from before.
 pub record IsRefusedIn (held : Snapshot Held) (sectors failures : ℕ) (fault : OpenFault FileDevice) : Type 0 where
   pub why : NotOpened (disk_after sectors (Opened held) failures) (file_disk fault.device) fault.number
@@ -76,15 +77,17 @@ IsUnopenedIn held (NoStore fault) = (sectors : ℕ) × IsRefusedIn held sectors 
 pub record RanIn (held : Snapshot Held) (opened closed : StoreView FileDevice) (events : List Event) (replies : List Reply) : Type 0 where
   pub is_opened : IsOpenedIn held opened
   pub ran : RanInBatches file_disk opened closed events replies
-  -- If all that was read stood there: what a crash might have left at any moment is an image from before, or stands for the state that was opened, or for
-  -- that after some of the accepted changes, the first of them first.
+  -- If all reads gave what the file held: what a crash might have left at any moment is an image from before, or holds
+  -- the state that was opened, or that after some of the accepted changes, the first of them first.
   pub any_moment : (file_disk closed.device).honest → (image : Image) → (file_disk closed.device).left_since 0 image
       → OldOrStands (disk_after 0 (Opened held) 0) image ⊎ StandsAfter opened.account.state (ran.dones ++ ran.in_doubt) image
-  -- At the end it stands for the state after all that were answered as done, with or without those that the device's failure hit.
+  -- At the end it holds the state after all that were answered as done, with or without those that the device's failure
+  -- hit.
   pub last : (file_disk closed.device).honest → (image : Image) → (file_disk closed.device).left image → StandsAfter closed.account.state ran.in_doubt image
   pub standing : IsStanding (file_disk closed.device) closed.account
 
--- the options of a session that is to end by its input alone, with batches of so many changes and steps of so many sectors behind them, and whether it halts at the first change that meets a fault
+-- the options of a session that ends by its input alone, with batches of at most `batch` changes and steps of at most
+-- `pump` sectors after them, and whether it halts at the first change that meets a fault
 abbrev pub options_of : ℕ → ℕ → Bool → Options
 options_of batch pump halt = record { batch = batch; pump = pump; turns = TURNS; halt = halt }
 
@@ -109,8 +112,8 @@ pub record IsClosedIn (held : Snapshot Held) (closed : StoreView FileDevice) : T
   pub replies : List Reply
   pub went : RanIn held opened closed events replies
 
--- A file was created with so many sectors, and an empty store in it, in format 2 or 3: if all that was read stood there, each image that a crash may
--- leave carries no bytes in that format, seq 0 and opens 0.
+-- A file was created with `sectors` sectors, and an empty store in it, in format 2 or 3: if all reads gave what the
+-- file held, each image that a crash may leave carries no bytes in that format, seq 0 and opens 0.
 pub record IsFormattedFile (sectors version : ℕ) (device : FileDevice) : Type 0 where
   pub size : (file_disk device).sectors ≡ sectors
   pub empty : (file_disk device).honest → (image : Image) → (file_disk device).left image → Carries (nothing_in (nat_eq version 3)) image

@@ -1,4 +1,4 @@
--- What a client of a store in a file may count on, from the bytes that come in to the bytes that go out.
+-- The promise to a client of a store in a file, from the bytes that come in to the bytes that go out.
 use Rattle.std.specs.Prelude.{◌≡◌, ◌⊎◌, ℕ, List, [], Option, Result, Err}
 use Rattle.std.specs.declared.snapshot.Snapshot.{Snapshot}
 use Rattle.std.specs.Io.KnownBytes.{Appends, IsAtEnd}
@@ -27,7 +27,7 @@ pub record IsKeptIn (held : Snapshot Held) (ended : Result (Unit {0}) Fault) (le
   -- At the end of the input no line is without a reply; and unless the writer failed the lines of the replies are all that was written.
   pub whole : WentToTheEnd ended → (kept.later ≡ []) × IsAtEnd left_new
   pub wrote : (ended ≡ Err (Session Writer) → ⊥) → Appends before after (reply_lines kept.replies)
-  -- If all that was read stood there: what a crash might have left at any moment is an image from before, or stands for the state that was opened, or for one of the ledger; and at the end all that were answered as done last.
+  -- If all that was read was there: what a crash might have left at any moment is an image from before, or holds the state that was opened, or one of the ledger; and at the end all that were answered as done last.
   pub any_moment : (file_disk closed.device).honest → (image : Image) → (file_disk closed.device).left_since 0 image
       → OldOrStands (disk_after 0 (Opened held) 0) image ⊎ IsLeftOf (record kept.promise.ledger { lasting = 0 }) image
   pub at_end : (file_disk closed.device).honest → (image : Image) → (file_disk closed.device).left image → IsLeftOf kept.promise.ledger image

@@ -1,4 +1,4 @@
--- What `mem` does: a session over an empty store on a disk in memory.
+-- The program `mem`: a session over an empty store on a disk in memory.
 use Rattle.std.specs.Prelude.{◌≡◌, ℕ, List, Option, None, false}
 use Rattle.std.specs.Io.KnownBytes.{Consumes, IsAtEnd}
 use Rattle.sector_device.specs.Memory.{mem_disk}
@@ -9,12 +9,13 @@ use Rattle.protocol.specs.Lines.{lines_of}
 use Rattle.serve_lines.specs.Serve.{Serves}
 use Rattle.jpstore.specs.Files.{options_of}
 
--- the account of a store of so many sectors in which nothing was ever made, opened once
+-- the account of a store of `sectors` sectors in which nothing was ever made, opened once
 abbrev pub new_account : ℕ → Account
 new_account sectors = record { state = empty; used = 0; half = 0; rides = false; opens = 1; sectors = sectors; broken = false; copy = None }
 
--- An empty store of so many sectors was served to the end, and works: all that was read is all there was, and what was written is the reply lines of a
--- session over its lines, in which each change is made by itself, and no step of a copy unasked.
+-- An empty store of `sectors` sectors was served to the end, and works: all that was read is all there was, and what
+-- was written is the reply lines of a session over its lines, in which each change is made by itself, and no step of a
+-- copy unasked.
 pub record IsServedInMemory (sectors : ℕ) (left left_new : Option (List ℕ)) (before after : Option (List ℕ)) (closed : StoreView MemDisk) : Type 0 where
   pub opened : StoreView MemDisk
   pub is_new : opened.account ≡ new_account sectors

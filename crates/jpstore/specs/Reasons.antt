@@ -1,4 +1,4 @@
--- Why a file is not made or opened, as a line on standard error.
+-- The reasons why a file is not made or opened, as a line on standard error.
 use Rattle.std.specs.Prelude.{ℕ, List, Bool, Option, Some, None, pos, codes, if◌then◌else◌, option_map}
 use Rattle.command_line.specs.Call.{Asked, format, serve, check, copy, upgrade, mem}
 use Rattle.doc_tree.specs.Doc.{Doc, int, text, object, member, no_members}
@@ -39,6 +39,6 @@ reason_told (told.File fault) asked = option_map (reason_line fault) (file_of as
 reason_told (told.New fault) asked = option_map (reason_line fault) (new_of asked)
 reason_told fault asked = None
 
--- what is said behind the words of a fault of a call, where its words ask why
+-- what is said after the words of a fault of a call, if its words ask why
 abbrev pub reason_of : Fault → Asked → Bool → Option (List ℕ)
 reason_of fault asked why = if why then reason_told fault asked else None

@@ -1,4 +1,4 @@
--- What `upgrade` makes: the store in a file, in another format.
+-- The result of `upgrade`: the store in a file, in another format.
 use Rattle.std.specs.Prelude.{◌≡◌, ◌⊎◌, ℕ, nat_eq, pos, codes, true, if◌then◌else◌}
 use Rattle.std.specs.declared.snapshot.Snapshot.{Snapshot}
 use Rattle.sector_device.specs.Disk.{Image}
@@ -19,8 +19,9 @@ use Rattle.jpstore.specs.Files.{IsOpenedIn}
 abbrev pub format_numbered : ℕ → Format
 format_numbered number = if nat_eq number 3 then Three else Two
 
--- A store was opened in a file that held this, and went as far to a format as its device let it. If all that was read stood there, what a crash might have
--- left at any moment is an image from before, or stands for what was opened, in its format or in that one.
+-- A store was opened in a file that held this, and went as far to a format as its device let it. If all reads gave what
+-- the file held, what a crash might have left at any moment is an image from before, or holds what was opened, in its
+-- format or in that one.
 pub record WentTo (held : Snapshot Held) (format : Format) (opened closed : StoreView FileDevice) : Type 0 where
   pub is_opened : IsOpenedIn held opened
   pub honest : (file_disk closed.device).honest → (file_disk opened.device).honest
@@ -28,12 +29,13 @@ pub record WentTo (held : Snapshot Held) (format : Format) (opened closed : Stor
       → OldOrStands (disk_after 0 (Opened held) 0) image ⊎ InEither opened.account format image
   pub standing : IsStanding (file_disk closed.device) closed.account
 
--- It is in that format: nothing else has changed since it was opened, and each image that a crash may leave is of that format.
+-- It is in that format: nothing else has changed since it was opened, and each image that a crash may leave is in that
+-- format.
 pub record IsUpgraded (format : Format) (opened closed : StoreView FileDevice) : Type 0 where
   pub account_is : closed.account ≡ account_in format opened.account
   pub images : (file_disk closed.device).honest → (image : Image) → (file_disk closed.device).left image → IsImageOf closed.account image
 
--- what is told: the format it is in, and the one it was in when it was opened
+-- the reply: the format it is in, and the one it was in when it was opened
 abbrev pub upgrade_reply : ℕ → ℕ → Doc
 upgrade_reply now before =
     object (member (codes "format") (int (pos now)) (member (codes "from") (int (pos before)) (member (codes "ok") (boolean true) no_members)))

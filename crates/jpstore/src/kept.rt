@@ -1,4 +1,4 @@
-//! What a program kept of its files, and how it exits.
+//! The things that a program kept of its files, and its exit.
 
 ghost use Rattle.std.specs.Prelude.{◌≡◌};
 ghost use Rattle.jpstore.specs.Calls.{end_of, end_of_made, end_of_opened};
@@ -8,7 +8,7 @@ use crate::opening::{Closed, Unopened};
 use crate::programs::{ClosedInMemory, Ended};
 use file_device::FileDevice;
 
-/// What a program kept, by the call that asked for it: the device or the store, as it then stands, or why there is none.
+/// What a program kept, by the call that asked for it: the device or the store, as it then is, or why there is none.
 #[derive(Drop)]
 pub enum Kept {
     /// `format`: the device of the new file.

@@ -4,7 +4,7 @@ ghost use Rattle.jpstore.specs.FileLives.{LeavesAState, LeavesItsState, OpensToA
 use doc_store::laws::one_state_stands;
 
 /// Processes that open one file after another: each goes on from the state that the last one left, which has every
-/// change that was answered as done, or, where it was stopped, from that after some of the changes that it accepted.
+/// change that was answered as done, or, if it was stopped, from that after some of the changes that it accepted.
 pub fn lives_go_on()
     ensures opens { OpensToAState }
     ensures ends { LeavesItsState }

@@ -54,7 +54,7 @@ fn arguments(rt: &HostRuntime) -> io::Result<Vec<String>> {
     Ok(env::args(rt)?.collect(rt.alloc())?)
 }
 
-// What stands behind the program's own name.
+// The words after the program's own name.
 fn words_after_the_name<'a>(alloc: Global, args: &'a [String]) -> io::Result<Vec<&'a str>> {
     let mut words = Vec::new(alloc);
     for word in args.iter().skip(1) {

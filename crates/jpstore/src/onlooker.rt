@@ -1,4 +1,4 @@
-//! Who looks on at a call.
+//! An onlooker of a call.
 
 ghost use Rattle.std.specs.Prelude.{◌≡◌, Option, Some, None};
 ghost use Rattle.jpstore.specs.declared.kept.Performed.{Performed};

@@ -10,8 +10,8 @@ const FIRST: u64 = 1;
 /// The seconds before each further line.
 const LATER: u64 = 5;
 
-/// Tells on a terminal how much of a new file is written: a line after a second, and another every five seconds. On what
-/// is no terminal it says nothing.
+/// Shows on a terminal how much of a new file is written: a line after a second, and another every five seconds. On
+/// what is no terminal it shows nothing.
 #[derive(Drop)]
 pub struct ProgressLine<'a, C, E> {
     clock: &'a C,

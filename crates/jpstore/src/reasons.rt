@@ -1,4 +1,4 @@
-//! Why a file isn't made or opened, as a line on standard error.
+//! The reasons why a file isn't made or opened, as a line on standard error.
 
 ghost use Rattle.std.specs.Prelude.{◌≡◌, None, IfOk, IfSome, OnOk, option_map};
 ghost use Rattle.std.specs.Io.KnownBytes.{Appends};
@@ -16,7 +16,7 @@ use serde::{Described, Serialize, Serializer};
 use std::alloc::{AllocError, Global};
 use std::io::Write;
 
-/// Says why a file was not made or opened, if the order asks for it, behind the words of the fault.
+/// Says why a file was not made or opened, if the order asks for it, after the words of the fault.
 pub fn say_why<E: Write>(
     alloc: Global,
     order: &Order,

@@ -94,7 +94,7 @@ fn delete(rt: &impl Abort, alloc: Global) -> Command {
     }
 }
 
-// The creation of that document, and a change behind it.
+// The creation of that document, and a change after it.
 fn creation_and(rt: &impl Abort, alloc: Global, next: Command) -> Vec<Command> {
     let mut both = Vec::new(alloc);
     both.push(creation(rt, alloc)).expect(rt, "room");
@@ -111,7 +111,7 @@ fn a_transaction_makes_all_of_its_changes_or_none(rt: HostRuntime) {
     transacts(&rt, alloc, &mut store, creation(&rt, alloc), Err(exists));
 }
 
-// The creation and the change behind it, as one transaction, end so; no document is there then.
+// The creation and the change after it, as one transaction, end in this way; no document is there then.
 fn transacts(
     rt: &impl Abort,
     alloc: Global,

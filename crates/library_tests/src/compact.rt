@@ -1,4 +1,4 @@
-//! What the quick reader of compact text reads, of which no clause says anything.
+//! The quick reader of compact text, of which no clause says anything.
 use doc_tree::Tree;
 use std::alloc::Global;
 use std::process::Abort;
@@ -38,7 +38,7 @@ fn other_texts_are_not(rt: HostRuntime) {
     }
 }
 
-/// Whether so many lists within lists are read quickly.
+/// Whether `levels` lists within lists are read quickly.
 fn are_lists_read(rt: &impl Abort, alloc: Global, levels: usize) -> bool {
     let mut text = "[".repeat(alloc, levels).expect(rt, "room");
     let end = "]".repeat(alloc, levels).expect(rt, "room");

@@ -1,4 +1,5 @@
-//! The limits of a frame: how high its trees are, and how long its body is. What is lent of a patch's frame.
+//! The limits of a frame: how high its trees are, and how long its body is; and the parts that are lent of a patch's
+//! frame.
 use doc_tree::Tree;
 use record_text::{Command, RecordFault, frame, patch_frame, read_frame};
 use std::alloc::Global;
@@ -10,7 +11,7 @@ fn patch(rt: &impl Abort, alloc: Global, ops: Tree, if_rev: Option<u64>) -> Comm
     Command::Patch { name, ops, if_rev }
 }
 
-/// Lists within lists, so many, and nothing in the innermost.
+/// Lists within lists, `levels` of them, and nothing in the innermost.
 fn lists(rt: &impl Abort, alloc: Global, levels: usize) -> Tree {
     let mut text = "[".repeat(alloc, levels).expect(rt, "room");
     let end = "]".repeat(alloc, levels).expect(rt, "room");
@@ -36,7 +37,7 @@ fn trees_are_read_that_are_126_high(rt: HostRuntime) {
     assert_eq!(rt; fault_at(&rt, rt.alloc(), 127), Some(RecordFault::Text));
 }
 
-/// The length of the frame of a patch whose operations are a text of so many letters, or why it isn't written.
+/// The length of the frame of a patch whose operations are a text of `letters` letters, or why it isn't written.
 fn frame_len(rt: &impl Abort, alloc: Global, letters: usize) -> Result<usize, RecordFault> {
     let text = "a".repeat(alloc, letters).expect(rt, "room");
     match framed(alloc, patch(rt, alloc, Tree::Text(text), None)) {
@@ -83,7 +84,7 @@ fn the_frame_of_a_patch_is_lent_in_parts(rt: HostRuntime) {
     are_lent(&rt, bytes.as_slice(), len);
 }
 
-// The parts of that frame, of so many bytes, are lent.
+// The parts of that frame, of `len` bytes, are lent.
 fn are_lent(rt: &impl Abort, bytes: &[u8], len: usize) {
     let parts = patch_frame(bytes).expect(rt, "a patch");
     assert_eq!(rt; parts.name, "d");

@@ -1,7 +1,7 @@
 //! Tests of what no line reaches: the quick readers of texts and of patches, frames and patches at their limits, frames
-//! and journals of both formats, revisions that no line spells, pointers as texts, normalized paths that no document has,
-//! nodelists that copy no name, calls that only other programs make, and whole lives of a disk. They stand in a crate of
-//! their own since a crate with tests is proved twice.
+//! and journals of both formats, revisions that no line spells, pointers as texts, normalized paths that no document
+//! has, nodelists that copy no name, calls that only other programs make, and whole lives of a disk. They are in a
+//! crate of their own since a crate with tests is proved twice.
 #![tactic(auto)]
 
 #[cfg(test)]

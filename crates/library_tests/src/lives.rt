@@ -58,7 +58,7 @@ fn lived(rt: &impl Abort, alloc: Global, all: Vec<Life>) -> (Vec<Part>, Store<Me
     }
 }
 
-// What the part of a life tells: opened, replies, accepted, acknowledged, kept, faults of the disk.
+// The contents of a life's part: opened, replies, accepted, acknowledged, kept, faults of the disk.
 type Told = (bool, u64, u64, u64, u64, u64);
 
 fn told(part: &Part) -> Told {
@@ -72,7 +72,7 @@ fn told(part: &Part) -> Told {
     )
 }
 
-// The part of that life tells this.
+// The part of that life has these contents.
 fn tells(rt: &impl Abort, parts: &[Part], life: usize, want: Told) {
     match parts.get(life) {
         Some(part) => assert_eq!(rt; told(part), want),
@@ -80,7 +80,7 @@ fn tells(rt: &impl Abort, parts: &[Part], life: usize, want: Told) {
     }
 }
 
-// The last change that stands.
+// Asserts the number of the last change that is there.
 fn stands_at(rt: &impl Abort, store: &Store<MemDisk>, seq: u64) {
     assert_eq!(rt; store.status().seq, seq);
 }
@@ -93,7 +93,7 @@ fn alone(rt: &impl Abort, alloc: Global, stop: u64, picks: &[u64]) -> Vec<Life> 
     all
 }
 
-// What is told of one creating life with this stop and these picks.
+// Asserts the part of one creating life with this stop and these picks.
 fn one(rt: &impl Abort, alloc: Global, stop: u64, picks: &[u64], want: Told) {
     let (parts, store) = lived(rt, alloc, alone(rt, alloc, stop, picks));
     assert!(rt; parts.len() == 1);
@@ -112,7 +112,7 @@ fn stops_and_picks(rt: HostRuntime) {
     one(&rt, alloc, 3, &[], (false, 0, 0, 0, 0, 0));
 }
 
-// What is told of a creating life with this stop, of which the crash keeps the first write since the last sync, or not.
+// The part of a creating life with this stop, of which the crash keeps the first write since the last sync, or not.
 fn wanted(stop: u64, picked: bool) -> Told {
     let opened = 4 <= stop;
     let accepted = if !opened {
@@ -129,7 +129,7 @@ fn wanted(stop: u64, picked: bool) -> Told {
     } else {
         2
     };
-    // Only behind its commit sector a change that was hit is kept, and where that one is.
+    // Only after its commit sector is a change kept that a fault hit, and only if that sector is kept.
     let hit = picked && (stop == 7 || stop == 12);
     let kept = if hit { done + 1 } else { done };
     (opened, if opened { 2 } else { 0 }, accepted, done, kept, 0)
@@ -155,7 +155,7 @@ fn twice(rt: &impl Abort, alloc: Global, picks: u64) -> Vec<Life> {
     all
 }
 
-// Both changes stand, after so many openings.
+// Both changes are there, after `opens` openings.
 fn stands(rt: &impl Abort, store: &Store<MemDisk>, opens: u64) {
     stands_at(rt, store, 2);
     assert!(rt; store.status().opens == opens);

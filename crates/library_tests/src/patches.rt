@@ -4,7 +4,7 @@ use doc_tree::Tree;
 use std::alloc::Global;
 use std::process::Abort;
 
-/// A list of one text of so many letters.
+/// A list of one text of `letters` letters.
 fn list(rt: &impl Abort, alloc: Global, letters: usize) -> Tree {
     let text = "a".repeat(alloc, letters).expect(rt, "room");
     let mut ops = Vec::new(alloc);
@@ -12,7 +12,7 @@ fn list(rt: &impl Abort, alloc: Global, letters: usize) -> Tree {
     Tree::List(ops)
 }
 
-/// A list of one text of so many letters is no patch, for that reason.
+/// A list of one text of `letters` letters is no patch, for that reason.
 fn has_fault(rt: &impl Abort, alloc: Global, letters: usize, number: u16, op: Option<u64>) {
     let fault = Patch::read(alloc, &list(rt, alloc, letters)).err();
     assert_eq!(rt; fault, Some(PatchFault { number, op }));

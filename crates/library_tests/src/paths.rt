@@ -83,7 +83,7 @@ fn indexes_are_decimal_and_read_back_up_to_two_to_the_53(rt: HostRuntime) {
     is_written(&rt, alloc, &[Step::Index(u64::MAX)], text);
 }
 
-/// So many steps to the eighth element.
+/// `count` steps to the eighth element.
 fn eighths(rt: &impl Abort, alloc: Global, count: usize) -> Vec<Step> {
     let mut steps = Vec::new(alloc);
     for _ in 0..count {
@@ -92,7 +92,7 @@ fn eighths(rt: &impl Abort, alloc: Global, count: usize) -> Vec<Step> {
     steps
 }
 
-/// The path of so many such steps, which has so many bytes.
+/// The path of `count` such steps, which has `bytes` bytes.
 fn path(rt: &impl Abort, alloc: Global, count: usize, bytes: usize) -> String {
     let text = normal_text(alloc, &eighths(rt, alloc, count)).expect(rt, "room");
     assert_eq!(rt; text.len(), bytes);

@@ -1,4 +1,4 @@
-//! What the quick reader of patches reads, which no clause says.
+//! The quick reader of patches, of which no clause says what it reads.
 use doc_patch::Patch;
 use doc_tree::Tree;
 use std::alloc::Global;

@@ -1,4 +1,4 @@
--- For the clauses within the crate: what filters say by the numbers of nodes: the tables, and when they are right.
+-- For the clauses within the crate: the tables of what filters say by the numbers of nodes, and when they are right.
 use Rattle.std.specs.Prelude.{◌≡◌, ⊤, ℕ, Bool, true, false, List, [], ◌∷◌, map, get_or, if◌then◌else◌}
 use Rattle.std.specs.List.{AllByRecursion}
 use Rattle.doc_tree.specs.Doc.{Doc}
@@ -53,7 +53,7 @@ AreRight x ps = AllByRecursion (IsRight x) ps
 abbrev pub AreAllRight : Index → List TableSegment → Type 0
 AreAllRight x ps = AllByRecursion (λ p. AreRight x p.picks.items) ps
 
--- what they stand for
+-- the choices and plans that they represent
 abbrev pub picks_view : List TableSelector → planned.PlanSelectors
 picks_view [] = no_choices
 picks_view (p ∷ rest) = choice (choice_view p.choice.now) (picks_view rest)

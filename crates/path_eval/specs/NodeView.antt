@@ -1,4 +1,4 @@
--- What the code's nodes stand for.
+-- The nodes that the code's types represent.
 use Rattle.std.specs.Prelude.{List, map}
 use Rattle.doc_tree.specs.TreeView.{view}
 use Rattle.doc_tree.specs.Place.{place_of}

@@ -1,4 +1,4 @@
--- For the clauses within the crate: what is selected, and refused, at nodes that a segment visits.
+-- For the clauses within the crate: the nodes that a segment visits, what is selected there, and what is refused.
 use Rattle.std.specs.Prelude.{Bool, true, false, List, [], ◌∷◌, map, flat_map, if◌then◌else◌}
 use Rattle.std.specs.List.{list_any}
 use Rattle.doc_tree.specs.Doc.{Doc, list, object}

@@ -1,4 +1,4 @@
-//! Tests that are to be asked of all nodes, with what their parts say of them.
+//! Tests that must be asked of all nodes, with what their parts say of them.
 use crate::filter_table::FilterTable;
 use crate::table_plan::TableSegment;
 use path_grammar::CompareOp;
@@ -33,6 +33,6 @@ pub enum Asked<'p, 'q> {
 #[derive(Drop)]
 pub struct Sought<'p, 'q> {
     pub side: &'p PlanComparable<'q>,
-    /// Of its plan; none where it has no plan.
+    /// The phases of its plan; none if it has no plan.
     pub phases: Vec<TableSegment<'p, 'q>>,
 }

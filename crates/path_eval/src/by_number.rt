@@ -1,4 +1,4 @@
-//! Evaluating plans by the numbers of nodes: what their filters say stands in tables.
+//! The evaluation of plans by the numbers of nodes: what their filters say is in tables.
 ghost use Rattle.std.specs.Prelude.{◌≡◌, ◌||◌, ◌++◌, ◌∷◌, [], true, filter, IfOk, length, map};
 ghost use Rattle.std.specs.List.{list_any};
 ghost use Rattle.path_plans.specs.Evaluating as evaluating;
@@ -98,7 +98,7 @@ fn picked(
     }
 }
 
-/// The numbers that are listed, and more of them; `Stop::TooMany` where they are too many for a list.
+/// The numbers that are listed, and more of them; `Stop::TooMany` if they are too many for a list.
 fn and_numbers(listed: Vec<usize>, more: Vec<usize>) -> Result<Vec<usize>, Stop>
     ensures { Gives (λ all. all.items) result
         (is_over (length (listed.items ++ more.items))) (listed.items ++ more.items) }

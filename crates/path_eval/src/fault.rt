@@ -1,4 +1,4 @@
-//! Why a query is refused.
+//! The refusal of a query.
 ghost use Rattle.std.specs.Prelude.{◌≡◌};
 ghost use Rattle.path_eval.specs.Answer.{number_of};
 

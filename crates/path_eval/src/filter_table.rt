@@ -19,7 +19,7 @@ pub enum FilterOutcome {
 pub struct FilterTable {
     /// In the order of the nodes' numbers.
     pub said: Vec<FilterOutcome>,
-    /// Of the root, for which all further numbers stand.
+    /// The answer on the root, and on every further number.
     pub top: FilterOutcome,
 }
 

@@ -1,4 +1,4 @@
-//! What follows from the definitions. Each function does nothing: its contract is the law.
+//! Laws of the definitions. Each function does nothing: its contract is the law.
 ghost use Rattle.std.specs.Prelude.{◌≡◌, ◌≤◌, ◌^◌, ◌∷◌, [], false, length, List, map, Some};
 ghost use Rattle.std.specs.List.{AllByRecursion};
 ghost use Rattle.doc_tree.specs.Doc.{at, Doc, Place};
@@ -15,8 +15,8 @@ ghost use Rattle.path_plans.specs.TooMany.{too_many};
 
 use path_parse::normal_laws::{locations_have_exact_indexes, spells_its_query_only};
 
-/// The value of each node that a query selects is what stands at the node's location. Every document that a `Tree`
-/// stands for is sound.
+/// The value of each node that a query selects is the value at the node's location. Every document that a `Tree`
+/// represents is sound.
 pub fn nodes_stand_at_their_locations()
     ensures { (d : Doc) (q : Segments) → IsSound d → AllByRecursion (λ n. at n.0 d ≡ Some n.1) (nodelist_of d q) }
 {}
@@ -26,7 +26,7 @@ pub fn descendants_are_the_places()
     ensures { (d : Doc) → map (λ n. n.0) (descendants d) ≡ places d }
 {}
 
-/// The query of a location's names and indexes selects the node that stands there and no other, in every document, and
+/// The query of a location's names and indexes selects the node at that location and no other, in every document, and
 /// is not refused there.
 pub fn location_is_its_only_node()
     ensures alone { (document found : Doc) (steps : List Place) → at steps document ≡ Some found

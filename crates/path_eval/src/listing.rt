@@ -34,7 +34,7 @@ use path_select::paths::{Mark, Spot, Walk, path_to};
 use path_select::stop::Stop;
 use std::alloc::{AllocError, Global};
 
-/// The nodes that are listed, and what is taken of the node; of all that stands below it too, if so asked.
+/// The nodes that are listed, and what is taken of the node; of all that is below it too, if that is asked for.
 fn and_taken<'t>(
     descend: bool,
     choices: &Vec<PlanSelector<'_>>,
@@ -112,7 +112,7 @@ fn spots_of<'t>(
     Ok(spots)
 }
 
-/// The nodes that the plan selects from the root on, where each filter is asked once of each node.
+/// The nodes that the plan selects from the root on, with each filter asked once of each node.
 fn list_by_numbers<'t>(plan: &Plan<'_>, alloc: Global, root: &'t Tree) -> Result<Walk<'t>, Stop>
     ensures { let q = plan_view plan.now in
         Gives seen result (plan_refused q (only_node (view root.now))) (listed q (only_node (view root.now))) }
@@ -189,8 +189,8 @@ fn owned<'t>(alloc: Global, walk: &Walk<'t>) -> Result<Vec<Node<'t>>, AllocError
 /// document lends (RFC 9535, sections 2.3 and 2.5). Descendants are visited in preorder, members in the order of their
 /// names' bytes.
 ///
-/// `PATH_NODES` exactly where the list after some segment has more than `limits::NODES` nodes, be it of the query or of
-/// a query in a filter; all operands of a filter are evaluated. `MEMORY` may stand in place of any answer.
+/// `PATH_NODES` exactly when the list after some segment has more than `limits::NODES` nodes, be it of the query or of
+/// a query in a filter; all operands of a filter are evaluated. `MEMORY` may come in place of any answer.
 pub fn nodes<'t>(alloc: Global, query: &Query, tree: &'t Tree) -> Result<Vec<Node<'t>>, EvalFault>
     ensures ok { IfOk result (λ found. AreNodes (view tree.now) (query_view query.now) found.items) }
     ensures err { IfErr result (IsFaultOf (view tree.now) (query_view query.now)) }

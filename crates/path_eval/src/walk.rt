@@ -1,5 +1,5 @@
-//! What choices take of a value and of all values below it (RFC 9535, section 2.5.2). A value that is visited has a
-//! place in the trail as long as something may be selected below it, and keeps it where something was.
+//! The children that choices take of a value and of all values below it (RFC 9535, section 2.5.2). A value that is
+//! visited has a place in the trail as long as something may be selected below it, and keeps it if something was.
 ghost use Rattle.std.specs.Prelude.{◌≡◌, ◌++◌, ◌∷◌, [], false, length, map};
 ghost use Rattle.doc_tree.specs.TreeView.{elements_view, members_view, view};
 ghost use Rattle.path_eval.specs.Listed.{Goes, IsReady, Walks};
@@ -21,8 +21,8 @@ use path_select::stop::Stop;
 use std::alloc::Global;
 use std::collections::BTreeMap;
 
-/// The nodes that are listed, and the children of what stands at the place; `Stop::TooMany` where they are too many for
-/// a list.
+/// The nodes that are listed, and the children of the value at the place; `Stop::TooMany` if they are too many for a
+/// list.
 fn and_nodes<'t>(place: usize, walk: Walk<'t>, more: Vec<Child<'t>>) -> Result<Walk<'t>, Stop>
     requires { IsReady place walk }
     ensures { Goes walk.entry false (map (child_at (location walk.entry.trail.items place)) (children_of more.entry.items)) result }

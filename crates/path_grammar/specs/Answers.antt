@@ -1,4 +1,4 @@
--- What can be said of a text: it spells one query in profile, only queries outside it, or none.
+-- The three answers to a text: it spells one query in profile, only queries outside it, or none.
 use Rattle.std.specs.Prelude.{◌≡◌, true}
 use Rattle.path_grammar.specs.Syntax.{Segments}
 use Rattle.path_grammar.specs.Characters.{Text}

@@ -1,6 +1,6 @@
--- Which texts spell which queries: the productions of RFC 9535 (its Appendix A puts them together), with the types
--- of functions (section 2.4.3) and the range of indexes (section 2.1). Each family is named after a production, each
--- constructor is one of its choices, and a text in quotes is the production's.
+-- The grammar: which texts spell which queries, by the productions of RFC 9535 (its Appendix A puts them together),
+-- with the types of functions (section 2.4.3) and the range of indexes (section 2.1). Each family is named after a
+-- production, each constructor is one of its choices, and a text in quotes is the production's.
 use Rattle.std.specs.Prelude.{codes, ◌≡◌, Bool, true, false, ◌&&◌, List, ℕ, [], ◌++◌, Option, Some, None, ℤ}
 use Rattle.doc_tree.specs.Doc.{null, boolean, text}
 use Rattle.path_grammar.specs.declared.compare_op.CompareOp.{CompareOp}
@@ -10,7 +10,7 @@ use Rattle.path_grammar.specs.Characters.{Text, Blanks, Shorthand}
 use Rattle.path_grammar.specs.Strings.{StringLiteral}
 use Rattle.path_grammar.specs.Numbers.{Int, Number}
 
--- ---- selectors without a filter (section 2.3), and what stands after a dot (sections 2.5.1.1 and 2.5.2.1)
+-- ---- selectors without a filter (section 2.3), and what follows a dot (sections 2.5.1.1 and 2.5.2.1)
 
 -- `name-selector` (2.3.1.1) or `index-selector` (2.3.3.1): what a bracket of a singular query holds
 pub data SingularSelectorAt : Selector → Text → Text → Type 0 where
@@ -85,7 +85,7 @@ mutual
     a_slice : {a b c : Option ℤ} {t u v w r : Text} → SliceBoundAt a t (codes ":" ++ u) → Blanks u v → SliceBoundAt b v w → SliceStepAt c w r → SelectorAt (slice_selector a b c) t r
     a_filter : {e : Expression} {t u r : Text} → Blanks t u → LogicalOrAt e u r → SelectorAt (filter_selector e) (codes "?" ++ t) r
 
-  -- `logical-expr`, which is `logical-or-expr`: one part stands for itself
+  -- `logical-expr`, which is `logical-or-expr`: one part alone is that part itself
   pub data LogicalOrAt : Expression → Text → Text → Type 0 where
     one_conjunction : {e : Expression} {t r : Text} → LogicalAndAt e t r → LogicalOrAt e t r
     disjunction : {e : Expression} {es : Expressions} {t u r : Text} → LogicalAndAt e t u → MoreOrAt es u r → LogicalOrAt (logical_or (expression e es)) t r
@@ -95,7 +95,7 @@ mutual
     last_disjunct : {e : Expression} {t u v r : Text} → Blanks t (codes "||" ++ u) → Blanks u v → LogicalAndAt e v r → MoreOrAt (expression e no_expressions) t r
     more_disjuncts : {e : Expression} {es : Expressions} {t u v w r : Text} → Blanks t (codes "||" ++ u) → Blanks u v → LogicalAndAt e v w → MoreOrAt es w r → MoreOrAt (expression e es) t r
 
-  -- `logical-and-expr`: one part stands for itself
+  -- `logical-and-expr`: one part alone is that part itself
   pub data LogicalAndAt : Expression → Text → Text → Type 0 where
     one_basic_expression : {e : Expression} {t r : Text} → BasicExpressionAt e t r → LogicalAndAt e t r
     conjunction : {e : Expression} {es : Expressions} {t u r : Text} → BasicExpressionAt e t u → MoreAndAt es u r → LogicalAndAt (logical_and (expression e es)) t r

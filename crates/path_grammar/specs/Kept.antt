@@ -1,5 +1,5 @@
--- No definition of the grammar: a device of its proofs. What reading keeps of a query, where placeholders stand for
--- what the profile leaves out, `null` for a literal and an empty `or` for a call.
+-- No definition of the grammar: a device of its proofs. It says what reading keeps of a query: placeholders represent
+-- what the profile leaves out, `null` a literal and an empty `or` a call.
 use Rattle.std.specs.Prelude.{if◌then◌else◌}
 use Rattle.path_grammar.specs.Syntax.{Literal, json, Selector, name_selector, wildcard_selector, index_selector, filter_selector, slice_selector, Selectors, no_selectors, selector, Segments, no_segments, segment, Expression, logical_or, logical_and, logical_not, existence, comparison, match_of, search_of, Expressions, no_expressions, expression, Operand, literal, singular_query, length_of, count_of, value_of}
 use Rattle.doc_tree.specs.Doc.{null}

@@ -4,7 +4,7 @@ use Rattle.doc_tree.specs.Doc.{int}
 use Rattle.path_grammar.specs.Syntax.{Literal, json, decimal}
 use Rattle.path_grammar.specs.Characters.{Text, is_digit, is_nonzero_digit, Run}
 
--- any number of digits after digits that stand for n: the number of all of them
+-- any number of digits after digits with the value n: the number of all of them
 pub data Digits : ℕ → ℕ → Text → Text → Type 0 where
   no_digit : {n : ℕ} {t : Text} → Digits n n t t
   digit : {n m c : ℕ} {t r : Text} → is_digit c ≡ true → Digits (n * 10 + (c - 48)) m t r → Digits n m (c ∷ t) r

@@ -1,5 +1,5 @@
--- What the profile leaves out of RFC 9535: `match` and `search` (sections 2.4.6 and 2.4.7), and number literals that
--- are no whole numbers of 64 bits, written without fraction and exponent.
+-- The parts of RFC 9535 that the profile leaves out: `match` and `search` (sections 2.4.6 and 2.4.7), and number
+-- literals that are no whole numbers of 64 bits, written without fraction and exponent.
 use Rattle.std.specs.Prelude.{◌≡◌, ◌^◌, Bool, true, false, ◌||◌, not, nat_lt, ℤ, pos, negsuc}
 use Rattle.path_grammar.specs.Syntax.{Literal, json, decimal, Selector, name_selector, wildcard_selector, index_selector, filter_selector, slice_selector, Selectors, no_selectors, selector, Segments, no_segments, segment, Expression, logical_or, logical_and, logical_not, existence, comparison, match_of, search_of, Expressions, no_expressions, expression, Operand, literal, singular_query, length_of, count_of, value_of}
 use Rattle.doc_tree.specs.Doc.{int}

@@ -35,7 +35,7 @@ read_index_or_slice t =
 unfoldable pub read_plain_selector : Text → Option (Selector × Text)
 read_plain_selector t = if begins_string t then (read_string t >>= λ x. Some (name_selector x.0, x.1)) else read_index_or_slice t
 
--- after one dot or two; whether it may stand in a singular query, and then that nothing is left out
+-- the selectors after one dot or two; whether a singular query may have them, and then that nothing is left out
 unfoldable pub read_dotted : Text → Option (Selectors × Bool × Bool × Text)
 read_dotted t =
     on (after "*" t) (λ r. Some (selector wildcard_selector no_selectors, false, false, r))
@@ -55,11 +55,11 @@ read_comparison_op t =
     (on (after "<" t) (read_with_equals LessEqual Less)
     (on (after ">" t) (read_with_equals GreaterEqual Greater) None)))
 
--- `@` or `$`, which says where a query begins
+-- `@` or `$`, by which a query begins at the current node or at the root
 abbrev pub read_identifier : Text → Option (Bool × Text)
 read_identifier t = on (after "@" t) (λ r. Some (false, r)) (on (after "$" t) (λ r. Some (true, r)) None)
 
--- parts together, one standing for itself
+-- parts together; one alone is that part itself
 abbrev pub join_parts : (Expressions → Expression) → Expression → Expressions → Expression
 join_parts make e no_expressions = e
 join_parts make e (expression f rest) = make (expression e (expression f rest))
@@ -103,7 +103,7 @@ abbrev pub begins_query : Text → Bool
 begins_query [] = false
 begins_query (c ∷ t) = (c == 64) || (c == 36)
 
--- `inner` reads what stands in a filter or in parentheses, and `argument` a Value argument
+-- `inner` reads the inside of a filter or of parentheses, and `argument` a Value argument
 module _ (inner : Text → Option (Expression × Bool × Text)) (read_argument : Text → Option (Operand × Bool × Text)) where
   -- `selector`
   unfoldable pub read_selector : Text → Option (Selector × Bool × Text)
@@ -119,7 +119,7 @@ module _ (inner : Text → Option (Expression × Bool × Text)) (read_argument :
       on (after "]" (skip t)) (λ r. Some (no_selectors, false, r))
       (after "," (skip t) >>= λ u. read_selector (skip u) >>= λ x. read_more_selectors k x.2 >>= λ y. Some (selector x.0 y.0, x.1 || y.1, y.2))
 
-  -- after the opening bracket; whether it may stand in a singular query, and then what is left out
+  -- the selectors after the opening bracket; whether a singular query may have them, and then what is left out
   unfoldable pub read_bracketed : Text → Option (Selectors × Bool × Bool × Text)
   read_bracketed t =
       read_selector (skip t) >>= λ x.

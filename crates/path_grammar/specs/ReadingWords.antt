@@ -9,18 +9,18 @@ use Rattle.path_grammar.specs.Characters.{Text, is_blank, is_digit, is_nonzero_d
 use Rattle.path_grammar.specs.Strings.{is_hex_digit, hex_value, is_high_surrogate, is_low_surrogate, surrogate_pair, is_unescaped, escapable}
 use Rattle.path_grammar.specs.Numbers.{is_exact, is_e, number_of}
 
--- goes on with a value, where there is one
+-- goes on with a value, if there is one
 infixl 10 ◌>>=◌
 abbrev pub ◌>>=◌ : {A B : Type 0} → Option A → (A → Option B) → Option B
 None >>= f = None
 (Some x) >>= f = f x
 
--- one way where there is a value, and another where there is none
+-- one way if there is a value, and another if there is none
 abbrev pub on : {A B : Type 0} → Option A → (A → B) → B → B
 on None f d = d
 on (Some x) f d = f x
 
--- what follows the character, where the text begins with it
+-- what follows the character, if the text begins with it
 abbrev pub after_character : ℕ → Text → Option Text
 after_character c [] = None
 after_character c (d ∷ t) = if d == c then Some t else None
@@ -61,7 +61,7 @@ begins p (c ∷ t) = p c
 
 -- ---- strings
 
--- a hexadecimal digit after digits that stand for n
+-- a hexadecimal digit after digits with the value n
 abbrev pub read_hex_digit : ℕ → Text → Option (ℕ × Text)
 read_hex_digit n [] = None
 read_hex_digit n (c ∷ t) = if is_hex_digit c then Some (n * 16 + hex_value c, t) else None
@@ -83,11 +83,11 @@ abbrev pub read_short_escape : ℕ → Text → Option (ℕ × Text)
 read_short_escape q [] = None
 read_short_escape q (d ∷ t) = on (escapable q d) (λ c. Some (c, t)) None
 
--- what stands after a backslash, between two of this quote
+-- the character that is written after a backslash, between two of this quote
 unfoldable pub read_escaped : ℕ → Text → Option (ℕ × Text)
 read_escaped q t = on (after "u" t) read_hex_escape (read_short_escape q t)
 
--- a character that stands for itself between two of this quote
+-- a character that is itself between two of this quote
 abbrev pub read_unescaped : ℕ → Text → Option (ℕ × Text)
 read_unescaped q [] = None
 read_unescaped q (c ∷ t) = if is_unescaped q c then Some (c, t) else None
@@ -116,7 +116,7 @@ begins_string (c ∷ t) = (c == 34) || (c == 39)
 
 -- ---- numbers
 
--- the number of the digits, after digits that stand for n
+-- the number of the digits, after digits with the value n
 abbrev pub read_digits : ℕ → Text → ℕ × Text
 read_digits n [] = (n, [])
 read_digits n (c ∷ t) = if is_digit c then read_digits (n * 10 + (c - 48)) t else (n, c ∷ t)

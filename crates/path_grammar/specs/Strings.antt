@@ -18,16 +18,16 @@ is_high_surrogate n = nat_le 55296 n && nat_le n 56319
 abbrev pub is_low_surrogate : ℕ → Bool
 is_low_surrogate n = nat_le 56320 n && nat_le n 57343
 
--- the code point that a high and a low surrogate stand for
+-- the code point that a high and a low surrogate represent
 abbrev pub surrogate_pair : ℕ → ℕ → ℕ
 surrogate_pair high low = 65536 + (high - 55296) * 1024 + (low - 56320)
 
--- what stands for itself between two quotes: `unescaped` and the other quote
+-- a character that is itself between two quotes: `unescaped` and the other quote
 abbrev pub is_unescaped : ℕ → ℕ → Bool
 is_unescaped quote c = nat_le 32 c && (not (c == quote) && not (c == 92))
 
--- what a character stands for after a backslash: the quote for itself; or, as `escapable`, `b` for U+0008, `f` for
--- U+000C, `n` for U+000A, `r` for U+000D, `t` for U+0009, `/` and `\` for themselves
+-- the character that is meant by one after a backslash: the quote is itself; or, as `escapable`, `b` is U+0008, `f`
+-- U+000C, `n` U+000A, `r` U+000D, `t` U+0009, and `/` and `\` are themselves
 abbrev pub escapable : ℕ → ℕ → Option ℕ
 escapable quote c =
     if c == quote then Some quote else
@@ -39,7 +39,7 @@ escapable quote c =
     if c == 47 then Some 47 else
     if c == 92 then Some 92 else None
 
--- a hexadecimal digit after digits that stand for n: the number of all of them
+-- a hexadecimal digit after digits with the value n: the number of all of them
 pub data HexDigit : ℕ → ℕ → Text → Text → Type 0 where
   hex_digit : {n c : ℕ} {r : Text} → is_hex_digit c ≡ true → HexDigit n (n * 16 + hex_value c) (c ∷ r) r
 
@@ -47,8 +47,8 @@ pub data HexDigit : ℕ → ℕ → Text → Text → Type 0 where
 pub data FourHexDigits : ℕ → Text → Text → Type 0 where
   four_hex_digits : {a b c d : ℕ} {t u v w r : Text} → HexDigit 0 a t u → HexDigit a b u v → HexDigit b c v w → HexDigit c d w r → FourHexDigits d t r
 
--- what stands after a backslash: `escapable` or the quote; or `u` and `hexchar`, four digits that are no surrogate or
--- a high surrogate and, after another `\u`, a low one
+-- the text after a backslash: `escapable` or the quote; or `u` and `hexchar`, four digits that are no surrogate or a
+-- high surrogate and, after another `\u`, a low one
 pub data Escaped : ℕ → ℕ → Text → Text → Type 0 where
   short_escape : {quote c d : ℕ} {r : Text} → escapable quote d ≡ Some c → Escaped quote c (d ∷ r) r
   hex_escape : {quote n : ℕ} {t r : Text} → FourHexDigits n t r → is_high_surrogate n ≡ false → is_low_surrogate n ≡ false → Escaped quote n (codes "u" ++ t) r
@@ -60,7 +60,7 @@ pub data Quoted : ℕ → List ℕ → Text → Text → Type 0 where
   unescaped : {quote c : ℕ} {cs : List ℕ} {t r : Text} → is_unescaped quote c ≡ true → Quoted quote cs t r → Quoted quote (c ∷ cs) (c ∷ t) r
   escaped : {quote c : ℕ} {cs : List ℕ} {t u r : Text} → Escaped quote c t u → Quoted quote cs u r → Quoted quote (c ∷ cs) (codes "\\" ++ t) r
 
--- `string-literal`: what it stands for, as UTF-8 bytes
+-- `string-literal`: the text that it spells, as UTF-8 bytes
 pub data StringLiteral : List ℕ → Text → Text → Type 0 where
   double_quoted : {cs : List ℕ} {t r : Text} → Quoted 34 cs t r → StringLiteral (encode_utf8_all cs) (codes "\"" ++ t) r
   single_quoted : {cs : List ℕ} {t r : Text} → Quoted 39 cs t r → StringLiteral (encode_utf8_all cs) (codes "'" ++ t) r

@@ -30,8 +30,8 @@ mutual
     no_segments : Segments
     segment : Bool → Selectors → Segments → Segments
 
-  -- `logical-expr`, section 2.3.5.1. A query stands as whether it begins at the root (`$`, else `@`), and its
-  -- segments. `match` and `search` are those of sections 2.4.6 and 2.4.7
+  -- `logical-expr`, section 2.3.5.1. A query has its segments, and says whether it begins at the root (`$`, else `@`).
+  -- `match` and `search` are those of sections 2.4.6 and 2.4.7
   pub data Expression : Type 0 where
     logical_or : Expressions → Expression
     logical_and : Expressions → Expression

@@ -1,4 +1,4 @@
-//! What follows from the definitions. Each function does nothing: its contract is the law.
+//! Laws of the definitions. Each function does nothing: its contract is the law.
 
 ghost use Rattle.std.specs.Prelude.{◌≡◌, ◌↔◌, ℕ, ℤ, List, Bool, true, false, Some};
 ghost use Rattle.path_grammar.specs.Characters.{Text, Shorthand, is_digit, is_name_char};
@@ -24,7 +24,7 @@ pub fn reading_is_the_grammar()
 {}
 
 /// Each word of a query is read as its production has it: `member-name-shorthand`, `string-literal`, an index's `int`
-/// and `number`; where what follows can't go on with the word, what is spelled is what is read.
+/// and `number`; if what follows can't go on with the word, what is spelled is what is read.
 pub fn words_are_their_productions()
     ensures names { (t : Text) (x : List ℕ × Text) → read_shorthand t ≡ Some x → Shorthand x.0 t x.1 }
     ensures names_back { (n : List ℕ) (t r : Text) → Shorthand n t r → begins is_name_char r ≡ false → read_shorthand t ≡ Some (n, r) }

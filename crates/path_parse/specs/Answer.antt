@@ -1,4 +1,4 @@
--- What reading a text answers.
+-- The answer to a text that is read.
 use Rattle.std.specs.Prelude.{◌≡◌, ◌⊎◌, ◌≤◌, ◌<◌, ℕ, List, length, chars}
 use Rattle.path_grammar.specs.Characters.{Text}
 use Rattle.path_grammar.specs.Answers.{SpellsOnly, SpellsLeftOut, SpellsNone}

@@ -1,4 +1,4 @@
--- For the clauses within the crate: what a function of the reader returned is what reading gives.
+-- For the clauses within the crate: the answers of the reader's functions, which are what reading gives.
 use Rattle.std.specs.Prelude.{◌≡◌, ⊤, ℕ, List, [], ◌∷◌, Bool, ◌||◌, Option, Some, None, Result, Ok, Err}
 use Rattle.path_grammar.specs.Syntax.{Expression, Expressions, Operand, Segments, Selectors, logical_not, selector}
 use Rattle.path_grammar.specs.declared.compare_op.CompareOp.{CompareOp}
@@ -12,7 +12,7 @@ use Rattle.path_parse.specs.declared.syntax.Selector.{Selector}
 use Rattle.path_parse.specs.declared.syntax.Source.{Source}
 use Rattle.path_parse.specs.SyntaxView.{selector_view, selectors_view, source_root, source_query}
 
--- reading stops where nothing is read, or for want of memory
+-- reading stops if nothing is read, or if memory ran out
 abbrev pub Stops : {Y : Type 0} → Stop → Option Y → Type 0
 Stops Memory read = ⊤
 Stops Syntax read = read ≡ None
@@ -22,7 +22,7 @@ abbrev pub Gives : {X Y : Type 0} → (X → Y) → Result X Stop → Option Y �
 Gives view (Ok x) read = read ≡ Some (view x)
 Gives view (Err e) read = Stops e read
 
--- a reader of what may hold expressions and arguments, at most so many calls, parentheses and filters deep
+-- a reader of what may hold expressions and arguments, at most `depth` calls, parentheses and filters deep
 abbrev pub at_depth : {A : Type 0} → ((Text → Option (Expression × Bool × Text)) → (Text → Option (Operand × Bool × Text)) → A) → ℕ → A
 at_depth reader depth = reader (read_expression depth) (read_argument depth)
 

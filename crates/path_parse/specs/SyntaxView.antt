@@ -1,4 +1,4 @@
--- What the code's syntax stands for.
+-- The queries that the code's syntax represents.
 use Rattle.std.specs.Prelude.{Bool, List, string_bytes, [], ◌∷◌}
 use Rattle.doc_tree.specs.TreeView.{view}
 use Rattle.path_grammar.specs.Syntax
@@ -14,7 +14,7 @@ use Rattle.path_parse.specs.declared.syntax.Operand.{Operand, Literal, Single, L
 abbrev pub source_root : Source → Bool
 source_root (Source' root q) = root
 
--- what the code's query and its parts stand for
+-- the query and its parts that the code's types represent
 abbrev mutual
   -- a query
   pub query_view : Query → Syntax.Segments

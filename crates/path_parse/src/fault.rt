@@ -1,4 +1,4 @@
-//! Why a text is refused as a query.
+//! The refusal of a text that is no query.
 
 use refusals::numbers::MEMORY;
 use std::alloc::{AllocError, AllocFailed};

@@ -217,7 +217,7 @@ fn with_conjuncts<'t>(
     })
 }
 
-/// `logical-and-expr`; one part stands for itself
+/// `logical-and-expr`; one part alone is that part itself
 #[cycle(parser)]
 #[tactic(auto, unfolding(path_grammar::specs::Reading::read_logical_and, path_grammar::specs::Reading::read_parts), using(crate::proofs::Loops::joins))]
 fn logical_and(alloc: Global, depth: usize, text: &[char]) -> Result<Part<'_, Expr>, Stop>
@@ -281,7 +281,7 @@ fn with_disjuncts<'t>(
     })
 }
 
-/// `logical-or-expr`; one part stands for itself
+/// `logical-or-expr`; one part alone is that part itself
 #[cycle(parser)]
 #[tactic(auto, unfolding(path_grammar::specs::Reading::read_logical_or, path_grammar::specs::Reading::read_parts), using(crate::proofs::Loops::joins))]
 fn logical_or(alloc: Global, depth: usize, text: &[char]) -> Result<Part<'_, Expr>, Stop>

@@ -1,4 +1,4 @@
-//! What follows from the definitions and from the contract of `Query::read`.
+//! Laws of the definitions and of the contract of `Query::read`.
 ghost use Rattle.std.specs.Prelude.{◌≡◌, ◌≤◌, chars, length, MatchResult};
 ghost use Rattle.path_grammar.specs.Grammar.{Spells};
 ghost use Rattle.path_grammar.specs.Profile.{InProfile};

@@ -41,7 +41,7 @@ pub fn length(alloc: Global, operand: Operand) -> Result<Operand, AllocError>
     Ok(Operand::Length(Box::new(alloc, operand)?))
 }
 
-/// Stands for a call that is left out.
+/// The placeholder of a call that is left out.
 pub fn nothing(alloc: Global) -> Expr
     ensures { expression_view result ≡ logical_or no_expressions }
 {

@@ -1,4 +1,4 @@
-//! What follows from the definitions and from the contract of `Query::read`.
+//! Laws of normalized paths, of the definitions and of the contract of `Query::read`.
 ghost use Rattle.std.specs.Prelude.{◌≡◌, ◌≤◌, ◌^◌, map, length, List, Some, MatchResult};
 ghost use Rattle.std.specs.List.{AllByRecursion};
 ghost use Rattle.doc_tree.specs.Doc.{at, Doc, Place};

@@ -1,4 +1,4 @@
-//! From a text to a query.
+//! The reading of a query from its text.
 ghost use Rattle.std.specs.Prelude.{◌≡◌, chars, IfErr, IfOk};
 ghost use Rattle.path_grammar.specs.Reading.{read_whole};
 ghost use Rattle.path_grammar.specs.Answers.{SpellsOnly};
@@ -61,8 +61,8 @@ fn judged(alloc: Global, text: &[char]) -> Result<Query, QueryFault>
 impl Query {
     /// The one query in profile that the text spells (RFC 9535, sections 2.1 to 2.5).
     ///
-    /// Else `PATH_LONG` where the text has more than `QUERY_BYTES`, `PATH_LEFT_OUT` where it spells a query, but none in
-    /// profile, `PATH` where it spells none. `MEMORY` may stand in place of any answer but `PATH_LONG`.
+    /// Else `PATH_LONG` if the text has more than `QUERY_BYTES`, `PATH_LEFT_OUT` if it spells a query, but none in
+    /// profile, `PATH` if it spells none. `MEMORY` may come in place of any answer but `PATH_LONG`.
     pub fn read(alloc: Global, text: &str) -> Result<Query, QueryFault>
         ensures ok { IfOk result (IsQueryOf text.now) }
         ensures err { IfErr result (IsFaultOf text.now) }

@@ -129,7 +129,7 @@ fn is_singular(selector: &Selector) -> bool
     matches!(selector, Selector::Name(_) | Selector::Index(_))
 }
 
-/// What follows the closing bracket, where the selector, read from `text`, stands in a bracket of a singular query.
+/// The rest after the closing bracket, if the selector, read from `text`, is in a bracket of a singular query.
 fn singular_end<'t>(text: &[char], selector: &Selector, rest: &'t [char]) -> Option<&'t [char]>
     ensures { option_map (λ end. end.now) result ≡ after_singular text.now (selector_view selector.now) rest.now }
 {

@@ -1,15 +1,15 @@
-//! Why reading stops inside a text.
+//! The reasons why reading stops inside a text.
 ghost use Rattle.std.specs.Prelude.{◌≡◌};
 ghost use Rattle.path_parse.specs.declared.stop.Stop.TheVariants.{Memory};
 
 use std::alloc::{AllocError, AllocFailed};
 
-/// Why reading stops inside a text.
+/// The reasons why reading stops inside a text.
 #[derive(Clone, Copy, Debug, Drop)]
 pub enum Stop {
     /// The allocator refused memory.
     Memory,
-    /// No query is spelled so.
+    /// The text spells no query.
     Syntax,
 }
 

@@ -1,4 +1,4 @@
-//! What a query says, as a tree of segments, selectors and expressions.
+//! The syntax of a query, as a tree of segments, selectors and expressions.
 use doc_tree::Tree;
 use path_grammar::CompareOp;
 
@@ -56,7 +56,7 @@ pub enum Expr {
     },
 }
 
-/// A query with where it begins: at the root (`$`) or at the current node (`@`).
+/// A query and its beginning: the root (`$`) or the current node (`@`).
 #[cycle(syntax)]
 #[derive(Drop)]
 pub struct Source {

@@ -1,4 +1,4 @@
-//! From a location to its normalized path.
+//! The normalized path of a location, as a text.
 ghost use Rattle.std.specs.Prelude.{◌≡◌, ◌++◌, ◌<◌, option_map, flat_map, map, chars, string_bytes, encode_utf8_all, IfOk};
 ghost use Rattle.doc_tree.specs.Doc as place;
 ghost use Rattle.doc_tree.specs.Place.{place_of};
@@ -74,7 +74,7 @@ fn with_index(text: String, index: u64) -> Result<String, AllocError>
     Ok(text)
 }
 
-/// The text with the characters of a name after it, each as it stands between quotes.
+/// The text with the characters of a name after it, each as it is written between quotes.
 fn with_characters(text: String, name: &str) -> Result<String, AllocError>
     ensures { IfOk result (λ longer. string_bytes longer
         ≡ string_bytes text ++ encode_utf8_all (flat_map normal_character (chars name.now))) }
@@ -86,7 +86,7 @@ fn with_characters(text: String, name: &str) -> Result<String, AllocError>
     Ok(text)
 }
 
-/// The text with one character of a name after it, as it stands between quotes.
+/// The text with one character of a name after it, as it is written between quotes.
 fn with_character(text: String, character: char) -> Result<String, AllocError>
     ensures { IfOk result (λ longer. string_bytes longer
         ≡ string_bytes text ++ encode_utf8_all (normal_character character)) }
@@ -104,7 +104,7 @@ fn with_character(text: String, character: char) -> Result<String, AllocError>
     Ok(text)
 }
 
-/// The escape of a backslash and one character, where there is one.
+/// The escape of a backslash and one character, if there is one.
 fn short_escape(character: char) -> Option<&'static str>
     ensures { option_map (λ escape. escape.now) result ≡ short_escape character }
 {

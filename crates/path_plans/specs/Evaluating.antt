@@ -1,5 +1,5 @@
--- What queries select (RFC 9535, sections 2.3 and 2.5): the nodelist, with no limit on how many nodes it has.
--- `root` is the value of the whole document, which `$` stands for. In a filter the locations of nodes are of no account.
+-- The evaluation of queries (RFC 9535, sections 2.3 and 2.5): the nodelist, with no limit on how many nodes it has.
+-- `root` is the value of the whole document, which `$` means. The locations of nodes don't matter in a filter.
 use Rattle.std.specs.Prelude.{Bool, true, false, not, ◌&&◌, ◌||◌, List, [], ◌++◌, length, filter, Option, Some, None, if◌then◌else◌}
 use Rattle.doc_tree.specs.Doc.{Doc}
 use Rattle.path_grammar.specs.Syntax.{json, decimal, Selector, name_selector, wildcard_selector, slice_selector, index_selector, filter_selector, Selectors, no_selectors, selector, Segments, no_segments, segment, Expression, logical_or, logical_and, logical_not, existence, comparison, match_of, search_of, Expressions, no_expressions, expression, Operand, literal, singular_query, length_of, count_of, value_of}
@@ -7,7 +7,7 @@ use Rattle.path_select.specs.Nodes.{Located, Child, children, list_after, only_n
 use Rattle.path_select.specs.Selectors.{named, indexed, sliced}
 use Rattle.path_select.specs.Comparing.{compares, number, length_value, only_value, is_some_node}
 
--- where a query begins: at the root (`$`) or at the current value (`@`)
+-- the value at which a query begins: the root (`$`) or the current value (`@`)
 abbrev pub beginning : Bool → Doc → Doc → Doc
 beginning from_root root here = if from_root then root else here
 
@@ -20,7 +20,7 @@ abbrev mutual
   selected root (index_selector i) d = indexed i d
   selected root (filter_selector e) d = filter (λ c. holds root e c.1) (children d)
 
-  -- those of each selector in order; what is selected twice stands there twice
+  -- those of each selector in order; what is selected twice is in the list twice
   pub all_selected : Doc → Selectors → Doc → List Child
   all_selected root no_selectors d = []
   all_selected root (selector s ss) d = selected root s d ++ all_selected root ss d

@@ -1,4 +1,4 @@
--- What the code's plans stand for.
+-- The plans that the code's types represent.
 use Rattle.std.specs.Prelude.{List, [], ◌∷◌, false, string_bytes}
 use Rattle.path_grammar.specs.Syntax.{Selector, name_selector, wildcard_selector, slice_selector, index_selector}
 use Rattle.path_plans.specs.Planned as planned

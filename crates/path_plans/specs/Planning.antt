@@ -1,4 +1,4 @@
--- For the clauses within the crate: what was found of an absolute query, and what is made of it.
+-- For the clauses within the crate: the outcome of an absolute query, and what is made of it.
 use denote.Bor.{Bor}
 use Rattle.std.specs.Prelude.{◌≡◌, ⊤, Bool, true, false, List, Option, Some, None, option_map, Result, Ok, Err, Vec}
 use Rattle.std.specs.declared.alloc.Global.{Global}
@@ -16,12 +16,12 @@ use Rattle.path_plans.specs.declared.plan.Way.{Way}
 use Rattle.path_select.specs.declared.stop.Stop.{Stop}
 use Rattle.path_select.specs.declared.stop.Stop.TheVariants.{Memory, TooMany}
 
--- the values that the query selects from the root on, or None where it is refused
+-- the values that the query selects from the root on; None if it is refused
 abbrev pub FoundOf : Doc → Segments → Option (Vec (Bor Tree) Global) → Type 0
 FoundOf root q None = too_many root q (only_node root) ≡ true
 FoundOf root q (Some vs) = (too_many root q (only_node root) ≡ false) × (docs_of vs.items ≡ values (nodelist root q (only_node root)))
 
--- the values that an evaluation gave, or None where it was refused
+-- the values that an evaluation gave; None if it was refused
 abbrev pub KeptOf : Result (Vec (Bor Tree) Global) Stop → Option (Vec (Bor Tree) Global) → Type 0
 KeptOf (Ok vs) kept = option_map (λ ws. docs_of ws.items) kept ≡ Some (docs_of vs.items)
 KeptOf (Err TooMany) kept = option_map (λ ws. docs_of ws.items) kept ≡ None

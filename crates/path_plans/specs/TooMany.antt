@@ -1,4 +1,4 @@
--- When a query is refused for the number of its nodes.
+-- The queries that are refused for the number of their nodes.
 use Rattle.std.specs.Prelude.{Bool, false, ◌||◌, List, length}
 use Rattle.std.specs.List.{list_any}
 use Rattle.doc_tree.specs.Doc.{Doc}

@@ -1,4 +1,4 @@
-//! Evaluating plans: what they select of a value, by values alone. No root is needed.
+//! The evaluation of plans, by values alone: what they select of a value. No root is needed.
 ghost use Rattle.std.specs.Prelude.{◌≡◌, ◌&&◌, ◌||◌, [], false, filter, IfSome, length, option_map, option_to_list, true};
 ghost use Rattle.std.specs.List.{list_any};
 ghost use Rattle.doc_tree.specs.Doc.{Doc};
@@ -40,7 +40,8 @@ pub fn passes(test: &PlanFilter<'_>, alloc: Global, here: &Tree) -> Result<bool,
     }
 }
 
-/// The same with all that a test may need. It stands apart, since what is at hand needs no such frame on the stack.
+/// The same with all that a test may need. It is a function of its own, since what is at hand needs no such frame on
+/// the stack.
 #[cycle(passing)]
 #[inline(never)]
 fn passes_by_lists(test: &PlanFilter<'_>, alloc: Global, here: &Tree) -> Result<bool, Stop>
@@ -79,7 +80,7 @@ fn some_pass(parts: &Vec<PlanFilter<'_>>, alloc: Global, here: &Tree) -> Result<
     Ok(held)
 }
 
-/// Whether it held already, or the value passes the test. Where it held, a test is tried only if it may be refused.
+/// Whether it held already, or the value passes the test. If it held, a test is tried only if it may be refused.
 #[cycle(passing)]
 fn or_passes(held: bool, test: &PlanFilter<'_>, alloc: Global, here: &Tree) -> Result<bool, Stop>
     ensures { let t = test_view test.now in
@@ -105,7 +106,7 @@ fn all_pass(parts: &Vec<PlanFilter<'_>>, alloc: Global, here: &Tree) -> Result<b
     Ok(held)
 }
 
-/// Whether it held so far, and the value passes the test. Where it didn't, a test is tried only if it may be refused.
+/// Whether it held until now, and the value passes the test. If it didn't, a test is tried only if it may be refused.
 #[cycle(passing)]
 fn and_passes(held: bool, test: &PlanFilter<'_>, alloc: Global, here: &Tree) -> Result<bool, Stop>
     ensures { let t = test_view test.now in
@@ -334,7 +335,7 @@ fn led_to<'t>(ways: &[Way<'_>], here: &'t Tree) -> Option<&'t Tree>
     Some(value)
 }
 
-/// The value of a side of a comparison, or Nothing, where that is known or a way leads there: then it is not refused.
+/// The value of a side of a comparison, or Nothing, if that is known or a way leads there: then it is not refused.
 fn at_hand<'t>(side: &'t PlanComparable<'_>, here: &'t Tree) -> Option<Option<&'t Tree>>
     ensures { let o = term_view side.now in let d = view here.now in
         IfSome result (λ v. (planned.side_refused o d ≡ false) × (doc_if v ≡ planned.side_value o d)) }
@@ -361,7 +362,7 @@ fn passes_at_hand(test: &PlanFilter<'_>, here: &Tree) -> Option<bool>
     }
 }
 
-/// Whether the test may be refused of some value: not where it only follows ways, or compares what is at hand.
+/// Whether the test may be refused of some value: not if it only follows ways, or compares what is at hand.
 fn may_be_refused(test: &PlanFilter<'_>) -> bool
     ensures { let t = test_view test.now in (d : Doc) → result ≡ false → planned.test_refused t d ≡ false }
 {
@@ -372,7 +373,7 @@ fn may_be_refused(test: &PlanFilter<'_>) -> bool
     }
 }
 
-/// Whether the side is neither known nor where ways lead.
+/// Whether the side is neither known nor the end of a way.
 fn is_sought(side: &PlanComparable<'_>) -> bool
     ensures { let o = term_view side.now in (d : Doc) → result ≡ false → planned.side_refused o d ≡ false }
 {
@@ -383,7 +384,7 @@ fn is_sought(side: &PlanComparable<'_>) -> bool
     }
 }
 
-/// Whether the comparison holds of the value, where both sides are at hand: then it is not refused.
+/// Whether the comparison holds of the value, if both sides are at hand: then it is not refused.
 fn compares_at_hand<'x>(
     op: CompareOp,
     left: &'x PlanComparable<'_>,

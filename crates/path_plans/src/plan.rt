@@ -1,5 +1,5 @@
-//! Plans: queries in whose filters each absolute query stands as what was found of it, once, and each singular query as
-//! the steps that it takes.
+//! Plans: queries in whose filters each absolute query is replaced by what was found of it, once, and each singular
+//! query by the steps that it takes.
 use path_grammar::CompareOp;
 use path_select::compare::Side;
 

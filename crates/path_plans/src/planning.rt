@@ -1,4 +1,5 @@
-//! Making plans. An absolute query in a filter is evaluated here, once, and stands in the plan as what was found of it.
+//! The making of plans. An absolute query in a filter is evaluated here, once, and the plan has what was found of it in
+//! its place.
 ghost use Rattle.std.specs.Prelude.{◌≡◌, false, length, option_map, IfOk, MatchOption, None, ⊤};
 ghost use Rattle.doc_tree.specs.TreeView.{view};
 ghost use Rattle.path_grammar.specs.Syntax.{count_of, existence, no_selectors, selector, value_of};
@@ -185,7 +186,7 @@ fn number_of<'q>(
     }
 }
 
-/// The values that the query selects from the root on; None where it is refused.
+/// The values that the query selects from the root on; None if it is refused.
 #[cycle(planning)]
 fn found_of<'q>(
     query: &'q Query,
@@ -198,7 +199,7 @@ fn found_of<'q>(
     unless_too_many(values_of_plan(&plan, alloc, root))
 }
 
-/// The values; None where there are too many.
+/// The values; None if there are too many.
 fn unless_too_many<'t>(
     found: Result<Vec<&'t Tree>, Stop>,
 ) -> Result<Option<Vec<&'t Tree>>, AllocError>
@@ -262,7 +263,7 @@ fn was_number<'q>(found: Option<Vec<&'q Tree>>) -> PlanComparable<'q>
     }
 }
 
-/// A comparison, which is made here, once, where what both sides are is known.
+/// A comparison, which is made here, once, if both sides are known.
 fn compared<'q>(
     op: CompareOp,
     left: PlanComparable<'q>,
@@ -276,7 +277,7 @@ fn compared<'q>(
     }
 }
 
-/// Whether a comparison is refused, and whether it holds, where what both sides are is known.
+/// Whether a comparison is refused, and whether it holds, if both sides are known.
 fn decision(
     op: CompareOp,
     left: &PlanComparable<'_>,
@@ -302,7 +303,7 @@ fn known<'t>(term: &'t PlanComparable<'_>) -> Option<(bool, Option<&'t Tree>)>
     }
 }
 
-/// The length of a side, which is taken here, once, where the side is known.
+/// The length of a side, which is taken here, once, if the side is known.
 fn sized<'q>(term: PlanComparable<'q>, alloc: Global) -> Result<PlanComparable<'q>, AllocError>
     ensures { IfOk result (λ t. term_view t ≡ planned.sized_once (term_view term.entry)) }
 {

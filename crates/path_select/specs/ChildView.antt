@@ -1,4 +1,4 @@
--- What the code's children and values stand for.
+-- The children and values that the code's types represent.
 use denote.Bor.{Bor}
 use Rattle.std.specs.Prelude.{List, map, Option, option_map}
 use Rattle.doc_tree.specs.declared.tree.Tree.{Tree}

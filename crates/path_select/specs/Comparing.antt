@@ -14,7 +14,7 @@ are_equal None None = true
 are_equal (Some a) (Some b) = same a b
 are_equal _ _ = false
 
--- one list of code points comes before another: where they first differ its code point is the lesser, or it ends there
+-- one list of code points comes before another: at the first difference its code point is the lesser, or it ends there
 abbrev pub points_before : List ℕ → List ℕ → Bool
 points_before [] [] = false
 points_before [] (d ∷ ds) = true
@@ -31,7 +31,7 @@ comes_before (int a) (int b) = int_lt a b
 comes_before (text a) (text b) = text_before a b
 comes_before _ _ = false
 
--- `<`: never where a side is Nothing
+-- `<`: never if a side is Nothing
 abbrev pub is_less : Option Doc → Option Doc → Bool
 is_less (Some a) (Some b) = comes_before a b
 is_less _ _ = false

@@ -1,9 +1,9 @@
--- What a function of the evaluation returned is what is defined, unless there are too many nodes.
+-- The answer of a function of the evaluation: it is what is defined, unless there are too many nodes.
 use Rattle.std.specs.Prelude.{◌≡◌, ⊤, Bool, true, false, Result, Ok, Err}
 use Rattle.path_select.specs.declared.stop.Stop.{Stop}
 use Rattle.path_select.specs.declared.stop.Stop.TheVariants.{Memory, TooMany}
 
--- evaluating stops where it is refused, or for want of memory
+-- evaluating stops if it is refused, or if memory ran out
 abbrev pub Stops : Stop → Bool → Type 0
 Stops Memory refused = ⊤
 Stops TooMany refused = refused ≡ true

@@ -1,4 +1,4 @@
--- A device of the code that knows the nodes of a document by numbers: where the children of each node stand.
+-- A device of the code that knows the nodes of a document by numbers: it has the place of each node's children.
 use Rattle.std.specs.Prelude.{◌≡◌, ◌≤◌, ◌+◌, ℕ, List, [], map, take, drop, get_or, length}
 use Rattle.doc_tree.specs.Doc.{Doc}
 use Rattle.path_select.specs.Nodes.{Located, child_at, children}
@@ -11,7 +11,7 @@ use Rattle.path_select.specs.declared.index.Span.{Span}
 abbrev pub children_at : Located → List Located
 children_at u = map (child_at u.0) (children u.1)
 
--- the node of that number; the root where there is none
+-- the node of that number; the root if there is none
 abbrev pub node_at : Doc → List Located → ℕ → Located
 node_at root us n = get_or us n ([], root)
 

@@ -1,6 +1,6 @@
--- How many nodes are too many for a list.
+-- The limit of nodes in a list.
 use Rattle.std.specs.Prelude.{ℕ, nat_lt, Bool}
 
--- so many nodes are too many for a list
+-- `n` nodes are too many for a list
 abbrev pub is_over : ℕ → Bool
 is_over n = nat_lt 100000 n

@@ -30,11 +30,11 @@ children _ = []
 abbrev pub child_at : List Place → Child → Located
 child_at p c = (p ++ c.0 ∷ [], c.1)
 
--- what is located from a value, located from where that value is a child
+-- the nodes located from a value, located from the place of which that value is a child
 abbrev pub under : Place → Located → Located
 under s u = (s ∷ u.0, u.1)
 
--- what is located from a value, located from where that value stands at p
+-- the nodes located from a value, located from the place at which that value is at p
 abbrev pub beneath : List Place → Located → Located
 beneath p u = (p ++ u.0, u.1)
 

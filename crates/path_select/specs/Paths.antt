@@ -34,7 +34,7 @@ all_spots ms ss = map (spot_of ms) ss
 abbrev pub stand : ℕ → List Spot → Type 0
 stand n ss = AllByRecursion (λ s. s.place ≤ n) ss
 
--- a walk went on: its trail and its list are longer, if at all, and its nodes stand in the trail
+-- a walk went on: its trail and its list are longer, if at all, and its nodes are in the trail
 abbrev pub GoesOn : Walk → Walk → Type 0
 GoesOn w x = (ms : List Mark) × (ss : List Spot) × (x.trail.items ≡ w.trail.items ++ ms) × (x.listed.items ≡ w.listed.items ++ ss) × stand (length x.trail.items) x.listed.items
 
@@ -42,7 +42,7 @@ GoesOn w x = (ms : List Mark) × (ss : List Spot) × (x.trail.items ≡ w.trail.
 abbrev pub seen : Walk → List nodes.Located
 seen w = all_spots w.trail.items w.listed.items
 
--- the walk is the same, or without the marks behind the first ones if it has no more nodes than it had
+-- the walk is the same, or without the marks after the first ones if it has no more nodes than it had
 abbrev pub Returns : ℕ → ℕ → Walk → Walk → Type 0
 Returns known count w x =
     (x.listed.items ≡ w.listed.items) × ((x.trail.items ≡ w.trail.items) ⊎ ((x.trail.items ≡ take known w.trail.items) × (length w.listed.items ≡ count)))

@@ -1,4 +1,4 @@
--- What selectors without a filter select of a value (RFC 9535, sections 2.3.1 to 2.3.4).
+-- The values that selectors without a filter select of a value (RFC 9535, sections 2.3.1 to 2.3.4).
 use Rattle.std.specs.Prelude.{ℕ, zero, suc, ◌-◌, ◌%◌, ◌==◌, ◌&&◌, Bool, nat_lt, ℤ, pos, negsuc, neg_ℤ, ◌+ℤ◌, ◌-ℤ◌, nat_abs, int_lt, int_le, List, [], ◌∷◌, reverse, filter, flat_map, Option, Some, None, if◌then◌else◌}
 use Rattle.std.specs.Int.{int_max, int_min}
 use Rattle.std.specs.Option.{unwrap_or}
@@ -66,7 +66,7 @@ abbrev pub counting : ℕ → ℕ → List ℕ
 counting first zero = []
 counting first (suc n) = first ∷ counting (suc first) n
 
--- so far away that it is a multiple of the step
+-- the distance is a multiple of the step
 abbrev pub is_multiple : ℕ → ℤ → Bool
 is_multiple step distance = nat_abs distance % step == 0
 
@@ -84,6 +84,6 @@ slice_indexes n start stop (pos zero) = []
 slice_indexes n start stop (pos (suc k)) = ascending n (suc k) (bound_up n (unwrap_or start (pos 0))) (bound_up n (unwrap_or stop (pos n)))
 slice_indexes n start stop (negsuc k) = descending n (suc k) (bound_down n (unwrap_or stop (neg_ℤ (pos n) -ℤ pos 1))) (bound_down n (unwrap_or start (pos n -ℤ pos 1)))
 
--- the elements that the slice selects, by step 1 where none is given
+-- the elements that the slice selects, by step 1 if none is given
 abbrev pub sliced : Option ℤ → Option ℤ → Option ℤ → Doc → List Child
 sliced start stop step d = flat_map (λ i. item i d) (slice_indexes (item_count d) start stop (unwrap_or step (pos 1)))

@@ -1,5 +1,6 @@
--- For the clauses within the crate: no definition of slices, but the indexes of a slice by numbers from 0 on, where a bound
--- of a slice that goes down is one more than the standard's. That it is the standard's slice is `slices` in the proofs.
+-- For the clauses within the crate: no definition of slices, but the indexes of a slice by numbers from 0 on. There a
+-- bound of a slice that goes down is one more than the standard's. That it is the standard's slice is `slices` in the
+-- proofs.
 use Rattle.std.specs.Prelude.{ℕ, zero, suc, ◌-◌, ◌%◌, ◌==◌, min, ℤ, pos, negsuc, List, [], reverse, filter, Option, Some, None}
 use Rattle.path_select.specs.Selectors.{counting}
 

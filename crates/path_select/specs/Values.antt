@@ -1,5 +1,5 @@
--- A device of the code that evaluates filters: the values of lists of nodes, without their locations, which are of no
--- account there.
+-- A device of the code that evaluates filters: the values of lists of nodes, without their locations, which don't
+-- matter there.
 use Rattle.std.specs.Prelude.{Bool, true, false, List, [], ◌∷◌, map, flat_map, if◌then◌else◌, Option, Some, None}
 use Rattle.doc_tree.specs.Doc.{Doc}
 use Rattle.path_select.specs.Nodes.{Located, Child, descendants}

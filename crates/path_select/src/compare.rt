@@ -85,7 +85,7 @@ fn is_less(left: Option<&Tree>, right: Option<&Tree>) -> bool
     }
 }
 
-/// Whether the comparison holds of the two values, where None is Nothing.
+/// Whether the comparison holds of the two values; None is Nothing.
 pub fn compares(op: CompareOp, left: Option<&Tree>, right: Option<&Tree>) -> bool
     ensures { result ≡ comparing.compares op (doc_if left.entry) (doc_if right.entry) }
 {

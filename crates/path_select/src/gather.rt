@@ -10,7 +10,7 @@ use crate::limits::NODES;
 use crate::stop::Stop;
 use doc_tree::Tree;
 
-/// The children that were selected, and more of them; `Stop::TooMany` where they are too many for a list.
+/// The children that were selected, and more of them; `Stop::TooMany` if they are too many for a list.
 pub fn and_children<'t>(found: Vec<Child<'t>>, more: Vec<Child<'t>>) -> Result<Vec<Child<'t>>, Stop>
     ensures { Gives (λ all. children_of all.items) result
         (is_over (length (children_of found.entry.items ++ children_of more.entry.items)))
@@ -27,7 +27,7 @@ pub fn and_children<'t>(found: Vec<Child<'t>>, more: Vec<Child<'t>>) -> Result<V
     Ok(all)
 }
 
-/// The values that are listed, and those of the children; `Stop::TooMany` where they are too many for a list.
+/// The values that are listed, and those of the children; `Stop::TooMany` if they are too many for a list.
 pub fn and_values<'t>(listed: Vec<&'t Tree>, more: Vec<Child<'t>>) -> Result<Vec<&'t Tree>, Stop>
     ensures { Gives (λ all. docs_of all.items) result
         (is_over (length (docs_of listed.entry.items ++ child_values (children_of more.entry.items))))

@@ -17,7 +17,7 @@ pub struct Span {
     pub count: usize,
 }
 
-/// The nodes of a document, each known by its number. The root has the number 0; a number that no node has stands for
+/// The nodes of a document, each known by its number. The root has the number 0; a number that no node has represents
 /// the root too.
 #[derive(Drop)]
 pub struct Index<'t> {
@@ -30,7 +30,7 @@ pub struct Index<'t> {
     pub top: Span,
 }
 
-/// The walk, with the children of the node behind what it has listed, and where they stand in the list.
+/// The walk, with the children of the node after what it has listed, and the span of these children in the list.
 fn with_children<'t>(
     alloc: Global,
     walk: Walk<'t>,

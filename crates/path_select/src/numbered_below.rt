@@ -8,7 +8,7 @@ use crate::index::Index;
 use crate::numbers::span_of;
 use std::alloc::{AllocError, Global};
 
-/// The numbers, and behind them those of the node and of all nodes below it, in preorder. A child's value is less high
+/// The numbers, and after them those of the node and of all nodes below it, in preorder. A child's value is less high
 /// than that of its node, so this ends.
 fn and_below(index: &Index<'_>, number: usize, before: Vec<usize>) -> Result<Vec<usize>, AllocError>
     requires { IsIndex index.now }

@@ -19,7 +19,7 @@ use path_grammar::LentStep;
 use std::alloc::{AllocError, Global};
 use std::collections::BTreeMap;
 
-/// Where the children of the node stand.
+/// The span of the node's children.
 pub fn span_of(index: &Index<'_>, number: usize) -> Span
     requires { IsIndex index.now }
     ensures { HasChildren (seen index.now.walk) result (at_number index.now number) }

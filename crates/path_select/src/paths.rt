@@ -27,14 +27,14 @@ pub struct Spot<'t> {
     pub value: &'t Tree,
 }
 
-/// The places that are known, and the nodes that are listed so far.
+/// The places that are known, and the nodes that are listed already.
 #[derive(Drop)]
 pub struct Walk<'t> {
     pub trail: Vec<Mark<'t>>,
     pub listed: Vec<Spot<'t>>,
 }
 
-/// The walk, and the child of what stands at a place.
+/// The walk, and the child of the value at a place.
 pub fn with_child<'t>(
     walk: Walk<'t>,
     above: usize,
@@ -59,7 +59,7 @@ pub fn with_child<'t>(
     Ok(Walk { trail, listed })
 }
 
-/// The walk without the places behind the first `known` ones, if nothing was listed since there were `count` nodes.
+/// The walk without the places after the first `known` ones, if nothing was listed since there were `count` nodes.
 pub fn back<'t>(walk: Walk<'t>, known: usize, count: usize) -> Walk<'t>
     ensures { Returns known count walk.entry result }
 {
@@ -71,7 +71,7 @@ pub fn back<'t>(walk: Walk<'t>, known: usize, count: usize) -> Walk<'t>
     Walk { trail, listed }
 }
 
-/// The steps that lead to the place, with room for `more` steps behind them.
+/// The steps that lead to the place, with room for `more` steps after them.
 pub fn path_to<'t>(
     alloc: Global,
     trail: &[Mark<'t>],

@@ -1,4 +1,4 @@
-//! What selectors without a filter select of a value (RFC 9535, sections 2.3.1 to 2.3.4).
+//! The values that selectors without a filter select of a value (RFC 9535, sections 2.3.1 to 2.3.4).
 ghost use Rattle.std.specs.Prelude.{◌≡◌, ◌<◌, ◌++◌, flat_map, IfOk, option_map, option_to_list, zero};
 ghost use Rattle.doc_tree.specs.TreeView.{members_view, view};
 ghost use Rattle.doc_tree.specs.Doc.{get_member};

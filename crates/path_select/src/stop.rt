@@ -1,4 +1,4 @@
-//! Why evaluating stops.
+//! The reasons why evaluating stops.
 ghost use Rattle.std.specs.Prelude.{◌≡◌};
 ghost use Rattle.path_select.specs.declared.stop.Stop.TheVariants.{Memory};
 

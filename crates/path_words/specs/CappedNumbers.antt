@@ -10,7 +10,8 @@ use Rattle.path_grammar.specs.Reading.{◌>>=◌, on, after, after_e, read_run}
 abbrev pub IsCapped : ℕ → ℕ → Type 0
 IsCapped n m = (n ≡ m) ⊎ ((2 ^ 64 ≤ n) × (2 ^ 64 ≤ m))
 
--- digits after those that stand for n: the number of all of them up to 2^64, and from there on some number that is at least that
+-- digits after those with the value n: the number of all of them up to 2^64, and from there on some number that is at
+-- least that
 abbrev pub read_capped_digits : ℕ → Text → ℕ × Text
 read_capped_digits n [] = (n, [])
 read_capped_digits n (c ∷ t) = if is_digit c then read_capped_digits (if nat_lt n (2 ^ 64) then n * 10 + (c - 48) else n) t else (n, c ∷ t)
@@ -52,7 +53,7 @@ read_capped_signed t =
 abbrev pub signed_of : Bool → ℕ → ℤ
 signed_of negative m = if negative then neg_ℤ (pos m) else pos m
 
--- that number, where it has neither a fraction nor an exponent and at most 64 bits
+-- that number, if it has neither a fraction nor an exponent and at most 64 bits
 abbrev pub number_within : Bool → Bool → ℕ → Option ℤ
 number_within decimal negative m = if decimal then None else if is_64_bit (signed_of negative m) then Some (signed_of negative m) else None
 

@@ -3,7 +3,7 @@ ghost use Rattle.std.specs.Prelude.{◌≡◌, option_map};
 ghost use Rattle.path_grammar.specs.Characters.{is_blank, is_digit};
 ghost use Rattle.path_grammar.specs.Reading.{after_character, after_doubled, after_word, skip, starts_with_blank, begins_int, begins_query, begins_segment, begins_string};
 
-/// What follows the character, where the text begins with it.
+/// What follows the character, if the text begins with it.
 pub fn after(text: &[char], character: char) -> Option<&[char]>
     ensures { option_map (λ rest. rest.now) result ≡ after_character character text.now }
 {
@@ -13,14 +13,14 @@ pub fn after(text: &[char], character: char) -> Option<&[char]>
     }
 }
 
-/// What follows the character twice, where the text begins so.
+/// The rest after the character twice, if the text begins with that.
 pub fn after_doubled(text: &[char], character: char) -> Option<&[char]>
     ensures { option_map (λ rest. rest.now) result ≡ after_doubled character text.now }
 {
     after(after(text, character)?, character)
 }
 
-/// What follows the word, where the text begins with it.
+/// What follows the word, if the text begins with it.
 pub fn after_word<'t>(text: &'t [char], word: &[char]) -> Option<&'t [char]>
     ensures { option_map (λ rest. rest.now) result ≡ after_word word.now text.now }
 {

@@ -5,7 +5,7 @@ ghost use Rattle.path_words.specs.CappedNumbers.{read_capped_digits, IsCapped};
 
 use crate::characters::{after, begins_int, is_digit, skip_blanks};
 
-/// From here on a size is only known to be so large.
+/// From here on a size is only known to be at least this.
 const CAP: u128 = 1 << 64;
 
 /// Integers of queries lie strictly between -2^53 and 2^53, the exact integers of I-JSON (RFC 9535, section 2.1).
@@ -50,7 +50,7 @@ fn positive(text: &[char]) -> Option<(u128, &[char])>
     }
 }
 
-/// The `int` that the text begins with, and what follows it. None too where it is no exact integer of I-JSON.
+/// The `int` that the text begins with, and what follows it. Also None if it is no exact integer of I-JSON.
 #[tactic(auto, unfolding(path_grammar::specs::Reading::read_int))]
 pub fn int(text: &[char]) -> Option<(i64, &[char])>
     ensures { option_map (λ x. (x.0, x.1.now)) result ≡ read_int text.now }

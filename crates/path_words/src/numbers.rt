@@ -120,7 +120,7 @@ fn signed(text: &[char]) -> Option<(bool, u128, &[char])>
     }
 }
 
-/// The number as a tree; None where the profile leaves it out.
+/// The number as a tree; None if the profile leaves it out.
 fn within(decimal: bool, negative: bool, size: u128) -> Option<i64>
     ensures { result ≡ number_within decimal negative size }
 {
@@ -164,7 +164,7 @@ fn capped_number(text: &[char]) -> Option<Part<'_, Tree>>
     )
 }
 
-/// The `number` that the text begins with, and what follows it; `null` stands for one that the profile leaves out: with
+/// The `number` that the text begins with, and what follows it; `null` represents one that the profile leaves out: with
 /// a fraction or an exponent, or beyond 64 bits.
 pub fn number(text: &[char]) -> Option<Part<'_, Tree>>
     ensures { option_map (part_of (λ t. json (view t))) result ≡ read_number text.now }

@@ -1,9 +1,9 @@
-//! What was read from the front of a text.
+//! A part: what was read from the front of a text, and the rest.
 
-/// What was read from the front of a text.
+/// A part: what was read from the front of a text, and the rest.
 #[derive(Drop)]
 pub struct Part<'t, T> {
-    /// What was read; where something is left out, a placeholder stands for it.
+    /// What was read; if something is left out, a placeholder represents it.
     pub value: T,
     /// Whether the profile leaves something in it out.
     pub left_out: bool,

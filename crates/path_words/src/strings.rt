@@ -30,7 +30,7 @@ fn hex_value(digit: char) -> u32
     }
 }
 
-/// The number of a hexadecimal digit after digits that stand for `above`.
+/// The number of a hexadecimal digit after digits with the value `above`.
 fn hex_digit(above: u32, text: &[char]) -> Option<(u32, &[char])>
     requires { above < 4096 }
     ensures value { option_map (λ x. (x.0, x.1.now)) result ≡ read_hex_digit above text.now }
@@ -97,7 +97,7 @@ fn hex_escape(text: &[char]) -> Option<(char, &[char])>
     Some((character, rest))
 }
 
-/// What a character stands for after a backslash, between two of this quote.
+/// The character that is meant by one after a backslash, between two of this quote.
 fn escapable(quote: char, character: char) -> Option<char>
     ensures { result ≡ escapable quote character }
 {
@@ -143,7 +143,7 @@ fn escaped(quote: char, text: &[char]) -> Option<(char, &[char])>
     }
 }
 
-/// Whether the character stands for itself between two of this quote.
+/// Whether the character is itself between two of this quote.
 fn is_unescaped(quote: char, character: char) -> bool
     ensures { result ≡ is_unescaped quote character }
 {
@@ -193,7 +193,7 @@ fn quoted(
     Ok(None)
 }
 
-/// The `string-literal` that the text begins with, as what it stands for, and what follows it.
+/// The `string-literal` that the text begins with, as the text that it spells, and what follows it.
 #[tactic(auto, unfolding(path_grammar::specs::Reading::read_string))]
 pub fn string(alloc: Global, text: &[char]) -> Result<Option<(String, &[char])>, AllocError>
     ensures { IfOk result (λ found. option_map (λ x. (string_bytes x.0, x.1.now)) found ≡ read_string text.now) }

@@ -6,12 +6,12 @@ use Rattle.std.specs.List.{list_all}
 abbrev pub line_feed : ℕ
 line_feed = 10
 
--- the lines, with b at the front of the first, or as a line of its own where there is none
+-- the lines, with b at the front of the first, or as a line of its own if there is none
 abbrev pub onto : ℕ → List (List ℕ) → List (List ℕ)
 onto b [] = (b ∷ []) ∷ []
 onto b (line ∷ lines) = (b ∷ line) ∷ lines
 
--- the lines of a text: what stands before each line feed, and a rest that isn't empty
+-- the lines of a text: the part before each line feed, and a rest that isn't empty
 abbrev pub cut : List ℕ → List (List ℕ)
 cut [] = []
 cut (b ∷ bytes) = if nat_eq b line_feed then [] ∷ cut bytes else onto b (cut bytes)

@@ -1,4 +1,4 @@
--- What reading a line answers, for private clauses.
+-- The answers of reading a line, for private clauses.
 use Rattle.std.specs.Prelude.{◌≡◌, ◌⊎◌, ℕ, List, map, Vec, Option, None, Some, Result, Ok, Err, codes, pos, string_bytes, ⊤}
 use Rattle.doc_tree.specs.Doc as docs
 use Rattle.doc_tree.specs.Doc.{Doc, Elements, Members, int, member, no_members, text}
@@ -16,7 +16,7 @@ use Rattle.protocol.specs.Request.{objects_of, Asks, IsInRange, IsNoRequest, IsO
 use Rattle.protocol.specs.declared.request.Request.{Request}
 use Rattle.protocol.specs.declared.request.Request.TheVariants.{Change, Get, GetSchema, Rev, Query, List as ListNames, Status, Snapshot, Pump}
 
--- a request, without where it lies in memory
+-- a request, without its place in memory
 abbrev pub asked_by : Request → asked.Request
 asked_by (Change transaction) = asked.change (transaction_of transaction)
 asked_by (Get name path) = asked.get (string_bytes name) (string_bytes path)
@@ -28,12 +28,12 @@ asked_by Status = asked.status
 asked_by Snapshot = asked.snapshot
 asked_by (Pump most) = asked.pump most
 
--- the request that the line asks for, or the number of why it is none, or want of memory
+-- the request that the line asks for, or the number of why it is none, or that memory ran out
 abbrev pub ReadsRequest : List ℕ → Result Request Refusal → Type 0
 ReadsRequest line (Ok request) = Asks line (Ok (asked_by request))
 ReadsRequest line (Err refusal) = (refusal ≡ plain MEMORY) ⊎ ((number : ℕ) × (refusal ≡ plain number) × Asks line (Err number))
 
--- the request whose object the document is, or none where it is no request's
+-- the request whose object the document is; none if it is no request's
 abbrev pub IsRequest : Doc → Option Request → Type 0
 IsRequest d None = IsNoRequest d
 IsRequest d (Some request) = IsObjectOf d (asked_by request)
@@ -56,7 +56,7 @@ word_of asked.status = codes "status"
 word_of asked.snapshot = codes "snapshot"
 word_of (asked.pump most) = codes "pump"
 
--- the members of its object behind `cmd`, in byte order of their names
+-- the members of its object after `cmd`, in byte order of their names
 abbrev pub others_of : asked.Request → Members
 others_of (asked.change (single c)) = commands.others_of c
 others_of (asked.change (several cs)) = no_members
@@ -73,12 +73,12 @@ others_of (asked.pump most) = member (codes "max") (int (pos most)) no_members
 abbrev pub transaction_members : Elements → Members
 transaction_members changes = member (codes "changes") (docs.list changes) (member (codes "cmd") (text (codes "transaction")) no_members)
 
--- the request, no transaction, that has that word at `cmd` and these members behind it, or none where there is none such
+-- the request, no transaction, that has that word at `cmd` and these members after it; none if there is none such
 abbrev pub AsksWith : List ℕ → Members → Option Request → Type 0
 AsksWith word ms None = (r : asked.Request) → IsNoChange r → word ≡ word_of r → ms ≡ others_of r → IsInRange r → ⊥
 AsksWith word ms (Some request) = (word ≡ word_of (asked_by request)) × (ms ≡ others_of (asked_by request)) × IsInRange (asked_by request)
 
--- the commands whose objects these elements are, or none where some element is no command's
+-- the commands whose objects these elements are; none if some element is no command's
 abbrev pub AreCommands : Elements → Option (Vec Command Global) → Type 0
 AreCommands ds None = (cs : List OneChange) → ds ≡ objects_of cs → ⊥
 AreCommands ds (Some commands) = ds ≡ objects_of (map change_of commands.items)

@@ -29,7 +29,7 @@ copy_word Dropped = codes "dropped"
 abbrev pub revision_reply : ℕ → Doc
 revision_reply revision = object (member (codes "ok") (boolean true) (member (codes "rev") (int (pos revision)) no_members))
 
--- a step of a copy was made, which wrote so many sectors of it
+-- a step of a copy was made, which wrote `written` sectors of it
 abbrev pub pump_reply : Pump → Doc
 pump_reply p =
     object (member (codes "copy") (text (copy_word p.copy)) (member (codes "ok") (boolean true) (member (codes "written") (int (pos p.written)) no_members)))
@@ -55,12 +55,13 @@ node_object n = object (member (codes "path") (text (encode_utf8_all (normal_pat
 abbrev pub nodes_reply : List Located → Doc
 nodes_reply nodes = object (member (codes "nodes") (list (elements_of (map node_object nodes))) (member (codes "ok") (boolean true) no_members))
 
--- members, behind one of that name where there is its number
+-- members, after one of that name if there is a number for it
 abbrev pub with_number : List ℕ → Option ℕ → Members → Members
 with_number name None members = members
 with_number name (Some number) members = member name (int (pos number)) members
 
--- what only some refusals tell: the operation of a patch at fault, and the document's revision where a patch asked for another; and, as the first member, the change of a transaction that was refused
+-- the members that only some refusals have: the operation of a patch at fault, and the document's revision if a patch
+-- asked for another; and, as the first member, the change of a transaction that was refused
 abbrev pub told_by : Refusal → Members
 told_by r = with_number (codes "op") r.op (with_number (codes "rev") r.rev no_members)
 

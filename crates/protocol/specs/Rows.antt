@@ -17,10 +17,10 @@ row_object r = object (member (codes "path") (text (string_bytes r.path)) (membe
 abbrev pub IsRowOf : List Located → ℕ → List ℕ → Type 0
 IsRowOf nodes number row = (n : Located) × (slice_get nodes number ≡ Some n) × (row ≡ text_of (node_object n))
 
--- a line with that node behind it, after a comma unless it is the first
+-- a line with that node after it, after a comma unless it is the first
 abbrev pub AddsRow : List Located → ℕ → List ℕ → List ℕ → Type 0
 AddsRow nodes number line longer = (n : Located) × (slice_get nodes number ≡ Some n) × (longer ≡ line ++ (comma_if (nat_lt 0 number) ++ text_of (node_object n)))
 
--- what a line has behind the rows that were written, where `later` says that there are some
+-- what a line has after the rows that were written; `later` says whether there are some
 abbrev pub rows_left : Bool → List Located → List ℕ
 rows_left later nodes = elements_text later (elements_of (map node_object nodes)) ++ codes ",\"ok\":true}\n"

@@ -1,4 +1,4 @@
--- What a reply says.
+-- The document that a reply is.
 use Rattle.std.specs.Prelude.{◌≡◌}
 use Rattle.doc_tree.specs.Doc.{Doc}
 use Rattle.protocol.specs.Reply.{change_reply, snapshot_reply, pump_reply, revision_reply, refusal_reply, line_of}

@@ -1,7 +1,7 @@
--- For the clauses within the crate: what is written of replies.
+-- For the clauses within the crate: the parts of replies that are written.
 use Rattle.std.specs.Prelude.{ℕ, List, [], ◌++◌, codes, decimal, Option, None, Some}
 
--- a member that only some replies have, with what stands before its number
+-- a member that only some replies have, with the text before its number
 abbrev pub number_text : List ℕ → Option ℕ → List ℕ
 number_text begun None = []
 number_text begun (Some number) = begun ++ decimal number

@@ -2,7 +2,7 @@
 ghost use Rattle.std.specs.Prelude.{◌≡◌, ◌==◌, ◌++◌, ◌∷◌, MatchOption, position};
 ghost use Rattle.protocol.specs.Lines.{line_feed, HasNoBreak};
 
-/// What stands before the first line feed, and after it.
+/// What comes before the first line feed, and after it.
 pub fn cut_at_feed(bytes: &[u8]) -> Option<(&[u8], &[u8])>
     ensures { MatchOption result (HasNoBreak bytes.now)
         (λ parts. (bytes.now ≡ parts.0.now ++ line_feed ∷ parts.1.now) × HasNoBreak parts.0.now) }

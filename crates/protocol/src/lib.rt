@@ -4,10 +4,10 @@
 //! number, by its bytes alone (`specs/Request`). The buffer of a line takes its memory once; of a line
 //! over the limit it keeps that it is so.
 //!
-//! A reply is a document (`specs/Reply`), and its line that document's compact text with a line feed.
-//! The lines of changes, snapshots, steps of copies, revisions and refusals are written without memory, into room
-//! that was taken once; a reply that shows values lends them from the store. The reply to a query is written node after
-//! node, and where its text would be over the limit it is refused at the node that passes it.
+//! A reply is a document (`specs/Reply`), and its line that document's compact text with a line feed. The lines of
+//! changes, snapshots, steps of copies, revisions and refusals are written without memory, into room that was taken
+//! once; a reply that shows values lends them from the store. The reply to a query is written node after node. If its
+//! text would be over the limit, it is refused at the node that passes it.
 #![tactic(auto)]
 
 mod cut;

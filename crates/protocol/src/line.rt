@@ -7,7 +7,7 @@ ghost use Rattle.protocol.specs.Lines.{is_blank, is_blank_byte, HasNoBreak};
 use crate::limits::LINE_BYTES;
 use std::alloc::{AllocError, Global};
 
-/// The bytes of a line so far, as far as they are within the limit. Its memory is taken once.
+/// The bytes of a line that came until now, as far as they are within the limit. Its memory is taken once.
 #[derive(Drop)]
 pub struct Line {
     bytes: Vec<u8>,
@@ -54,7 +54,7 @@ impl Line {
         }
     }
 
-    // Whether the line is within the limit with so many bytes more.
+    // Whether the line is within the limit with `more` bytes more.
     fn has_room(&self, more: usize) -> bool
         ensures yes { result ≡ true → (self.now.long ≡ false) × (vec_len self.now.bytes + more ≤ LINE_BYTES) }
         ensures no { result ≡ false → self.now.long ≡ false → LINE_BYTES < vec_len self.now.bytes + more }
@@ -69,7 +69,7 @@ impl Line {
         self.blank
     }
 
-    /// The line, or `None` where it is over the limit.
+    /// The line; `None` if it is over the limit.
     pub fn text(&self) -> Option<&[u8]>
         ensures text { (so_far : List ℕ) → Holds self.now so_far
             → MatchOption result (LINE_BYTES < length so_far) (λ text. text.now ≡ so_far) }
@@ -83,7 +83,7 @@ impl Line {
     }
 }
 
-// Whether a line that was blank so far, or not, is so with these bytes.
+// Whether a line, blank or not until now, is blank with these bytes too.
 fn is_blank_still(blank: bool, more: &[u8]) -> bool
     ensures { result ≡ blank && is_blank more.now }
 {

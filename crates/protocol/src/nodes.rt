@@ -17,8 +17,8 @@ use std::alloc::{AllocError, Global};
 
 /// The line of a reply that shows nodes.
 ///
-/// Refuses with `REPLY_LONG` where its text would be over the limit. A node's path is made when its row is written, and
-/// no row is written behind the one that passes the limit.
+/// Refuses with `REPLY_LONG` if its text would be over the limit. A node's path is made when its row is written, and no
+/// row is written after the one that passes the limit.
 pub fn nodes_line(alloc: Global, nodes: &Nodelist<'_>) -> Result<Vec<u8>, Refusal>
     ensures { let reply = nodes_reply (listed_of nodes.now) in MatchResult result
         (λ line. (line.items ≡ line_of reply) × (length (text_of reply) ≤ REPLY_BYTES))
@@ -41,7 +41,7 @@ pub fn nodes_line(alloc: Global, nodes: &Nodelist<'_>) -> Result<Vec<u8>, Refusa
     Ok(whole)
 }
 
-/// What stands before the rows.
+/// The text before the rows.
 fn line_begun(alloc: Global) -> Result<Vec<u8>, AllocError>
     ensures { IfOk result (λ line. line.items ≡ codes "{\"nodes\":[") }
 {
@@ -50,7 +50,7 @@ fn line_begun(alloc: Global) -> Result<Vec<u8>, AllocError>
     Ok(line)
 }
 
-/// The line with the row of that number behind it.
+/// The line with the row of that number after it.
 fn with_row(
     alloc: Global,
     line: Vec<u8>,
@@ -66,7 +66,7 @@ fn with_row(
     Ok(longer)
 }
 
-/// What stands before the row of that number.
+/// The text before the row of that number.
 fn comma(number: usize) -> &'static str
     ensures { result.now ≡ comma_if (nat_lt 0 number) }
 {

@@ -135,7 +135,7 @@ impl Outbox {
         }
     }
 
-    // A member that only some replies have, after other members: what stands before its number, and the number.
+    // A member that only some replies have, after other members: the text before its number, and the number.
     fn put_member(&mut self, begun: &[u8], number: Option<u64>)
         requires short { length begun.now ≤ MEMBER_BEGUN }
         requires room { vec_len self.old.bytes + MEMBER ≤ ROOM }

@@ -1,4 +1,4 @@
-//! What is answered to a line.
+//! The replies to lines.
 
 use doc_machine::Refusal;
 use doc_store::Pump;
@@ -9,7 +9,7 @@ use doc_store::Pump;
 pub enum Reply {
     /// A change was accepted, and its number is this.
     Changed(u64),
-    /// A snapshot was made, and so many bytes are used since.
+    /// A snapshot was made, and this number of bytes is used since.
     Snapshot(u64),
     /// A step of a copy was made, and this is what it did.
     Pumped(Pump),

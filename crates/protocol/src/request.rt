@@ -1,4 +1,4 @@
-//! What a line asks for.
+//! The requests of lines.
 ghost use Rattle.std.specs.Prelude.{◌≡◌, ◌≤◌, ◌↔◌, length, codes, IfOk, IsTrue, MatchOption};
 ghost use Rattle.doc_tree.specs.Cursor.{IsNext, ahead};
 ghost use Rattle.doc_tree.specs.Doc.{Elements, object};
@@ -28,11 +28,11 @@ pub enum Request {
     Query { name: String, path: String },
     /// The names of all documents.
     List,
-    /// What the store tells of itself.
+    /// The status of the store.
     Status,
     /// The documents written anew, without the changes that led to them.
     Snapshot,
-    /// A step of a snapshot that is copied, of at most so many sectors.
+    /// A step of a snapshot that is copied, of at most `max` sectors.
     Pump { max: u64 },
 }
 
@@ -103,14 +103,14 @@ fn several(alloc: Global, members: MemberCursor) -> Result<Option<Request>, Allo
     }
 }
 
-// Whether a transaction may have so many changes.
+// Whether a transaction may have `many` changes.
 fn is_countable(many: usize) -> bool
     ensures { IsTrue result ↔ ((1 ≤ many) × (many ≤ 1_024)) }
 {
     1 <= many && many <= TRANSACTION_CHANGES
 }
 
-// The list of changes where these are the members of a transaction's object.
+// The list of changes if these are the members of a transaction's object.
 fn changes_in(members: MemberCursor) -> Option<Vec<Tree>>
     ensures { MatchOption result
         ((ds : Elements) → ahead members ≡ transaction_members ds → ⊥)
@@ -128,7 +128,7 @@ fn changes_in(members: MemberCursor) -> Option<Vec<Tree>>
     }
 }
 
-// The commands whose objects these are, with the trees' own parts. `None` where one is no command's.
+// The commands whose objects these are, with the trees' own parts. `None` if one is no command's.
 fn commands_in(alloc: Global, trees: Vec<Tree>) -> Result<Option<Vec<Command>>, AllocError>
     ensures { IfOk result (AreCommands (elements_view trees.items)) }
 {

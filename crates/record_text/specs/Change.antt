@@ -5,7 +5,7 @@ use Rattle.doc_tree.specs.TreeView.{view}
 use Rattle.record_text.specs.declared.command.Command.{Command}
 use Rattle.record_text.specs.declared.command.Command.TheVariants.{Create, Patch, Schema, Delete}
 
--- a command, without where it lies in memory; a patch may ask that the document has a revision
+-- a command, without its place in memory; a patch may ask that the document has a revision
 pub data Change : Type 0 where
   create : (name : List ℕ) → (schema doc : Doc) → Change
   patch : (name : List ℕ) → (ops : Doc) → (if_rev : Option ℕ) → Change
@@ -30,7 +30,7 @@ word_of (delete name) = codes "delete"
 abbrev pub name_and : List ℕ → List ℕ → Doc → Members
 name_and name k d = member (codes "name") (text name) (member k d no_members)
 
--- these members behind `if_rev`, where a revision is asked for
+-- these members after `if_rev`, if a revision is asked for
 abbrev pub with_revision : Option ℕ → Members → Members
 with_revision None ms = ms
 with_revision (Some r) ms = member (codes "if_rev") (int (pos r)) ms

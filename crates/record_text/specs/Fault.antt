@@ -1,4 +1,4 @@
--- Why bytes begin with no frame.
+-- The reasons why bytes begin with no frame.
 use Rattle.std.specs.Prelude.{◌≡◌, ℕ, ◌+◌, ◌<◌, ◌≤◌, ◌⊎◌, List, length, take, drop, ⊤}
 use Rattle.std.specs.Int.{w32, w64, from_be_bytes}
 use Rattle.doc_tree.specs.Doc.{Doc, height}
@@ -14,15 +14,15 @@ use Rattle.record_text.specs.declared.fault.RecordFault.TheVariants.{Short, Long
 abbrev pub stated_len : List ℕ → ℕ
 stated_len bytes = from_be_bytes w32 (take 4 bytes)
 
--- as many of the bytes behind a head of so many
+-- the bytes after a head of `head` bytes, as many as it states
 abbrev pub stated_body : ℕ → List ℕ → List ℕ
 stated_body head bytes = take (stated_len bytes) (drop head bytes)
 
--- the seq that stands behind the length in format 2
+-- the seq that comes after the length in format 2
 abbrev pub stated_seq : List ℕ → ℕ
 stated_seq bytes = from_be_bytes w64 (take 8 (drop 4 bytes))
 
--- a head of so many bytes, which states a length within the limit, and as many bytes as it states
+-- a head of `head` bytes, which states a length within the limit, and as many bytes as it states
 pub record HasBody (head : ℕ) (bytes : List ℕ) : Type 0 where
   pub headed : head ≤ length bytes
   pub small : stated_len bytes ≤ 4194304
@@ -34,13 +34,14 @@ pub record IsTextOf (bytes : List ℕ) (d : Doc) : Type 0 where
   pub low : height d ≤ 127
   pub text : text_of d ≡ bytes
 
--- why bytes have no head of so many and behind it the body that it states
+-- why bytes don't have a head of `head` bytes and, after it, the body that it states
 abbrev pub IsHeadFault : ℕ → RecordFault → List ℕ → Type 0
 IsHeadFault head Short bytes = (length bytes < head) ⊎ ((stated_len bytes ≤ 4194304) × (length bytes < head + stated_len bytes))
 IsHeadFault head Long bytes = (head ≤ length bytes) × (4194304 < stated_len bytes)
 IsHeadFault head _ bytes = ⊥
 
--- why a frame with such a head isn't read, where these documents are no command's: each fault is judged where none above it is
+-- why a frame with such a head isn't read, if these documents are no command's: each fault is judged only if none above
+-- it applies
 abbrev pub IsFaultBehind : ℕ → (Doc → Type 0) → RecordFault → List ℕ → Type 0
 IsFaultBehind head IsNone Text bytes = HasBody head bytes × ((d : Doc) → IsTextOf (stated_body head bytes) d → ⊥)
 IsFaultBehind head IsNone Shape bytes = HasBody head bytes × ((d : Doc) × IsTextOf (stated_body head bytes) d × IsNone d)
@@ -74,7 +75,7 @@ IsLong Long body = 4194304 < length body
 IsLong Memory body = ⊤
 IsLong _ body = ⊥
 
--- why a frame isn't written: each fault is judged where none above it is
+-- why a frame isn't written: each fault is judged only if none above it applies
 abbrev pub IsWriteFault : RecordFault → Change → Type 0
 IsWriteFault Shape c = IsSpelled c → ⊥
 IsWriteFault Long c = IsSpelled c × (4194304 < length (body_of c))

@@ -1,4 +1,4 @@
--- Frames: a change as bytes that tell their own length.
+-- Frames: a change as bytes that begin with their own length.
 use Rattle.std.specs.Prelude.{◌≡◌, ℕ, ◌<◌, ◌≤◌, ◌^◌, List, [], ◌∷◌, ◌++◌, length, take, nat_eq, if◌then◌else◌, ⊤}
 use Rattle.std.specs.Int.{w32, w64, to_be_bytes}
 use Rattle.doc_tree.specs.Sound.{IsSound}

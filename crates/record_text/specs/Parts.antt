@@ -1,4 +1,4 @@
--- The parts of a change, by which it is told whether its frame can be read.
+-- The parts of a change that decide whether its frame can be read.
 use Rattle.std.specs.Prelude.{ℕ, ◌+◌, ◌≤◌, List, [], ◌∷◌, length}
 use Rattle.std.specs.List.{AllByRecursion}
 use Rattle.std.specs.Str.{IsUtf8}

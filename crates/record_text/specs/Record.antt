@@ -1,4 +1,4 @@
--- When a document is a command's object.
+-- The documents that are a command's object.
 use Rattle.std.specs.Prelude.{◌≡◌, Option, None, Some, Result, Ok, Err, ⊤}
 use Rattle.doc_tree.specs.Doc.{Doc}
 use Rattle.record_text.specs.Change.{Change, change_of, object_of, AsksNone}
@@ -14,7 +14,7 @@ IsNoCommand d = (c : Change) → d ≡ object_of c → ⊥
 abbrev pub IsNoCommand_1 : Doc → Type 0
 IsNoCommand_1 d = (c : Change) → AsksNone c → d ≡ object_of c → ⊥
 
--- the command whose object it is, or none where it is no command's
+-- the command whose object it is; none if it is no command's
 abbrev pub IsCommand : Doc → Option Command → Type 0
 IsCommand d None = IsNoCommand d
 IsCommand d (Some command) = d ≡ object_of (change_of command)

@@ -1,4 +1,4 @@
-// What a command is in memory, and its object as serde's data.
+//! A command in memory, and its object as serde's data.
 ghost use Rattle.std.specs.Prelude.{◌↔◌, IsTrue, OnOk, Some, None, string_bytes};
 ghost use Rattle.serde_json.specs.Events.{SendsValue};
 ghost use Rattle.doc_tree.specs.Sound.{IsSound};
@@ -22,8 +22,8 @@ pub enum Command {
         schema: Tree,
         doc: Tree,
     },
-    /// Operations on the document of that name (RFC 6902), as they were spelled, and the revision that
-    /// it is to have, where one is asked for.
+    /// Operations on the document of that name (RFC 6902), as they were spelled, and the revision that it must have, if
+    /// one is asked for.
     Patch {
         name: String,
         ops: Tree,

@@ -1,7 +1,7 @@
-// Why a command, or a frame, isn't read or written.
+//! The reasons why a command, or a frame, isn't read or written.
 use std::alloc::AllocError;
 
-/// Why a command, or a frame, isn't read or written.
+/// The reasons why a command, or a frame, isn't read or written.
 #[derive(Clone, Copy, Debug, Drop, PartialEq, Eq)]
 pub enum RecordFault {
     /// There are fewer bytes than a length takes, or than the length says.

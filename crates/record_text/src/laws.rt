@@ -8,7 +8,7 @@ ghost use Rattle.record_text.specs.Parts.{HasSmallParts};
 ghost use Rattle.record_text.specs.declared.fault.RecordFault.{RecordFault};
 ghost use Rattle.record_text.specs.declared.fault.RecordFault.TheVariants.{Memory};
 
-/// Frames of one format are told apart whatever follows them.
+/// Frames of one format are distinguished whatever follows them.
 pub fn frames_differ()
     ensures format_2 { (e f : Entry) (x y : List ℕ) → IsEntry 2 e → IsEntry 2 f
         → frame_of e ++ x ≡ frame_of f ++ y → (e ≡ f) × (x ≡ y) }
@@ -16,7 +16,7 @@ pub fn frames_differ()
         → frame_1_of c ++ x ≡ frame_1_of d ++ y → (c ≡ d) × (x ≡ y) }
 {}
 
-/// Entries whose frames of one format stand back to back are told by the bytes, in format 1 those of one seq.
+/// The bytes determine the entries whose frames of one format they hold back to back, in format 1 entries of one seq.
 pub fn frame_lists_differ()
     ensures { (version seq : ℕ) (es fs : List Entry) → AreEntries version es → AreEntries version fs
         → (version ≡ 1 → AreDated seq es) → (version ≡ 1 → AreDated seq fs)

@@ -1,4 +1,4 @@
-// The frame of a patch in parts that are lent: whoever replays it reads its operations straight to a patch.
+//! The frame of a patch in parts that are lent: whoever replays it reads its operations straight to a patch.
 ghost use Rattle.std.specs.Prelude.{◌≡◌, ◌≤◌, None, IfSome};
 ghost use Rattle.doc_tree.specs.Doc.{Doc, height};
 ghost use Rattle.doc_tree.specs.Sound.{IsSound};
@@ -14,7 +14,7 @@ use crate::read::{body_within, seq_within};
 pub struct PatchFrame<'b> {
     /// The name of the document.
     pub name: &'b str,
-    /// What stands for the operations. It isn't read.
+    /// The bytes in the place of the operations. They aren't read.
     pub ops: &'b [u8],
     /// The frame's seq.
     pub seq: u64,
@@ -22,9 +22,9 @@ pub struct PatchFrame<'b> {
     pub len: usize,
 }
 
-/// The parts of the frame of format 2 that the bytes begin with, where its change is a patch that asks for no
-/// revision. Its operations aren't read: the bytes begin with that frame if `ops` is the compact text of a
-/// document at most 126 high. It takes no memory.
+/// The parts of the frame of format 2 that the bytes begin with, if its change is a patch that asks for no revision.
+/// Its operations aren't read: the bytes begin with that frame if `ops` is the compact text of a document at most 126
+/// high. It takes no memory.
 ///
 /// `None` says nothing: the bytes begin with no frame, or with one of another change, or the name holds an
 /// escape.

@@ -1,9 +1,9 @@
-//! Commands that change a store, and the frames by which a journal holds them.
-//! A command is one JSON object (`object_of`), and its frame a length, a seq and that object's compact text
-//! (`frame_of`); a frame of format 1 has no seq (`frame_1_of`). Each command has one spelling: `read_frame`
-//! answers a command and a seq exactly where the bytes begin with their frame, and every fault exactly when.
-//! `patch_frame` lends the parts of a patch's frame, and leaves its operations to be read by the caller.
-//! Frames of one format are told apart whatever follows (`laws`).
+//! Commands that change a store, and the frames by which a journal holds them. A command is one JSON object
+//! (`object_of`), and its frame a length, a seq and that object's compact text (`frame_of`); a frame of format 1 has no
+//! seq (`frame_1_of`). Each command has one spelling: `read_frame` answers a command and a seq exactly when the bytes
+//! begin with their frame, and each fault exactly when it applies. `patch_frame` lends the parts of a patch's frame,
+//! and leaves its operations to be read by the caller. Frames of one format are distinguished whatever follows
+//! (`laws`).
 #![tactic(auto)]
 
 mod command;

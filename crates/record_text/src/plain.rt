@@ -1,5 +1,5 @@
-// Bodies that are read quickly: most hold no escape, and most are patches. Their texts are compared and not
-// written again, and a patch's parts are read where they stand. `None` says nothing of a body.
+//! Bodies that are read quickly: most hold no escape, and most are patches. Their texts are compared and not written
+//! again, and a patch's parts are read in place. `None` says nothing of a body.
 ghost use Rattle.std.specs.Prelude.{◌≡◌, ◌≤◌, ◌++◌, None, true, IfSome};
 ghost use Rattle.std.specs.Str.{IsUtf8};
 ghost use Rattle.doc_tree.specs.Doc.{Doc, height};
@@ -71,8 +71,8 @@ fn after_patch<'b>(name: &str, ops: &Tree, body: &'b [u8]) -> Option<&'b [u8]>
     strip_bytes(AFTER_OPS, rest)
 }
 
-/// The name and what stands for the operations, which aren't read, in the body of a patch that asks for no
-/// revision: the body is the text of the patch by each document that the second is the text of.
+/// The name, and the bytes in the place of the operations, which aren't read, in the body of a patch that asks for no
+/// revision: the body is the text of the patch by each document that has these bytes as its text.
 pub(crate) fn patch_parts(body: &[u8]) -> Option<(&str, &[u8])>
     ensures { IfSome result (λ p. (ops : Doc) → p.1.now ≡ text_of ops → IsSound ops → height ops ≤ 126
         → IsTextOf body.now (object_of (patch p.0.now ops None))) }
@@ -87,7 +87,7 @@ pub(crate) fn patch_parts(body: &[u8]) -> Option<(&str, &[u8])>
     Some((name, ops))
 }
 
-// A text that the bytes may begin with as a JSON string with no escape: `strip_quoted` tells whether they do.
+// A text that the bytes may begin with as a JSON string with no escape: `strip_quoted` says whether they do.
 fn first_text(bytes: &[u8]) -> Option<&str>
     ensures { IfSome result (λ text. IsUtf8 text.now) }
 {

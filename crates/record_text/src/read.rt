@@ -1,4 +1,4 @@
-// From bytes to the command whose frame they begin with.
+//! The reading of the command whose frame some bytes begin with.
 ghost use Rattle.std.specs.Prelude.{◌≡◌, ◌≢◌, ◌<◌, ◌≤◌, ℕ, IfOk, IfErr, MatchResult, length};
 ghost use Rattle.doc_tree.specs.TreeView.{view};
 ghost use Rattle.record_text.specs.Change.{Change, change_of, object_of};
@@ -18,10 +18,10 @@ use std::alloc::Global;
 
 /// The command whose frame the bytes begin with in format 2, the frame's seq, and its length in bytes.
 ///
-/// `Short` where there are fewer than 12 bytes; `Long` where the length that they state is over
-/// `BODY_LIMIT`; `Short` where fewer bytes follow than it states; `Text` where these aren't the compact
-/// text of a document at most 127 high, each in its one spelling; `Shape` where that document is no
-/// command's object; in this order. `Memory` may come in place of any answer.
+/// `Short` if there are fewer than 12 bytes; `Long` if the length that they state is over `BODY_LIMIT`; `Short` if
+/// fewer bytes follow than it states; `Text` if these aren't the compact text of a document at most 127 high, each in
+/// its one spelling; `Shape` if that document is no command's object; in this order. `Memory` may come in place of any
+/// answer.
 pub fn read_frame(alloc: Global, bytes: &[u8]) -> Result<(Command, u64, usize), RecordFault>
     ensures ok { IfOk result (λ r. BeginsWith bytes.now (entry r.1 (change_of r.0)) r.2) }
     ensures err { IfErr result (λ e. IsReadFault e bytes.now) }
@@ -36,8 +36,8 @@ pub fn read_frame(alloc: Global, bytes: &[u8]) -> Result<(Command, u64, usize), 
 
 /// The command whose frame the bytes begin with in format 1, and the frame's length in bytes.
 ///
-/// The faults are those of `read_frame`, but that 4 bytes stand before the body, and `Shape` is also
-/// answered for a command that asks for a revision.
+/// The faults are those of `read_frame`, except that 4 bytes come before the body, and `Shape` is also answered for a
+/// command that asks for a revision.
 pub fn read_frame_1(alloc: Global, bytes: &[u8]) -> Result<(Command, usize), RecordFault>
     ensures ok { IfOk result (λ r. BeginsWith_1 bytes.now (change_of r.0) r.1) }
     ensures err { IfErr result (λ e. IsReadFault_1 e bytes.now) }
@@ -66,7 +66,7 @@ pub(crate) fn seq_within(bytes: &[u8]) -> Result<u64, RecordFault>
     Ok(u64::from_be_bytes(*seq))
 }
 
-/// The body behind a head of so many bytes, the first four of which say how long it is.
+/// The body after a head of `head` bytes, the first four of which say how long it is.
 pub(crate) fn body_within(bytes: &[u8], head: usize) -> Result<&[u8], RecordFault>
     requires { 4 ≤ head }
     ensures { MatchResult result

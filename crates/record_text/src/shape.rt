@@ -1,5 +1,5 @@
-// The command that a document is the object of: an object's members come in byte order of their names,
-// so each kind of command has its members in one order.
+//! The command that a document is the object of: an object's members come in byte order of their names,
+//! so each kind of command has its members in one order.
 ghost use Rattle.std.specs.Prelude.{◌≡◌, ℕ, List, MatchOption, codes, string_bytes};
 ghost use Rattle.doc_tree.specs.Cursor.{ahead};
 ghost use Rattle.doc_tree.specs.Doc.{Doc};
@@ -14,16 +14,16 @@ use std::alloc::Global;
 
 /// The command whose object the tree is, with trees of its own.
 ///
-/// `Shape` where the tree is the object of no command: no object, another `cmd`, a member missing or one
-/// too many, a name that is no text. `Memory` may come in place of any answer.
+/// `Shape` if the tree is the object of no command: no object, another `cmd`, a member missing or one too many, a name
+/// that is no text. `Memory` may come in place of any answer.
 pub fn command_of(alloc: Global, tree: &Tree) -> Result<Command, RecordFault>
     ensures { ReadsCommand (view tree.now) result }
 {
     command_from(tree.copy(alloc)?).ok_or(RecordFault::Shape)
 }
 
-/// The command whose object the tree is, with the tree's own parts. `None` where `command_of` answers
-/// `Shape`. It takes no memory.
+/// The command whose object the tree is, with the tree's own parts. `None` if `command_of` answers `Shape`. It takes no
+/// memory.
 pub fn command_from(tree: Tree) -> Option<Command>
     ensures { IsCommand (view tree) result }
 {
@@ -31,8 +31,8 @@ pub fn command_from(tree: Tree) -> Option<Command>
     command_with(word.as_str(), others)
 }
 
-/// The command whose object has that word at `cmd` and these members behind it, with their own parts.
-/// `None` where it is the object of no command. It takes no memory.
+/// The command whose object has that word at `cmd` and these members after it, with their own parts. `None` if it is
+/// the object of no command. It takes no memory.
 pub fn command_with(word: &str, others: MemberCursor) -> Option<Command>
     ensures { IsCommand (command_object word.now (ahead others)) result }
 {
@@ -90,7 +90,7 @@ fn delete(others: MemberCursor) -> Option<Command>
     Some(Command::Delete { name })
 }
 
-// The name and the value of the last member, where the members are a name and one more that is called so.
+// The name and the value of the last member, if the members are a name and one more with that name.
 fn last_two(others: MemberCursor, last: &str) -> Option<(String, Tree)>
     ensures { MatchOption result
         ((name : List ℕ) (d : Doc) → ahead others ≡ name_and name last.now d → ⊥)

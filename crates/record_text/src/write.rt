@@ -1,4 +1,4 @@
-// From a command to its frame.
+//! The frame of a command, written.
 ghost use Rattle.std.specs.Prelude.{◌≡◌, ◌≤◌, ◌<◌, ◌^◌, ◌++◌, length, IfOk, MatchResult};
 ghost use Rattle.std.specs.Int.{w32, to_be_bytes};
 ghost use Rattle.doc_tree.specs.Sound.{IsSound};
@@ -16,8 +16,8 @@ use std::alloc::{AllocError, Global};
 /// The command's frame with that seq, in format 2: the length of its body in 4 bytes and the seq in 8, the
 /// highest first, and the body, the compact text of the command's object.
 ///
-/// `Shape` where the command asks for a revision over 2^63 - 1, which no body spells; then `Long` where
-/// the body is over `BODY_LIMIT` bytes. `Memory` may come in place of any answer.
+/// `Shape` if the command asks for a revision over 2^63 - 1, which no body spells; then `Long` if the body is over
+/// `BODY_LIMIT` bytes. `Memory` may come in place of any answer.
 pub fn frame(alloc: Global, command: &Command, seq: u64) -> Result<Vec<u8>, RecordFault>
     ensures frame { MatchResult result (λ bytes. bytes.items ≡ frame_of (entry seq (change_of command.now)))
         (λ e. IsWriteFault e (change_of command.now)) }
@@ -33,8 +33,8 @@ pub fn frame(alloc: Global, command: &Command, seq: u64) -> Result<Vec<u8>, Reco
 
 /// The command's frame in format 1, which has no seq.
 ///
-/// `Shape` where the command asks for a revision, since format 1 has no frame for it; then `Long` and
-/// `Memory` as `frame` answers them.
+/// `Shape` if the command asks for a revision, since format 1 has no frame for it; then `Long` and `Memory` as `frame`
+/// answers them.
 pub fn frame_1(alloc: Global, command: &Command) -> Result<Vec<u8>, RecordFault>
     ensures frame { MatchResult result (λ bytes. bytes.items ≡ frame_1_of (change_of command.now))
         (λ e. IsWriteFault_1 e (change_of command.now)) }
@@ -49,8 +49,8 @@ pub fn frame_1(alloc: Global, command: &Command) -> Result<Vec<u8>, RecordFault>
     Ok(framed(alloc, &[], &body)?)
 }
 
-/// The frame, with that revision, of the command that makes a document of that name, with that schema and
-/// value. None of them is copied, and the only error is want of memory.
+/// The frame, with that revision, of the command that makes a document of that name, with that schema and value. None
+/// of them is copied. An error means that memory ran out.
 pub fn creation_frame(
     alloc: Global,
     name: &str,
@@ -69,7 +69,7 @@ pub fn creation_frame(
     framed(alloc, &revision.to_be_bytes(), &body)
 }
 
-// The compact text of a command's object, where the revision that it asks for can be spelled.
+// The compact text of a command's object, if the revision that it asks for can be spelled.
 fn body_text(alloc: Global, command: &Command) -> Result<Vec<u8>, RecordFault>
     ensures body { MatchResult result (λ bytes. bytes.items ≡ body_of (change_of command.now))
         (λ e. IsLong e (body_of (change_of command.now))) }
@@ -85,7 +85,7 @@ fn body_text(alloc: Global, command: &Command) -> Result<Vec<u8>, RecordFault>
     Ok(body)
 }
 
-// A body behind its length, and what stands between them.
+// A body after its length, and what is between the two.
 fn framed(alloc: Global, stamp: &[u8], body: &[u8]) -> Result<Vec<u8>, AllocError>
     requires stamp { length stamp.now ≤ 8 }
     requires small { length body.now ≤ 4194304 }

@@ -1,4 +1,4 @@
--- The refusals: each number with its name.
+-- The name of each refusal's number.
 use Rattle.std.specs.Prelude.{ℕ, List, [], ◌∷◌, if◌then◌else◌, nat_eq, codes}
 
 -- the table

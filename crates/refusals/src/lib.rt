@@ -1,4 +1,4 @@
-//! The refusals of all crates: each number stands here once, with its name. Nothing below this crate.
+//! The refusals of all crates: each number is here once, with its name. This crate uses no other.
 #![tactic(auto)]
 
 mod names;

@@ -5,7 +5,7 @@ ghost use Rattle.refusals.specs.Names as names;
 
 use crate::numbers::*;
 
-/// The name of the refusal of that number, or the empty text where there is none.
+/// The name of the refusal of that number, or the empty text if there is none.
 pub fn name_of(number: u16) -> &'static str
     ensures { result.now ≡ names.name_of number }
 {

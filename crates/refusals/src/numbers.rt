@@ -18,13 +18,13 @@ pub const COMMAND: u16 = 14;
 /// A name has not 1 to 64 of the letters, digits, `-`, `_` and `.`.
 pub const NAME: u16 = 15;
 
-/// A document of that name stands already.
+/// A document of that name already exists.
 pub const EXISTS: u16 = 20;
 
 /// No document has that name.
 pub const NO_DOCUMENT: u16 = 21;
 
-/// 1,024 documents stand already.
+/// 1,024 documents already exist.
 pub const TOO_MANY: u16 = 22;
 
 /// A document's compact text has more than 1,048,576 bytes.
@@ -58,8 +58,8 @@ pub const PATCH_LONG: u16 = 36;
 /// A pointer names no value of the document.
 pub const NO_VALUE: u16 = 37;
 
-/// A text is no JSON Pointer: it is neither empty nor begins with `/`, or a `~` stands before neither
-/// `0` nor `1` (RFC 6901, section 3).
+/// A text is no JSON Pointer: it is neither empty nor begins with `/`, or a `~` is followed by neither `0` nor `1` (RFC
+/// 6901, section 3).
 pub const POINTER: u16 = 38;
 
 /// A value at a position of a schema is no schema, or a keyword's value has not its form.
@@ -115,8 +115,7 @@ pub const SEQ_END: u16 = 64;
 /// bytes of text together, each counted with each change.
 pub const TRANSACTION_LARGE: u16 = 65;
 
-/// A device that is to be formatted holds a store: sector 0 begins as a commit sector does, whatever
-/// follows.
+/// A device on which a format was asked for holds a store: sector 0 begins as a commit sector does, whatever follows.
 pub const ALREADY_A_STORE: u16 = 70;
 
 /// A device has fewer than 3 sectors, or more than 2^32.

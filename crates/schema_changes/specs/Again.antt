@@ -1,4 +1,4 @@
--- What is judged again at a value of which nodes must pass: the rules that rest on what may have changed.
+-- The second judgement of a value that certain nodes must pass: the rules that rest on what may have changed.
 use Rattle.std.specs.Prelude.{◌≡◌, ◌⊎◌, ⊤, ℕ, zero, suc, List, [], ◌∷◌, ◌++◌, Bool, true, false, ◌&&◌, ◌||◌, Option, Some, None, if◌then◌else◌}
 use Rattle.std.specs.Option.{option_to_list}
 use Rattle.doc_tree.specs.Doc.{Doc, text, list, object, Members, no_members, member, Place, name, index}
@@ -23,7 +23,8 @@ use Rattle.schema_changes.specs.Agree.{AgreeOff}
 abbrev pub AllPass : (ℕ → Doc → Bool) → List ℕ → Doc → Type 0
 AllPass known asked t = (i : ℕ) → bit asked i ≡ true → known i t ≡ true
 
--- the nodes that must pass the value itself where the rule holds of it: `allOf` and `$ref` (JSON Schema Core, sections 10.2.1.1 and 8.2.3.1)
+-- the nodes that must pass the value itself if the rule holds of it: `allOf` and `$ref` (JSON Schema Core, sections
+-- 10.2.1.1 and 8.2.3.1)
 abbrev pub must_here : Rule → List ℕ
 must_here (All v) = v.items
 must_here (Refers j) = j ∷ []
@@ -104,7 +105,7 @@ mark_anew in_list n x bs = mark_anew_rules x.rules.items (mark_all (one_if (in_l
 abbrev pub collect_anew : Bool → List ℕ → ℕ → List Node → List ℕ → List ℕ
 collect_anew in_list asked i nodes bs = walk (mark_anew in_list) asked i nodes bs
 
--- what a rule says of the value where the nodes that must pass it do
+-- the answer of a rule on the value, if the nodes pass that must pass it
 abbrev pub rule_again : (ℕ → Bool) → Doc → Rule → Bool
 rule_again known t (All v) = true
 rule_again known t (Refers j) = true
@@ -123,12 +124,12 @@ AllAgain known in_list t nodes asked = (i : ℕ) (x : Node) → node_get nodes i
 
 -- ---- places
 
--- where the child at that place stands
+-- the site of the child at that place
 abbrev pub site_of : Place → PlaceInValue
 site_of (name k) = sites.name k
 site_of (index n) = sites.index n
 
--- each name stands before those after it
+-- each name comes before those after it
 abbrev pub AreSorted : Members → Type 0
 AreSorted no_members = ⊤
 AreSorted (member k d ms) = IsBefore k ms × AreSorted ms
@@ -149,7 +150,7 @@ pub record Tells (result : Bool) (P : Type 0) : Type 0 where
 abbrev pub ValuePasses : (ℕ → Doc → Bool) → List Node → List ℕ → PlaceInValue → Doc → Type 0
 ValuePasses known nodes asked p d = (i j : ℕ) (x : Node) → node_get nodes i ≡ Some x → bit asked i ≡ true → In j (must_all_below x p x.rules.items) → known j d ≡ true
 
--- the name that leads there passes what names must pass, where a name does
+-- the name that leads there, if a name does, passes the nodes that names must pass
 abbrev pub NamePasses : (ℕ → Doc → Bool) → List Node → List ℕ → Place → Type 0
 NamePasses known nodes asked p = (k : List ℕ) → p ≡ name k → ValuePasses known nodes asked sites.member_name (text k)
 
@@ -166,6 +167,6 @@ PassedBefore known asked ps t = (ps ≡ []) ⊎ ((old : Doc) × AllPass known as
 abbrev pub PassedBelow : (ℕ → Doc → Bool) → List Node → List ℕ → Place → List Place → Doc → Type 0
 PassedBelow known nodes asked p ps d = (ps ≡ []) ⊎ ((old : Doc) × PassBelow known nodes asked p old × AgreeOff ps old d)
 
--- the result is whether the node passes, where it passed a value that agrees with this one off the location
+-- the result is whether the node passes, if it passed a value that agrees with this one off the location
 abbrev pub IsPassedAgain : (ℕ → Doc → Bool) → ℕ → List Place → Doc → Bool → Type 0
 IsPassedAgain known n ps t b = (old : Doc) → known n old ≡ true → AgreeOff ps old t → b ≡ known n t

@@ -12,7 +12,7 @@ AreAlike _ _ = ⊥
 abbrev pub AgreeBeside : Place → Doc → Doc → Type 0
 AgreeBeside p old new = (q : Place) → q ≢ p → child q old ≡ child q new
 
--- two children agree so, or neither is there; one may come or go where the location ends
+-- two children agree in this way, or neither is there; one may come or go if the location ends here
 abbrev pub AtChild : List Place → (Doc → Doc → Type 0) → Option Doc → Option Doc → Type 0
 AtChild ps Agree (Some d) (Some e) = Agree d e
 AtChild ps Agree None None = ⊤

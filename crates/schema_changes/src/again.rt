@@ -1,4 +1,4 @@
-//! What is judged again at one value.
+//! The second judgement of one value.
 ghost use Rattle.std.specs.Prelude.{◌≡◌, ℕ, Bool, true, false, ◌*◌, ◌&&◌, ◌<◌, ◌≤◌, ◌^◌, if◌then◌else◌, length};
 ghost use Rattle.doc_tree.specs.Doc.{Doc};
 ghost use Rattle.doc_tree.specs.TreeView.{view};
@@ -15,7 +15,7 @@ use schema_levels::conclude::rule_here;
 use schema_levels::{Counters, Node, Rule};
 use schema_rules::Instance;
 
-/// Whether each node of the set holds of the value, where the nodes that it needs at the value and at its children pass.
+/// Whether each node of the set holds of the value, if the nodes that it needs at the value and at its children pass.
 /// `judging` and `passed` are written over.
 pub(crate) fn all_hold(
     nodes: &[Node],

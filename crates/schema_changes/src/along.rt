@@ -17,7 +17,8 @@ use schema_levels::bits::fill;
 use schema_levels::{ChildPlace, Counters, Node};
 use schema_rules::Instance;
 
-/// Whether the value passes each node of the set, where it did before it changed at the location. All sets are written over.
+/// Whether the value passes each node of the set, if it did before it changed at the location. All sets are written
+/// over.
 #[cycle(along)]
 pub(crate) fn along(
     nodes: &[Node],

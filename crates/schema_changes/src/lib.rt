@@ -1,8 +1,8 @@
 //! Judging again what changed, by numbered nodes.
 //!
-//! Where a document passed and another agrees with it off one location, only the values along that location are judged
-//! again: what must hold of each other value holds still. Rules that join the answers of other nodes at a value, as those
-//! of `anyOf` and `not`, are judged there as far as they reach.
+//! If a document passed and another agrees with it off one location, only the values along that location are judged
+//! again: what must hold of each other value still holds. Rules that join the answers of other nodes at a value, as
+//! those of `anyOf` and `not`, are judged there as far as they reach.
 #![tactic(auto)]
 
 mod again;

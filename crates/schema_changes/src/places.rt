@@ -1,4 +1,4 @@
-//! Where children stand.
+//! The places of children.
 ghost use Rattle.std.specs.Prelude.{◌≡◌, option_map};
 ghost use Rattle.doc_tree.specs.Doc.{child};
 ghost use Rattle.doc_tree.specs.Place.{place_of};
@@ -28,7 +28,7 @@ pub(crate) fn open_members(value: &Tree)
     }
 }
 
-/// Where the child stands.
+/// The place of the child.
 pub(crate) fn spot_of(step: &Step) -> ChildPlace<'_>
     ensures { seen result ≡ site_of (place_of step.now) }
 {

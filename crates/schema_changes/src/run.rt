@@ -1,4 +1,4 @@
-//! Whether one node passes a value that changed at a location. No memory is taken.
+//! The judgement of one node on a value that changed at a location. No memory is taken.
 ghost use Rattle.std.specs.Prelude.{◌≡◌, ℕ, Bool, true, ◌*◌, ◌<◌, ◌≤◌, length, map};
 ghost use Rattle.doc_tree.specs.Doc.{Doc};
 ghost use Rattle.doc_tree.specs.Place.{place_of};
@@ -13,8 +13,8 @@ use doc_tree::{Step, Tree};
 use schema_levels::bits::{fill, write};
 use schema_levels::{Counters, MOST_WORDS, Node};
 
-/// Whether the node with that number passes the value, where it passed one that agrees with it off the location. Takes no
-/// memory: words for 64 levels, or fewer where the nodes are many.
+/// Whether the node with that number passes the value, if it passed one that agrees with it off the location. Takes no
+/// memory: words for 64 levels, or fewer if the nodes are many.
 pub fn passes_again(
     nodes: &[Node],
     counters: &Counters,

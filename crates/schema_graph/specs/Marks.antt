@@ -1,4 +1,5 @@
--- For the clauses within the crate: what a walk over a graph has marked: places that it has not seen, those it is still on the way from, and those it is done with.
+-- For the clauses within the crate: the marks of a walk over a graph: places that it has not seen, those it is still on
+-- the way from, and those it is done with.
 use Rattle.std.specs.Prelude.{◌≡◌, ◌≤◌, ℕ, suc, Bool, true, false, List, length, slice_index_or, count_by}
 use Rattle.schema_graph.specs.Walks.{In, Walk}
 use Rattle.schema_graph.specs.Numbered.{Graph, row_at}

@@ -7,7 +7,7 @@ use Rattle.schema_graph.specs.Loops.{HasLoop}
 abbrev pub Graph : Type 0
 Graph = List (Vec ℕ)
 
--- where a place leads, nowhere past the last
+-- the places that a place leads to; none for a number past the last
 abbrev pub row_at : Graph → ℕ → List ℕ
 row_at [] a = []
 row_at (r ∷ g) zero = r.items

@@ -11,7 +11,7 @@ use Rattle.schema_graph.specs.declared.walk.Walk.{Walk}
 abbrev pub at : List ℕ → ℕ → ℕ
 at ns i = slice_index_or ns i 0
 
--- each place stands once in the list, where its rank says, and each edge leads to a lower rank
+-- each place is once in the list, at the index that is its rank, and each edge leads to a lower rank
 pub record IsOrder (g : Graph) (places ranks : List ℕ) : Type 0 where
   pub many_places : length places ≡ length g
   pub many_ranks : length ranks ≡ length g
@@ -26,7 +26,7 @@ abbrev pub is_done : Mark → Bool
 is_done Done = true
 is_done _ = false
 
--- the same of the places that are done, which are the first so many of the list
+-- the same of the places that are done, which are the first `count` of the list
 pub record ArePlaced (g : Graph) (m : List Mark) (places ranks : List ℕ) (count : ℕ) : Type 0 where
   pub many : count ≡ count_by is_done m
   pub placed : (a : ℕ) → mark m a ≡ Done → (at ranks a < count) × (at places (at ranks a) ≡ a)

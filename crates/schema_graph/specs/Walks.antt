@@ -1,4 +1,4 @@
--- Walks in a graph, which is told by the list of places that each place leads to.
+-- Walks in a graph, which is given by the list of places that each place leads to.
 use Rattle.std.specs.Prelude.{◌≡◌, ℕ, zero, suc, max, List, [], ◌∷◌}
 
 -- one of the elements

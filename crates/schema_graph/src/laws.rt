@@ -6,8 +6,8 @@ ghost use Rattle.std.specs.Prelude.{◌≡◌, Bool, ℕ};
 ghost use Rattle.schema_graph.specs.Loops.{HasLoop};
 ghost use Rattle.schema_graph.specs.Walks.{In, IsLooped};
 
-/// Where the places lead to places, a loop is the same fact as a walk that comes back, whatever the walk's length: the
-/// bound on the length of a loop leaves none out.
+/// If each edge from one of the places leads to one of them, a loop is the same fact as a walk that comes back,
+/// whatever the walk's length: the bound on the length of a loop leaves none out.
 pub fn loops_are_walks_that_come_back()
     ensures { (next : ℕ → List ℕ) (places : List ℕ) → ((a b : ℕ) → In a places → In b (next a) → In b places)
         → (HasLoop next places ↔ IsLooped next places) }

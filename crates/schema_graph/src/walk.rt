@@ -1,4 +1,4 @@
-//! One walk over a graph with marks, which puts its places in an order, or tells that the graph has a loop.
+//! One walk over a graph with marks. It puts the places in an order, or finds that the graph has a loop.
 
 ghost use Rattle.std.specs.Prelude.{◌≡◌, ◌<◌, ◌+◌, IfOk, IsTrue, MatchOption, false, length, set};
 ghost use Rattle.schema_graph.specs.Marks.{IsSettled, LeadTo, Goes, mark};
@@ -41,8 +41,8 @@ pub struct Walk {
     pub count: usize,
 }
 
-/// The places in order, none where the graph, told by the places that each place leads to, has a loop. An error is want
-/// of memory.
+/// The places in order; none if the graph, given by the places that each place leads to, has a loop. An error means
+/// that memory ran out.
 pub fn order_of(alloc: Global, graph: &[Vec<usize>]) -> Result<Option<Order>, AllocError>
     requires { IsClosed graph.now }
     ensures { IfOk result (λ found. MatchOption found (IsCyclic graph.now) (λ o. IsOrder graph.now o.places.items o.ranks.items)) }
@@ -64,7 +64,7 @@ pub fn order_of(alloc: Global, graph: &[Vec<usize>]) -> Result<Option<Order>, Al
     }))
 }
 
-// Where a place leads.
+// The places that a place leads to.
 fn row(graph: &[Vec<usize>], place: usize) -> &[usize]
     requires { place < length graph.now }
     ensures { result.now ≡ row_at graph.now place }
@@ -118,7 +118,7 @@ fn open(walk: &mut Walk, place: usize)
     walk.marks[place] = Mark::Open;
 }
 
-// Puts a place behind those in the order.
+// Puts a place after those in the order.
 fn finish(walk: &mut Walk, place: usize)
     requires marks { place < length walk.old.marks.items }
     requires places { walk.old.count < length walk.old.places.items }

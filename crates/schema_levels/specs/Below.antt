@@ -1,4 +1,4 @@
--- What nodes ask of a child, and what they make of the answers.
+-- The nodes that are asked of a child, and how their answers are joined.
 use Rattle.std.specs.Prelude.{ℕ, List, [], ◌∷◌, Bool, true, false, ◌&&◌, Option, Some, None, is_some, String, slice_get, nat_lt}
 use Rattle.std.specs.Map.{lookup}
 use Rattle.std.specs.BTreeMap.{is_at}
@@ -37,7 +37,7 @@ abbrev pub at_index : ℕ → PlaceInValue → Option ℕ
 at_index j (index n) = Some j
 at_index j _ = None
 
--- the node that a rule asks of the child that stands there
+-- the node that a rule asks of the child at that place
 abbrev pub below : Node → Rule → PlaceInValue → Option ℕ
 below x Properties (name k) = number_named k x.named.entries
 below x (Others j) (name k) = unless (is_some (number_named k x.named.entries)) j

@@ -1,4 +1,4 @@
--- What nodes say of a value once its children are judged.
+-- The answers of nodes on a value once its children are judged.
 use Rattle.std.specs.Prelude.{ℕ, ◌==◌, List, [], ◌∷◌, map, Bool, true, not, ◌&&◌, ◌||◌}
 use Rattle.doc_tree.specs.Doc.{Doc}
 use Rattle.schema_rules.specs.Holds.{holds}
@@ -9,7 +9,7 @@ use Rattle.schema_levels.specs.declared.node.Node.{Node}
 use Rattle.schema_levels.specs.declared.node.Rule.{Rule}
 use Rattle.schema_levels.specs.declared.node.Rule.TheVariants.{Says, Asserts, All, Any, One, Not, Then, Else, Refers}
 
--- what a rule says of the value itself, where the nodes that it asks are known
+-- the answer of a rule on the value itself, if the nodes that it asks are known
 abbrev pub rule_here : (ℕ → Bool) → Doc → Rule → Bool
 rule_here known t (Says b) = b
 rule_here known t (Asserts a) = holds a t

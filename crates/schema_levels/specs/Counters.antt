@@ -1,4 +1,4 @@
--- Which nodes have their passing elements counted, by which counter, and what rules say of the counts.
+-- The counters of nodes whose passing elements are counted, and what rules say of the counts.
 use Rattle.std.specs.Prelude.{◌≡◌, ⊤, ℕ, zero, suc, ◌+◌, ◌*◌, ◌-◌, ◌/◌, ◌%◌, ◌^◌, ◌<◌, ◌≤◌, List, [], ◌∷◌, Bool, true, false, ◌&&◌, ◌||◌, Option, Some, None, if◌then◌else◌, length, nat_eq, nat_lt, set, slice_get, slice_index_or}
 use Rattle.doc_tree.specs.TreeView.{view}
 use Rattle.schema_rules.specs.Assertions.{at_least, at_most}
@@ -38,7 +38,7 @@ abbrev pub EachCounted : List Node → Counters → Type 0
 EachCounted [] cs = ⊤
 EachCounted (x ∷ xs) cs = HaveCounters cs x.rules.items × EachCounted xs cs
 
--- how many counters the rule wants at most
+-- how many counters the rule needs at most
 abbrev pub wants : Rule → ℕ
 wants (AtLeast j v) = 1
 wants (AtMost j v) = 1
@@ -54,7 +54,7 @@ abbrev pub wanted_in : List Node → ℕ
 wanted_in [] = 0
 wanted_in (x ∷ xs) = wanted x.rules.items + wanted_in xs
 
--- each of so many has 13 bytes of a text of 262,144
+-- each of `n` counters has 13 bytes of a text of 262,144
 abbrev pub HaveRoom : ℕ → Type 0
 HaveRoom n = 13 * n ≤ 262_144
 
@@ -74,18 +74,18 @@ pub record Keeps (old new : Counters) : Type 0 where
 abbrev pub is_tallied : List ℕ → List ℕ → ℕ → Bool
 is_tallied asked passed j = bit asked j && bit passed j
 
--- narrow counters stand four in a word: one in that quarter
+-- a word holds four narrow counters: the one in that quarter
 abbrev pub unit : ℕ → ℕ
 unit zero = 1
 unit (suc zero) = 65536
 unit (suc (suc zero)) = 4294967296
 unit _ = 281474976710656
 
--- what stands in it
+-- the count in it
 abbrev pub fourth : ℕ → ℕ → ℕ
 fourth w part = w / unit part % 65536
 
--- how many words so many counters take
+-- how many words `n` counters take
 abbrev pub width : Bool → ℕ → ℕ
 width true n = n / 4 + 1
 width false n = n

@@ -1,4 +1,4 @@
--- What is said of a value, node by node.
+-- The answers on a value, node by node.
 use Rattle.std.specs.Prelude.{◌≡◌, ℕ, ◌<◌, List, length, Bool, true, ◌&&◌, Some}
 use Rattle.doc_tree.specs.Doc.{Doc}
 use Rattle.schema_graph.specs.Walks.{In}
@@ -24,7 +24,7 @@ AreFolded nodes asked cs old new = (known : ℕ → Doc → Bool) → IsTable no
 abbrev pub AreLowered : List Node → List ℕ → Doc → List ℕ → List ℕ → Type 0
 AreLowered nodes asked t old new = (known : ℕ → Doc → Bool) → IsTable nodes known → (k : ℕ) (x : Node) → node_get nodes k ≡ Some x → bit asked k ≡ true → bit new k ≡ (bit old k && said known x t)
 
--- of each node that an asked one asks of a child it is told that it was asked, and whether the child passes
+-- for each node that an asked one asks of a child: that it was asked, and whether the child passes
 abbrev pub AreTold : List Node → List ℕ → PlaceInValue → Doc → List ℕ → List ℕ → Type 0
 AreTold nodes asked p t child_asked child_passed = (known : ℕ → Doc → Bool) → IsTable nodes known → (k j : ℕ) (x : Node) → node_get nodes k ≡ Some x → bit asked k ≡ true → In j (asked_below x p x.rules.items)
     → (bit child_asked j ≡ true) × (bit child_passed j ≡ known j t)

@@ -1,4 +1,4 @@
--- Where a child stands in its value.
+-- The place of a child in its value.
 use Rattle.std.specs.Prelude.{ℕ, List}
 
 -- a member by its name, an element by its index, or the name of a member, which is itself judged as a text

@@ -1,4 +1,4 @@
--- What numbered nodes say of a value, where it is known what each says of each value.
+-- The answers of numbered nodes on a value, if it is known what each says of each value.
 use Rattle.std.specs.Prelude.{◌≡◌, ◌==◌, ℕ, zero, suc, List, [], ◌∷◌, ◌++◌, map, Bool, true, not, ◌&&◌, Option, Some, None}
 use Rattle.doc_tree.specs.Doc.{Doc, text, list, object, Elements, no_elements, element, Members, no_members, member}
 use Rattle.schema_levels.specs.PlaceInValue.{PlaceInValue, name, index, member_name}
@@ -43,7 +43,7 @@ children (list ds) = items_from 0 ds
 children (object ms) = members_each ms ++ titles ms
 children _ = []
 
--- ---- a rule, told by what it asks and how it joins the answers
+-- ---- a rule, given by what it asks and how it joins the answers
 
 abbrev pub ask_found : Option ℕ → Doc → List (ℕ × Doc) → List (ℕ × Doc)
 ask_found None d rest = rest
@@ -73,7 +73,7 @@ joined_by _ t answers = every answers
 abbrev pub rule_of : Node → Rule → alone.Rule
 rule_of x r = record { asked = λ t. ask_here (here r) t ++ ask_children x r (children t); joined = joined_by r }
 
--- ---- where each part is known
+-- ---- if each part is known
 
 abbrev pub told_by : (ℕ → Doc → Bool) → List (ℕ × Doc) → List Bool
 told_by known [] = []

@@ -1,4 +1,4 @@
-//! What nodes ask of a child, and what they make of the answers.
+//! The nodes that are asked of a child, and how their answers are joined.
 ghost use Rattle.std.specs.Prelude.{◌≡◌, false, ◌&&◌, ◌<◌, ◌^◌, if◌then◌else◌, length};
 ghost use Rattle.schema_rules.specs.Rules.{every};
 ghost use Rattle.schema_levels.specs.Bits.{bit, put};

@@ -63,7 +63,7 @@ pub fn next(words: &[u64], from: usize) -> usize
     from
 }
 
-// The place of the first 1 of the word from there on, 64 where there is none.
+// The place of the first 1 of the word from there on; 64 if there is none.
 fn first_in(word: u64, from: usize) -> usize
     requires { from < 64 }
     ensures at_least { from ≤ result }
@@ -78,7 +78,7 @@ fn first_in(word: u64, from: usize) -> usize
     }
 }
 
-// The first number in the words from there on, past them all where there is none.
+// The first number in the words from there on; past them all if there is none.
 fn next_word(words: &[u64], first: usize) -> usize
     requires first { first ≤ length words.now }
     requires short { length words.now < 2 ^ 32 }

@@ -1,4 +1,4 @@
-//! What nodes say of a value once its children are judged.
+//! The answers of nodes on a value once its children are judged.
 ghost use Rattle.std.specs.Prelude.{◌≡◌, ◌==◌, ◌&&◌, ◌<◌, ◌^◌, if◌then◌else◌, length, map};
 ghost use Rattle.schema_rules.specs.Instances.{seen};
 ghost use Rattle.schema_rules.specs.Rules.{every, some, how_many};
@@ -47,7 +47,7 @@ fn rules_here(rules: &[Rule], instance: Instance<'_>, passed: &[u64]) -> bool
     true
 }
 
-/// What a rule says of the value itself, where the answers of the nodes that it asks are known.
+/// The answer of a rule on the value itself, if the answers of the nodes that it asks are known.
 pub fn rule_here(rule: &Rule, instance: Instance<'_>, passed: &[u64]) -> bool
     ensures { result ≡ rule_here (bit passed.now) (seen instance.entry) rule.now }
 {

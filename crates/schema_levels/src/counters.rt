@@ -1,4 +1,4 @@
-//! Which nodes have their passing elements counted, and by which counter.
+//! The counters of nodes whose passing elements are counted.
 ghost use Rattle.std.specs.Prelude.{◌≡◌, ◌+◌, ◌<◌, ◌≤◌, IfOk, true, length};
 ghost use Rattle.schema_levels.specs.Counters.{HasCounter, HaveCounters, AreCounted, HaveRoom, Keeps, counter, owns, wants, wanted, wanted_in};
 
@@ -11,13 +11,13 @@ pub const MOST_COUNTERS: usize = 20_165;
 /// Counters for nodes.
 #[derive(Drop)]
 pub struct Counters {
-    /// The counter of each node by its number, where it has one.
+    /// The counter of each node by its number, if it has one.
     pub ranks: Vec<usize>,
     /// The number of the node that has the counter, counter by counter.
     pub counted: Vec<usize>,
 }
 
-/// A counter for each node whose passing elements some rule counts. An error is want of memory.
+/// A counter for each node whose passing elements some rule counts. An error means that memory ran out.
 pub fn counters_of(nodes: &[Node], alloc: Global) -> Result<Counters, AllocError>
     requires { HaveRoom (wanted_in nodes.now) }
     ensures { IfOk result (AreCounted nodes.now) }

@@ -84,7 +84,7 @@ fn unit(part: usize) -> u64
     }
 }
 
-// What stands in that quarter.
+// The count in that quarter.
 fn fourth(word: u64, part: usize) -> u64
     ensures { result ≡ fourth word part }
 {

@@ -1,5 +1,5 @@
-//! The recursion over the document. Each array and object that is judged takes what its children need of the words that are
-//! free; where too few are, it opens a block of its own.
+//! The recursion over the document. Each array and object that is judged takes what its children need of the words that
+//! are free; if too few are, it opens a block of its own.
 ghost use Rattle.std.specs.Prelude.{◌≡◌, ◌+◌, ◌*◌, ◌<◌, ◌≤◌, ◌^◌, [], ◌∷◌, true, false, length, nat_lt, replicate};
 ghost use Rattle.doc_tree.specs.Doc.{list, object};
 ghost use Rattle.doc_tree.specs.TreeView.{view, elements_view, members_view};
@@ -25,7 +25,7 @@ use std::collections::BTreeMap;
 // How many words a block has: enough for one level of any schema, and for eight of the largest.
 const BLOCK: usize = 36_864;
 
-// An array of so many elements has a word for each counter, and not a quarter of one.
+// An array of this many elements has a word for each counter, and not a quarter of one.
 const WIDE: usize = 65_536;
 
 /// Judges the asked nodes on the instance. No memory is taken.
@@ -338,7 +338,7 @@ fn fold_each_member(
     }
 }
 
-// Judges one child, where anything is asked of it, joins what is said of it, and answers whether anything was asked.
+// Judges one child, if anything is asked of it, joins what is said of it, and answers whether anything was asked.
 #[cycle(levels)]
 fn fold_child(
     nodes: &[Node],

@@ -29,7 +29,7 @@ pub(crate) fn judge_name(nodes: &[Node], name: &str, asked: &mut [u64], passed: 
     conclude(nodes, Instance::Name(name), asked, passed);
 }
 
-/// Judges the name of each member, where anything is asked of names, and joins what is said of it. Two sets are needed.
+/// Judges the name of each member, if anything is asked of names, and joins what is said of it. Two sets are needed.
 pub(crate) fn fold_names(
     nodes: &[Node],
     members: &BTreeMap<String, Tree>,

@@ -1,4 +1,4 @@
-//! Whether one node passes a value. No memory is taken.
+//! The judgement of one node on a value. No memory is taken.
 ghost use Rattle.std.specs.Prelude.{◌≡◌, ℕ, Bool, ◌*◌, ◌<◌, ◌≤◌, length};
 ghost use Rattle.doc_tree.specs.Doc.{Doc};
 ghost use Rattle.schema_rules.specs.Instances.{seen};
@@ -16,7 +16,7 @@ use schema_rules::Instance;
 /// How many nodes a schema of the most bytes has at most, in words of 64.
 pub const MOST_WORDS: usize = 1_366;
 
-/// Whether the node with that number passes the instance, in words for 64 levels, or fewer where the nodes are many. Takes
+/// Whether the node with that number passes the instance, in words for 64 levels, or fewer if the nodes are many. Takes
 /// no memory.
 pub fn passes(nodes: &[Node], counters: &Counters, number: usize, instance: Instance<'_>) -> bool
     requires order { AreOrdered nodes.now }

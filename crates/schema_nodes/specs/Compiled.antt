@@ -1,4 +1,4 @@
--- What a compiled schema is.
+-- A compiled schema.
 use Rattle.std.specs.Prelude.{◌≡◌, ℕ, ◌*◌, ◌<◌, ◌≤◌, List, length, Option, MatchOption}
 use Rattle.doc_tree.specs.Doc.{Doc}
 use Rattle.schema_levels.specs.Counters.{AreCounted}
@@ -21,6 +21,7 @@ pub record IsCompiled (root : Doc) (nodes : List Node) (whole : ℕ) : Type 0 wh
   pub within : whole < length nodes
   pub room : length nodes ≤ 64 * MOST_WORDS
 
--- it is there, with its counters, where no schema leads back to itself at one and the same instance, and not where one does
+-- it is there, with its counters, if no schema leads back to itself at one and the same instance, and is not there if
+-- one does
 abbrev pub IsFound : Doc → Option Compiled → Type 0
 IsFound root found = MatchOption found (IsLooped (applied root) (schemas root)) (λ c. IsCompiled root c.nodes.items c.whole × AreCounted c.nodes.items c.counters × (IsLooped (applied root) (schemas root) → ⊥))

@@ -1,4 +1,4 @@
--- For the clauses within the crate: which schemas a schema applies to the instance itself, by numbers.
+-- For the clauses within the crate: the schemas that a schema applies to the instance itself, by numbers.
 use Rattle.std.specs.Prelude.{◌≡◌, ⊤, ℕ, List, [], ◌∷◌, ◌++◌}
 use Rattle.std.specs.Global.{Vec}
 use Rattle.std.specs.Option.{option_to_list}
@@ -12,7 +12,7 @@ use Rattle.schema_nodes.specs.Fits.{target_number}
 use Rattle.schema_nodes.specs.declared.entries.Entry.{Entry}
 use Rattle.schema_nodes.specs.declared.rules.Targets.{Targets}
 
--- those that a keyword with this value applies, where these are the numbers of the schemas that the value holds
+-- the schemas that a keyword with this value applies, if these are the numbers of those that the value holds
 abbrev pub edges_at : Targets → Doc → Keyword → Doc → List ℕ → List ℕ
 edges_at ts root AllOf v row = row
 edges_at ts root AnyOf v row = row

@@ -52,17 +52,17 @@ Grows old new = (n : ℕ) (d : Doc) → doc_at old n ≡ Some d → doc_at new n
 abbrev pub Among : List Doc → List Doc → Type 0
 Among xs ys = (d : Doc) → In d xs → In d ys
 
--- how many counters the schemas of these entries want at most
+-- how many counters the schemas of these entries need at most
 abbrev pub entries_want : List Entry → ℕ
 entries_want [] = 0
 entries_want (e ∷ es) = members_want (members_in (view e.schema.now)) + entries_want es
 
--- as many entries are added as there are schemas in the list, and their schemas want as many counters
+-- as many entries are added as there are schemas in the list, and their schemas need as many counters
 pub record AddsAll (old new : List Entry) (below : List Doc) : Type 0 where
   pub many : length new ≡ length old + length below
   pub wants : entries_want new ≡ entries_want old + schemas_want below
 
--- numbers of these schemas are added to the row; all schemas in them stand in `below`
+-- numbers of these schemas are added to the row; `below` has all schemas in them
 pub record Adds (root : Doc) (old new : Grown) (below ds : List Doc) : Type 0 where
   pub are : Among below (schemas root) → AreEntries root old.entries.items → AreEntries root new.entries.items
   pub grows : Grows old.entries.items new.entries.items

@@ -1,4 +1,4 @@
--- For the clauses within the crate: which rule is made of a member.
+-- For the clauses within the crate: the rule that is made of a member.
 use Rattle.std.specs.Prelude.{◌≡◌, ⊤, ℕ, List, [], ◌∷◌, Bool, true, Option, Some, None, option_map, if◌then◌else◌, codes, length, slice_get}
 use Rattle.std.specs.Global.{Vec}
 use Rattle.std.specs.Option.{option_and_then}
@@ -32,7 +32,7 @@ pub record IsTargets (root : Doc) (number : ℕ) (rows : List (Vec ℕ)) (ts : T
   pub whole : ts.whole ≡ number
   pub named : (schema : ℕ → Doc) → HaveRows schema (members_in root) rows → AreNamed schema ts.named.entries (members_in (beside (codes "$defs") (members_in root)))
 
--- the same, where it is known which schema each number is that of
+-- the same, if it is known which schema each number is that of
 pub record AreTargets (schema : ℕ → Doc) (root : Doc) (ts : Targets) : Type 0 where
   pub whole : schema ts.whole ≡ root
   pub named : AreNamed schema ts.named.entries (members_in (beside (codes "$defs") (members_in root)))
@@ -62,17 +62,18 @@ abbrev pub IsChoice : (ℕ → ℕ → Rule) → Option ℕ → List ℕ → Rul
 IsChoice choice None row r = r ≡ Says true
 IsChoice choice (Some condition) row r = r ≡ choice condition (first_of row)
 
--- a rule that counts the elements that pass the first of these, at least so many as `minContains` beside it says
+-- a rule that counts the elements that pass the first of these, at least as many as `minContains` beside it says
 abbrev pub IsCount : Option Doc → List ℕ → Rule → Type 0
 IsCount None row r = r ≡ Contains (first_of row)
 IsCount (Some d) row r = (a : Tree) × (r ≡ AtLeast (first_of row) a) × (view a ≡ d)
 
--- at most so many elements pass the schema of `contains`, whose number is given; all do without it
+-- at most `maxContains` elements pass the schema of `contains`, whose number is given; everything passes without it
 abbrev pub IsLimit : Option ℕ → Doc → Rule → Type 0
 IsLimit None v r = r ≡ Says true
 IsLimit (Some j) v r = (a : Tree) × (r ≡ AtMost j a) × (view a ≡ v)
 
--- of a keyword that asks no schema: that everything passes, where it asserts nothing, or what it asserts
+-- a keyword that asks no schema: its rule says that everything passes, if the keyword asserts nothing, and else what it
+-- asserts
 abbrev pub AsksNoSchema : Keyword → Doc → Rule → Type 0
 AsksNoSchema keywords.MinContains v r = r ≡ Says true
 AsksNoSchema keywords.If v r = r ≡ Says true

@@ -1,4 +1,4 @@
--- What a node must say to stand for a schema, and which schema a number stands for.
+-- Nodes that represent schemas: what a node must say, and which schema a number represents.
 use Rattle.std.specs.Prelude.{◌≡◌, ◌⊎◌, ⊤, ℕ, List, [], ◌∷◌, map, Bool, true, Option, Some, None, option_map, slice_get, length, String, codes}
 use Rattle.std.specs.Global.{Vec}
 use Rattle.std.specs.Option.{option_and_then}
@@ -82,6 +82,6 @@ pub record AreNodesFor (root : Doc) (schema : ℕ → Doc) (nodes : List Node) :
   pub says : (q : ℕ) (x : Node) → node_get nodes q ≡ Some x → IsNodeFor root schema x (schema q)
   pub past : (q : ℕ) → node_get nodes q ≡ None → schema q ≡ boolean true
 
--- each number is that of a schema of the whole one; past the last it stands for one that passes everything
+-- each number is that of a schema of the whole one; a number past the last represents a schema that everything passes
 abbrev pub AreNumbers : Doc → (ℕ → Doc) → Type 0
 AreNumbers root schema = (p : ℕ) → In (schema p) (schemas root) ⊎ (schema p ≡ boolean true)

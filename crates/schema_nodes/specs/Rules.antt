@@ -1,11 +1,11 @@
--- Whether rules of a node say what the members of a schema object say.
+-- Rules of a node that say the same as the members of a schema object.
 use Rattle.std.specs.Prelude.{◌≡◌, ⊤, ℕ, List, [], ◌∷◌, map, Bool}
 use Rattle.doc_tree.specs.Doc.{Doc, Members, no_members, member}
 use Rattle.schema_rules.specs.Keywords.{keyword_of}
 use Rattle.schema_rules.specs.Rules.{Ask, ask, asks, joins}
 use Rattle.schema_levels.specs.Rules.{Rule}
 
--- the schemas for which the asked nodes stand, with their values
+-- the schemas that the asked nodes represent, with their values
 abbrev pub schemas_asked : (ℕ → Doc) → List (ℕ × Doc) → List Ask
 schemas_asked schema xs = map (λ a. ask (schema a.0) a.1) xs
 

@@ -1,4 +1,4 @@
--- How many counters the rules of schemas want at most.
+-- The number of counters that the rules of schemas need at most.
 use Rattle.std.specs.Prelude.{ℕ, ◌+◌, List, [], ◌∷◌}
 use Rattle.doc_tree.specs.Doc.{Doc, Members, no_members, member}
 use Rattle.schema_rules.specs.Keywords.{keyword_of}

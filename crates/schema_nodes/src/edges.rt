@@ -1,4 +1,4 @@
-//! Which schemas a schema applies to the instance itself, by numbers.
+//! The schemas that a schema applies to the instance itself, by numbers.
 ghost use Rattle.std.specs.Prelude.{◌≡◌, ◌++◌, IfOk};
 ghost use Rattle.std.specs.Option.{option_to_list};
 ghost use Rattle.doc_tree.specs.TreeView.{view, members_view};

@@ -54,7 +54,7 @@ pub(crate) fn with_schema<'t>(
     with_entry(schema, made, before.row)
 }
 
-// The rows of a schema's members, none where it is no object.
+// The rows of a schema's members; none if it is no object.
 #[cycle(entries)]
 fn with_rows<'t>(
     schema: &'t Tree,

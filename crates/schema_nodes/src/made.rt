@@ -15,7 +15,7 @@ use schema_levels::{Node, Rule};
 use std::alloc::{AllocError, Global};
 use std::collections::BTreeMap;
 
-/// The nodes of the entries in order, where the numbers have these ranks.
+/// The nodes of the entries in order, if the numbers have these ranks.
 pub(crate) fn nodes_of(
     entries: &[Entry<'_>],
     places: &[usize],

@@ -74,7 +74,7 @@ fn numbers_named(
     Ok(numbers)
 }
 
-/// The number of the schema that the member of that name is, where there is one.
+/// The number of the schema that the member of that name is, if there is one.
 pub(crate) fn single_number(
     name: &str,
     members: &BTreeMap<String, Tree>,

@@ -150,7 +150,7 @@ fn limit(contained: Option<usize>, value: &Tree, alloc: Global) -> Result<Rule, 
     }
 }
 
-// Where a reference names no schema, all of none are asked.
+// If a reference names no schema, the rule asks all of no nodes.
 fn reference(number: Option<usize>, ranks: &[usize], alloc: Global) -> Rule
     ensures { IsReference (option_map (at ranks.now) number) result }
 {

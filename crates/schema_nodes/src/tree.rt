@@ -1,4 +1,4 @@
-//! From a schema's tree to nodes.
+//! The nodes of a schema's tree.
 ghost use Rattle.std.specs.Prelude.{◌≡◌, ◌*◌, ◌<◌, ◌≤◌, ℕ, IfOk, Some, codes, length};
 ghost use Rattle.doc_tree.specs.Doc.{Doc};
 ghost use Rattle.doc_tree.specs.TreeView.{view};
@@ -33,8 +33,8 @@ pub struct Compiled {
     pub whole: usize,
 }
 
-/// The nodes of the schema, none where some schema in it leads back to itself at one and the same instance. An error is
-/// want of memory.
+/// The nodes of the schema; none if some schema in it leads back to itself at one and the same instance. An error means
+/// that memory ran out.
 pub fn compile(root: &Tree, alloc: Global) -> Result<Option<Compiled>, AllocError>
     requires room { length (schemas (view root.now)) ≤ 64 * MOST_WORDS }
     requires few { HaveRoom (schemas_want (schemas (view root.now))) }
@@ -48,7 +48,7 @@ pub fn compile(root: &Tree, alloc: Global) -> Result<Option<Compiled>, AllocErro
     compile_entries(root, &grown.entries, grown.row[0], alloc)
 }
 
-// The same, where the whole schema and those below it have their numbers.
+// The same, once the whole schema and those below it have their numbers.
 fn compile_entries(
     root: &Tree,
     entries: &[Entry<'_>],

@@ -1,4 +1,5 @@
--- What each keyword asserts of an instance by itself (JSON Schema Validation, section 6). A value of another kind than the keyword's asserts nothing.
+-- The assertion that each keyword makes of an instance by itself (JSON Schema Validation, section 6). A value of
+-- another kind than the keyword's asserts nothing.
 use Rattle.std.specs.Prelude.{ℕ, ℤ, pos, int_le, int_lt, int_rem, List, [], ◌∷◌, length, Bool, true, false, not, ◌&&◌, ◌||◌, is_some, codes}
 use Rattle.std.specs.List.{list_any, list_all}
 use Rattle.std.specs.Ordering.{int_eq}
@@ -39,12 +40,12 @@ is_among _ t = true
 
 -- ---- numbers (section 6.2)
 
--- how the keyword's number stands to the instance, where both are numbers
+-- a test of the keyword's number and the instance, if both are numbers
 abbrev pub on_numbers : (ℤ → ℤ → Bool) → Doc → Doc → Bool
 on_numbers test (int a) (int b) = test a b
 on_numbers test _ _ = true
 
--- divided by a, where that is over 0, b leaves no rest (section 6.2.1)
+-- b divided by a leaves no rest, if a is over 0 (section 6.2.1)
 abbrev pub divides : ℤ → ℤ → Bool
 divides a b = int_le a (pos 0) || int_eq (int_rem b a) (pos 0)
 
@@ -60,17 +61,17 @@ abbrev pub at_most : Doc → ℕ → Bool
 at_most (int z) n = int_le (pos n) z
 at_most _ n = true
 
--- of the number of code points, where the instance is a text (sections 6.3.1 and 6.3.2)
+-- a test of the number of code points, if the instance is a text (sections 6.3.1 and 6.3.2)
 abbrev pub on_text : (ℕ → Bool) → Doc → Bool
 on_text test (text s) = test (length (chars s))
 on_text test _ = true
 
--- of the number of elements, where the instance is an array (sections 6.4.1 and 6.4.2)
+-- a test of the number of elements, if the instance is an array (sections 6.4.1 and 6.4.2)
 abbrev pub on_list : (ℕ → Bool) → Doc → Bool
 on_list test (list ds) = test (length (elements_list ds))
 on_list test _ = true
 
--- of the number of members, where the instance is an object (sections 6.5.1 and 6.5.2)
+-- a test of the number of members, if the instance is an object (sections 6.5.1 and 6.5.2)
 abbrev pub on_object : (ℕ → Bool) → Doc → Bool
 on_object test (object ms) = test (length (names_list ms))
 on_object test _ = true
@@ -80,7 +81,7 @@ abbrev pub are_distinct : List Doc → Bool
 are_distinct [] = true
 are_distinct (d ∷ ds) = not (list_any (same d) ds) && are_distinct ds
 
--- where the keyword says true, no two elements are equal (section 6.4.3)
+-- if the keyword says true, no two elements are equal (section 6.4.3)
 abbrev pub is_unique : Doc → Doc → Bool
 is_unique (boolean true) (list ds) = are_distinct (elements_list ds)
 is_unique _ _ = true

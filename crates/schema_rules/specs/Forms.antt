@@ -1,4 +1,4 @@
--- Which values a keyword may have, and which members are left out.
+-- The values that a keyword may have, and the members that are left out.
 use Rattle.std.specs.Prelude.{ℕ, ℤ, pos, int_le, List, Bool, true, false, not, ◌&&◌, ◌||◌, codes}
 use Rattle.std.specs.List.{list_all}
 use Rattle.std.specs.Str.{bytes_eq}
@@ -33,7 +33,7 @@ abbrev pub is_number : Doc → Bool
 is_number (int z) = true
 is_number _ = false
 
--- a number that is at least so large
+-- a number that is at least `least`
 abbrev pub is_number_from : ℤ → Doc → Bool
 is_number_from least (int z) = int_le least z
 is_number_from least _ = false

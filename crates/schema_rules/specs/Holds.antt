@@ -1,4 +1,4 @@
--- What an assertion that was made ready holds of.
+-- The instances of which an assertion holds that was made ready.
 use Rattle.std.specs.Prelude.{Bool}
 use Rattle.std.specs.List.{list_any}
 use Rattle.doc_tree.specs.Doc.{Doc}

@@ -1,4 +1,4 @@
--- The document that an instance stands for: a name is a text.
+-- The document that an instance represents: a name is a text.
 use Rattle.doc_tree.specs.Doc.{Doc, text}
 use Rattle.doc_tree.specs.TreeView.{view}
 use Rattle.schema_rules.specs.declared.instance.Instance.{Instance}

@@ -1,4 +1,4 @@
--- Which keyword a name is (JSON Schema 2020-12), and how the values of a keyword hold schemas.
+-- The keyword that a name is (JSON Schema 2020-12), and how the values of a keyword hold schemas.
 use Rattle.std.specs.Prelude.{ℕ, List, [], ◌∷◌, if◌then◌else◌, Option, Some, None, codes}
 use Rattle.std.specs.Str.{bytes_eq}
 use Rattle.schema_rules.specs.declared.keyword.Keyword.{Keyword}

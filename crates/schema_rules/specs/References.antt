@@ -16,7 +16,7 @@ abbrev pub is_name : List ℕ → Bool
 is_name [] = false
 is_name (c ∷ cs) = list_all is_name_byte (c ∷ cs)
 
--- what follows the front of a text, where it begins so
+-- the rest of a text after this front, if it begins with that
 abbrev pub without_front : List ℕ → List ℕ → Option (List ℕ)
 without_front [] s = Some s
 without_front (c ∷ cs) [] = None
@@ -31,7 +31,7 @@ definition root (Some name) = if is_name name then get_member name (members_in (
 abbrev pub target_of : Doc → List ℕ → Option Doc
 target_of root name = if bytes_eq name (codes "#") then Some root else definition root (without_front (codes "#/$defs/") name)
 
--- the schema that a reference names, none where it names none or is no text
+-- the schema that a reference names; none if it names none or is no text
 abbrev pub target : Doc → Doc → Option Doc
 target root (text name) = target_of root name
 target root _ = None

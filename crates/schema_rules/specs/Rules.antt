@@ -1,4 +1,5 @@
--- What a member of a schema object says of an instance: which schemas it asks of which values, and how it joins their answers (JSON Schema Core, section 10).
+-- The rule of a member of a schema object: which schemas it asks of which values, and how it joins their answers (JSON
+-- Schema Core, section 10).
 use Rattle.std.specs.Prelude.{ℕ, pos, ◌+◌, ◌==◌, List, [], ◌∷◌, length, Bool, true, false, not, ◌&&◌, ◌||◌, if◌then◌else◌, Option, Some, None, is_some, codes}
 use Rattle.doc_tree.specs.Doc.{Doc, int, text, object, Elements, no_elements, element, Members, no_members, member, get_member}
 use Rattle.doc_tree.specs.Lists.{elements_list}
@@ -59,16 +60,16 @@ abbrev pub of_names : Doc → Members → List Ask
 of_names s no_members = []
 of_names s (member k t ts) = ask s (text k) ∷ of_names s ts
 
--- the schema that a reference names, where it names one (Core, section 8.2.3.1)
+-- the schema that a reference names, if it names one (Core, section 8.2.3.1)
 abbrev pub at_target : Option Doc → Doc → List Ask
 at_target o t = if_named o t []
 
--- the schema of `contains`, where it is beside, of each element (Validation, section 6.4.4)
+-- the schema of `contains`, if that is a member beside this one, of each element (Validation, section 6.4.4)
 abbrev pub of_contained : Option Doc → Elements → List Ask
 of_contained None ts = []
 of_contained (Some s) ts = of_each s ts
 
--- the schema of `if`, where it is beside, and then the keyword's own one (Core, section 10.2.2)
+-- the schema of `if`, if that is a member beside this one, and then the keyword's own one (Core, section 10.2.2)
 abbrev pub after_if : Option Doc → Doc → Doc → List Ask
 after_if None s t = []
 after_if (Some condition) s t = ask condition t ∷ ask s t ∷ []
@@ -123,12 +124,12 @@ abbrev pub with_if : Option Doc → Bool → Bool
 with_if None b = true
 with_if (Some condition) b = b
 
--- the second is true where the first is (Core, section 10.2.2.2)
+-- the second is true if the first is (Core, section 10.2.2.2)
 abbrev pub where_true : List Bool → Bool
 where_true (condition ∷ b ∷ bs) = not condition || b
 where_true _ = true
 
--- the second is true where the first isn't (Core, section 10.2.2.3)
+-- the second is true if the first isn't (Core, section 10.2.2.3)
 abbrev pub where_false : List Bool → Bool
 where_false (condition ∷ b ∷ bs) = condition || b
 where_false _ = true

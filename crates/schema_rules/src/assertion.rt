@@ -1,4 +1,4 @@
-//! What a keyword asserts, made ready to be asked of many instances.
+//! The assertion of a keyword, made ready to be tried on many instances.
 ghost use Rattle.std.specs.Prelude.{◌≡◌, IfOk};
 ghost use Rattle.doc_tree.specs.Doc.{Doc};
 ghost use Rattle.doc_tree.specs.TreeView.{view};

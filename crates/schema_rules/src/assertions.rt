@@ -1,4 +1,4 @@
-//! What a keyword asserts of an instance by itself.
+//! The assertions that keywords make of an instance by themselves.
 ghost use Rattle.std.specs.Prelude.{◌≡◌};
 ghost use Rattle.doc_tree.specs.Doc.{text};
 ghost use Rattle.doc_tree.specs.TreeView.{view};

@@ -49,7 +49,7 @@ fn sort(values: &mut [Tree])
     values.sort_unstable_by(|a, b| compare(a, b));
 }
 
-// How a value stands to the instance.
+// The order of a value and the instance.
 fn compare_to(value: &Tree, instance: Instance<'_>) -> Ordering
     ensures { result ≡ doc_cmp (view value.now) (seen instance.entry) }
 {

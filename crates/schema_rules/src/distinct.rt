@@ -1,5 +1,5 @@
-//! Whether no two of several trees are equal, in a time that grows little faster than their number. No memory is taken:
-//! their places are sorted in an array on the stack.
+//! The test that no two of several trees are equal, in a time that grows little faster than their number. No memory is
+//! taken: their places are sorted in an array on the stack.
 ghost use Rattle.std.specs.Prelude.{◌≡◌, ℕ, ◌<◌, ◌≤◌, ◌^◌, length, map, slice_index_or, take};
 ghost use Rattle.std.specs.List.{list_any};
 ghost use Rattle.std.specs.List.Sorted.{IsPermutation, IsSortedBy};
@@ -42,7 +42,7 @@ fn rise_sorted_in_tiers(items: &[Tree], first: &Tree) -> bool
     }
 }
 
-// The first so many: a text of 1 MiB has no more elements that are distinct.
+// The first 262,144: a text of 1 MiB has no more elements that are distinct.
 fn front_rises(items: &[Tree], first: &Tree) -> bool
     requires { 262144 ≤ length items.now }
     ensures { result ≡ are_distinct (elements_list (elements_view (take 262144 items.now))) }
@@ -61,7 +61,7 @@ fn rise_sorted_in<const N: usize>(items: &[Tree], first: &Tree) -> bool
     rise_sorted(items, first, &mut places[..items.len()])
 }
 
-// Sorts the places of all: equal ones come to stand side by side.
+// Sorts the places of all: equal ones come to be side by side.
 fn rise_sorted(items: &[Tree], first: &Tree, places: &mut [u32]) -> bool
     requires as_many { length places.old ≡ length items.now }
     requires short { length items.now ≤ 2 ^ 18 }
@@ -107,7 +107,7 @@ fn rise(items: &[Tree], first: &Tree, places: &[u32]) -> bool
     true
 }
 
-// How the elements at these places stand.
+// The order of the elements at these places.
 fn compare_at(items: &[Tree], other: &Tree, a: u32, b: u32) -> Ordering
     ensures { result ≡ doc_cmp (at_place (elements_list (elements_view items.now)) (view other.now) a) (at_place (elements_list (elements_view items.now)) (view other.now) b) }
 {

@@ -45,7 +45,7 @@ pub(crate) fn is_equal(value: &Tree, instance: Instance<'_>) -> bool
     }
 }
 
-/// Whether no two elements are equal, where the keyword asks for that.
+/// Whether no two elements are equal, if the keyword asks for that.
 pub(crate) fn is_unique(value: &Tree, instance: &Tree) -> bool
     ensures { result ≡ is_unique (view value.now) (view instance.now) }
 {

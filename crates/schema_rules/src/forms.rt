@@ -1,4 +1,4 @@
-//! Which values a keyword may have.
+//! The values that each keyword may have.
 ghost use Rattle.std.specs.Prelude.{◌≡◌};
 ghost use Rattle.std.specs.List.{list_all};
 ghost use Rattle.doc_tree.specs.Lists.{elements_list, values_list};

@@ -1,4 +1,4 @@
-//! What is judged.
+//! Instances: the values that are judged.
 use doc_tree::Tree;
 
 /// An instance (JSON Schema Core, section 4.2.1): a value of a document, or a member's name, which is judged as a text

@@ -1,4 +1,4 @@
-//! Which members are left out.
+//! The members of a schema that are left out.
 ghost use Rattle.std.specs.Prelude.{◌≡◌};
 ghost use Rattle.doc_tree.specs.TreeView.{view};
 ghost use Rattle.schema_rules.specs.Forms.{is_left_out, is_draft};

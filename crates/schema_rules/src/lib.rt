@@ -1,8 +1,7 @@
-//! What one keyword of JSON Schema 2020-12 says, without going into the schemas that it holds.
-//! The tables stand in `specs/`: which keyword a name is (`Keywords`), which values it may have (`Forms`), what it
-//! asserts (`Assertions`), which schemas it asks and how it joins their answers (`Rules`), which a reference names
-//! (`References`). Each function answers its table for every value, also one without the keyword's form, and takes
-//! no memory.
+//! The keywords of JSON Schema 2020-12, one at a time, without going into the schemas that they hold. The tables are in
+//! `specs/`: which keyword a name is (`Keywords`), which values it may have (`Forms`), what it asserts (`Assertions`),
+//! which schemas it asks and how it joins their answers (`Rules`), which a reference names (`References`). Each
+//! function answers its table for every value, also one without the keyword's form, and takes no memory.
 #![tactic(auto)]
 
 mod assertion;

@@ -1,4 +1,4 @@
-//! What the keywords on numbers assert.
+//! The assertions of the keywords on numbers.
 ghost use Rattle.std.specs.Prelude.{◌≡◌, int_le, int_lt};
 ghost use Rattle.doc_tree.specs.TreeView.{view};
 ghost use Rattle.schema_rules.specs.Assertions.{on_numbers, divides};

@@ -1,4 +1,4 @@
-//! A total order of trees, by which equal ones come to stand side by side.
+//! A total order of trees, by which equal ones come to be side by side.
 ghost use Rattle.std.specs.Prelude.{◌≡◌};
 ghost use Rattle.doc_tree.specs.Doc.{text};
 ghost use Rattle.doc_tree.specs.TreeView.{view, elements_view, members_view};
@@ -8,7 +8,7 @@ use doc_tree::Tree;
 use std::cmp::Ordering;
 use std::collections::BTreeMap;
 
-/// How two trees stand: by their kinds, numbers by value, texts by their bytes, arrays and objects part by part.
+/// The order of two trees: by their kinds, numbers by value, texts by their bytes, arrays and objects part by part.
 #[cycle(order)]
 pub(crate) fn compare(a: &Tree, b: &Tree) -> Ordering
     ensures { result ≡ doc_cmp (view a.now) (view b.now) }
@@ -68,7 +68,7 @@ fn compare_members(a: &BTreeMap<String, Tree>, b: &BTreeMap<String, Tree>) -> Or
     }
 }
 
-/// How a tree stands to a text, which is no tree yet.
+/// The order of a tree and a text, which is no tree yet.
 pub(crate) fn compare_to_text(a: &Tree, b: &str) -> Ordering
     ensures { result ≡ doc_cmp (view a.now) (text b.now) }
 {

@@ -1,4 +1,4 @@
-//! What the keywords on sizes assert.
+//! The assertions of the keywords on sizes.
 ghost use Rattle.std.specs.Prelude.{◌≡◌, length};
 ghost use Rattle.std.specs.Str.{chars};
 ghost use Rattle.doc_tree.specs.Lists.{names_list};
@@ -9,7 +9,7 @@ ghost use Rattle.schema_rules.specs.Instances.{seen};
 use crate::instance::Instance;
 use doc_tree::Tree;
 
-/// Whether a text has so many code points or more.
+/// Whether a text has at least `value` code points.
 pub(crate) fn has_length_from(value: &Tree, instance: Instance<'_>) -> bool
     ensures { result ≡ on_text (at_least (view value.now)) (seen instance.entry) }
 {
@@ -22,7 +22,7 @@ pub(crate) fn has_length_from(value: &Tree, instance: Instance<'_>) -> bool
     }
 }
 
-/// Whether a text has so many code points or fewer.
+/// Whether a text has at most `value` code points.
 pub(crate) fn has_length_up_to(value: &Tree, instance: Instance<'_>) -> bool
     ensures { result ≡ on_text (at_most (view value.now)) (seen instance.entry) }
 {
@@ -35,7 +35,7 @@ pub(crate) fn has_length_up_to(value: &Tree, instance: Instance<'_>) -> bool
     }
 }
 
-/// Whether an array has so many elements or more.
+/// Whether an array has at least `value` elements.
 pub(crate) fn has_items_from(value: &Tree, instance: &Tree) -> bool
     ensures { result ≡ on_list (at_least (view value.now)) (view instance.now) }
 {
@@ -45,7 +45,7 @@ pub(crate) fn has_items_from(value: &Tree, instance: &Tree) -> bool
     }
 }
 
-/// Whether an array has so many elements or fewer.
+/// Whether an array has at most `value` elements.
 pub(crate) fn has_items_up_to(value: &Tree, instance: &Tree) -> bool
     ensures { result ≡ on_list (at_most (view value.now)) (view instance.now) }
 {
@@ -55,7 +55,7 @@ pub(crate) fn has_items_up_to(value: &Tree, instance: &Tree) -> bool
     }
 }
 
-/// Whether an object has so many members or more.
+/// Whether an object has at least `value` members.
 pub(crate) fn has_members_from(value: &Tree, instance: &Tree) -> bool
     ensures { result ≡ on_object (at_least (view value.now)) (view instance.now) }
 {
@@ -65,7 +65,7 @@ pub(crate) fn has_members_from(value: &Tree, instance: &Tree) -> bool
     }
 }
 
-/// Whether an object has so many members or fewer.
+/// Whether an object has at most `value` members.
 pub(crate) fn has_members_up_to(value: &Tree, instance: &Tree) -> bool
     ensures { result ≡ on_object (at_most (view value.now)) (view instance.now) }
 {

@@ -1,4 +1,4 @@
--- What a device of sectors is known by, what its calls do, and what a crash may leave.
+-- The model of a device of sectors: what is known of it, what its calls do, and what a crash may leave.
 use Rattle.std.specs.Prelude.{◌≡◌, ◌⊎◌, ◌↔◌, ℕ, ◌<◌, ◌≤◌, ◌+◌, ◌-◌, ◌^◌, List, [], length, slice_set, slice_index_or, Option, Some, None, Result, OnOk, OnErr}
 
 -- the contents of all sectors, in order, each a list of bytes
@@ -32,7 +32,7 @@ abbrev pub less_one : Option ℕ → Option ℕ
 less_one None = None
 less_one (Some n) = Some (n - 1)
 
--- so many calls still pass
+-- `n` calls at least still pass
 abbrev pub AtLeast : ℕ → Option ℕ → Type 0
 AtLeast n None = Unit {0}
 AtLeast n (Some m) = n ≤ m
@@ -49,7 +49,7 @@ pub record Counts {T E : Type 0} (old new : Disk) (result : Result T E) : Type 0
   -- each call uses one that passes, also one that fails, and Ok says that there was one
   pub calls_left : new.calls_left ≡ less_one old.calls_left
   pub passed : OnOk result (AtLeast 1 old.calls_left)
-  -- an Ok leaves the counts; an Err raises them, but on a device whose count is at its end, and where the limit was spent
+  -- an Ok leaves the counts; an Err raises them, but on a device whose count is at its end, and if the limit was spent
   pub ok : OnOk result (new.failures ≡ old.failures)
   pub ok_faults : OnOk result (new.own_failures ≡ old.own_failures)
   pub later : old.failures ≤ new.failures
@@ -61,7 +61,7 @@ pub record Counts {T E : Type 0} (old new : Disk) (result : Result T E) : Type 0
   pub stays_saturated : old.failures_saturated → new.failures_saturated
   pub saturates : new.failures_saturated → old.failures_saturated ⊎ (old.failures < new.failures)
 
--- so many sectors, each of 512 bytes
+-- `sectors` sectors, each of 512 bytes
 pub record HasShape (sectors : ℕ) (image : Image) : Type 0 where
   pub count : length image ≡ sectors
   pub whole : (k : ℕ) → k < sectors → length (slice_index_or image k []) ≡ 512
@@ -104,7 +104,7 @@ pub record Syncs {T E : Type 0} (old new : Disk) (result : Result T E) : Type 0 
   pub adds_none : (image : Image) → new.left image → old.left image
   pub settled : OnOk result ((image : Image) → new.left image → image ≡ old.seen)
 
--- a read that gives what stands there leaves an honest device honest
+-- a read that gives the content of the sector leaves an honest device honest
 abbrev pub StaysHonest : {T E : Type 0} → Disk → Disk → ℕ → List ℕ → Result T E → Type 0
 StaysHonest old new at content result = old.honest → OnOk result (content ≡ slice_index_or old.seen at [] → new.honest)
 

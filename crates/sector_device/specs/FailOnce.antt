@@ -35,6 +35,6 @@ pub record FailsOnce {D : Type 0} {G : Ghosts D} (old new : FailOnce D G) (resul
   pub withheld : old.left ≡ 1 → old.pass ≡ false → new.device ≡ old.device
   pub others : old.left ≢ 1 → OnErr result (((G.disk old.device).failures < (G.disk new.device).failures) ⊎ (G.disk old.device).failures_saturated)
 
--- the call that is due, where it is passed on: the device below was called once, and did this
+-- the call that is due, if it is passed on: the device below was called once, and did this
 abbrev pub IsPassedOn : {D : Type 0} {G : Ghosts D} → FailOnce D G → FailOnce D G → (Result (Unit {0}) DeviceFault → Type 0) → Type 0
 IsPassedOn {D} {G} old new Did = old.left ≡ 1 → old.pass ≡ true → (answer : Result (Unit {0}) DeviceFault) × Counts (G.disk old.device) (G.disk new.device) answer × Did answer

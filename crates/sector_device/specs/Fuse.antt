@@ -1,4 +1,4 @@
--- A device that passes so many calls and then fails.
+-- A device that passes a given number of calls and then fails.
 use Rattle.std.specs.Prelude.{◌≡◌, ◌⊎◌, ℕ, ◌+◌, ◌-◌, ◌^◌, min, Option, Some, None}
 use Rattle.sector_device.specs.Disk.{Disk}
 use Rattle.sector_device.specs.declared.fuse.Fuse.{Fuse}

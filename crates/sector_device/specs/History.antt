@@ -1,9 +1,9 @@
--- What the calls of a device made of it.
+-- The state that the calls of a device leave.
 use Rattle.std.specs.Prelude.{◌≡◌, ◌⊎◌, ℕ, ◌+◌, ◌-◌, ◌^◌, ◌≤◌, length, slice_index_or, [], slice_set, replicate, Any, None}
 use Rattle.sector_device.specs.Disk.{Disk, Image, OrReplaced, HasShape}
 use Rattle.sector_device.specs.declared.history.History.{History, Opened, Created, Read', Written', WriteFailed', Synced'}
 
--- so many sectors of zeros
+-- `sectors` sectors of zeros
 abbrev pub zeros_of : ℕ → Image
 zeros_of sectors = replicate sectors (replicate 512 0)
 
@@ -47,7 +47,7 @@ left_since (Written' p earlier at content) m image = left_since earlier m image 
 left_since (WriteFailed' p earlier at content) m image = left_since earlier m image ⊎ Now (moment_of earlier + 1) m (OrReplaced (left_after earlier) at content.value) image
 left_since (Synced' p earlier) m image = left_since earlier m image ⊎ Now (moment_of earlier + 1) m (λ i. i ≡ seen_after earlier) image
 
--- The device answered as one of so many sectors that held this: each read gave what stood there.
+-- The device answered as one of `sectors` sectors with this history: each read gave what the sector held.
 abbrev pub KeepsTo : ℕ → History → Type 0
 KeepsTo sectors (Opened held) = (image : Image) → left_after (Opened held) image → HasShape sectors image
 KeepsTo sectors (Created created) = created ≡ sectors
@@ -56,8 +56,8 @@ KeepsTo sectors (Written' p earlier at content) = KeepsTo sectors earlier × (le
 KeepsTo sectors (WriteFailed' p earlier at content) = KeepsTo sectors earlier × (length content.value ≡ 512)
 KeepsTo sectors (Synced' p earlier) = KeepsTo sectors earlier
 
--- A device of so many sectors after these calls, of which so many failed: it is honest as long as each read gave what stood there, its contents are by
--- the calls, and there is no limit of calls.
+-- A device of `sectors` sectors after these calls, of which `failures` failed: it is honest as long as each read gave
+-- what the sector held, its contents are by the calls, and there is no limit of calls.
 abbrev pub disk_after : ℕ → History → ℕ → Disk
 disk_after sectors history failures =
     record {

@@ -1,4 +1,4 @@
--- What a disk in memory keeps of its history.
+-- The part of its history that a disk in memory keeps.
 use Rattle.std.specs.Prelude.{◌≡◌, All, ℕ, ◌<◌, List, [], ◌∷◌, ◌++◌, length, slice_index_or, slice_set, if◌then◌else◌, nat_eq}
 use Rattle.sector_device.specs.Disk.{Image, HasShape}
 use Rattle.sector_device.specs.declared.call.DeviceCall.{DeviceCall}

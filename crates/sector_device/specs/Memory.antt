@@ -8,7 +8,7 @@ use Rattle.sector_device.specs.declared.call.DeviceCall.{DeviceCall}
 use Rattle.sector_device.specs.declared.history.History.{History}
 use Rattle.sector_device.specs.declared.memory.MemDisk.{MemDisk}
 
--- a disk of so many sectors after these calls, beside so many that failed: it is honest, and has no limit of calls
+-- a disk of `sectors` sectors after these calls, and `failures` that failed: it is honest, and has no limit of calls
 abbrev pub mem_after : ℕ → History → ℕ → Disk
 mem_after sectors history failures = record (disk_after sectors history failures) { honest = Unit {0} }
 

@@ -1,4 +1,4 @@
-// A call of a device, as a device in memory records it.
+//! A call of a device, as a device in memory records it.
 
 /// A call, with the number of its sector.
 #[derive(Clone, Copy, PartialEq, Eq)]

@@ -1,4 +1,4 @@
-// A device of sectors, as its callers see it.
+//! A device of sectors: the trait that its callers use.
 ghost use Rattle.std.specs.Prelude.{◌≡◌, ◌<◌, ℕ};
 ghost use Rattle.sector_device.specs.Disk.{Disk, Counts, Reads, StaysHonest, Writes, Syncs, IsCoherent};
 

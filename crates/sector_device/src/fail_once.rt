@@ -1,4 +1,4 @@
-// A device of which one call fails, passed on or not, and no other.
+//! A device of which one call fails, passed on or not, and no other.
 ghost use Rattle.std.specs.Prelude.{◌≡◌, ◌≢◌, ◌-◌, ◌<◌, None, true, false, ◌↔◌};
 ghost use Rattle.sector_device.specs.Disk.{Counts, Reads, StaysHonest, Writes, Syncs};
 
@@ -35,7 +35,7 @@ impl<D: SectorDevice> FailOnce<D> {
         }
     }
 
-    /// The device below, as it stands.
+    /// The device below, as it is now.
     pub fn into_inner(self) -> D
         ensures { result ≡ self.device }
     {
@@ -65,7 +65,7 @@ impl<D: SectorDevice> SectorDevice for FailOnce<D> {
         ensures counts { Counts (fail_once_disk self.old) (fail_once_disk self.new) result }
         ensures reads { (D.disk self.new.device).honest → Reads (fail_once_disk self.old) (fail_once_disk self.new) at into.new result }
         ensures stays { StaysHonest (fail_once_disk self.old) (fail_once_disk self.new) at into.new result }
-        // As honest as before, where the device below is.
+        // It is as honest as before, if the device below is.
         ensures honest { ((D.disk self.old.device).honest → (D.disk self.new.device).honest)
             → ((fail_once_disk self.old).honest ↔ (fail_once_disk self.new).honest) }
         ensures fails { FailsOnce self.old self.new result }

@@ -1,4 +1,5 @@
-// A device that passes so many calls and then fails each without touching the device below, as one whose power fails.
+//! A device that passes a given number of calls, and then fails each without touching the device below, as one whose
+//! power fails.
 ghost use Rattle.std.specs.Prelude.{◌≡◌, ◌+◌, ◌<◌, ℕ, ◌↔◌, true, false, Some, IsErr};
 ghost use Rattle.sector_device.specs.Disk.{Counts, IsRaised, Reads, StaysHonest, Writes, Syncs};
 
@@ -29,7 +30,7 @@ impl<D: SectorDevice> Fuse<D> {
         }
     }
 
-    /// The device below, as it stands.
+    /// The device below, as it is now.
     pub fn into_inner(self) -> D
         ensures { result ≡ self.device }
     {
@@ -58,7 +59,7 @@ impl<D: SectorDevice> SectorDevice for Fuse<D> {
         ensures counts { Counts (fuse_disk D.disk self.old) (fuse_disk D.disk self.new) result }
         ensures reads { (D.disk self.new.device).honest → Reads (fuse_disk D.disk self.old) (fuse_disk D.disk self.new) at into.new result }
         ensures stays { StaysHonest (fuse_disk D.disk self.old) (fuse_disk D.disk self.new) at into.new result }
-        // As honest as before, where the device below is.
+        // It is as honest as before, if the device below is.
         ensures honest { ((D.disk self.old.device).honest → (D.disk self.new.device).honest)
             → ((fuse_disk D.disk self.old).honest ↔ (fuse_disk D.disk self.new).honest) }
         ensures spent { self.old.calls ≡ 0 → IsErr result × (self.new.device ≡ self.old.device) }

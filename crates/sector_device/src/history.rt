@@ -1,4 +1,4 @@
-// The calls of a device since it was opened or made: values without bytes, which only contracts read.
+//! The calls of a device since it was opened or made: values without bytes, which only contracts read.
 use std::alloc::Global;
 use std::snapshot::Snapshot;
 
@@ -7,7 +7,7 @@ use std::snapshot::Snapshot;
 pub struct Held {
     /// What reads give.
     pub seen: Vec<[u8; 512]>,
-    /// What else a crash may leave, where writes of an earlier process are not synced yet.
+    /// What else a crash may leave, if writes of an earlier process are not synced yet.
     pub others: Vec<Vec<[u8; 512]>>,
 }
 
@@ -28,7 +28,7 @@ pub enum History {
     Opened {
         held: Snapshot<Held>,
     },
-    /// The device was made, with so many sectors of zeros.
+    /// The device was made, with `sectors` sectors of zeros.
     Created {
         sectors: u64,
     },

@@ -1,4 +1,4 @@
-// A disk in memory, with a record of all its calls and the contents that a crash needs.
+//! A disk in memory, with a record of all its calls and the contents that a crash needs.
 ghost use Rattle.std.specs.Prelude.{◌≡◌, ◌<◌, ◌++◌, ◌∷◌, ◌↔◌, [], All, ℕ, IfOk, OnOk, OnErr, replicate, slice_index, slice_index_or, length};
 ghost use Rattle.sector_device.specs.Disk.{Image, IsRaised};
 ghost use Rattle.sector_device.specs.Kept.{IsKept, put_all, written_to};
@@ -61,8 +61,8 @@ impl MemDisk {
         self.failures
     }
 
-    /// The disk after a crash, with one of the images that it may leave. In sector `i` stands the content after the
-    /// last sync for `picks[i]` 0, the k-th content written since for k, and the last one for a pick past it. A
+    /// The disk after a crash, with one of the images that it may leave. Sector `i` holds the content after the last
+    /// sync if `picks[i]` is 0, the k-th content written since if it is k, and the last one if it is past that. A
     /// sector past the picks takes 0. The record is empty, and no failure is counted.
     pub fn crash(self, picks: &[u64]) -> MemDisk
         ensures one { (mem_disk self).left (mem_disk result).seen }

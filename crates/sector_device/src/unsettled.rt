@@ -1,4 +1,4 @@
-// What no sync has settled yet.
+//! The writes that no sync has settled yet.
 
 /// A write that no sync has settled yet.
 #[derive(Clone, Copy)]

@@ -1,4 +1,4 @@
--- What may stay shut for one who reads what the store itself promises. It is apart from the store's own definitions: what public standards say, with all on which that rests, and, last, which image of a device holds which state.
+-- The definitions that may stay shut for one who reads what the store itself promises. They are apart from the store's own definitions: what public standards say, with all on which that rests, and, last, which image of a device holds which state.
 -- JSON (RFC 8259): documents, their text, and what a text is read as
 pub use Rattle.doc_tree.specs.Doc.{Doc, height}
 pub use Rattle.doc_tree.specs.Text.{text_of}

@@ -1,4 +1,4 @@
--- What a session that halts has done.
+-- The events of a session that halts.
 use Rattle.std.specs.Prelude.{◌≡◌, ◌⊎◌, Bool, true, false, ℕ, List, [], ◌∷◌, ◌++◌, map}
 use Rattle.std.specs.List.{list_any}
 use Rattle.doc_tree.specs.Doc.{Doc}

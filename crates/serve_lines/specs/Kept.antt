@@ -1,4 +1,4 @@
--- What a client may count on, from the bytes that come in to the bytes that go out.
+-- The promise to a client, from the bytes that come in to the bytes that go out.
 use Rattle.std.specs.Prelude.{◌≡◌, ◌≢◌, ◌⊎◌, ◌≤◌, ℕ, List, [], ◌∷◌, ◌++◌, map, length, codes, chars, pos, true, false, Option, Some}
 use Rattle.std.specs.Io.KnownBytes.{Consumes}
 use Rattle.sector_device.specs.Disk.{Disk}
@@ -35,11 +35,11 @@ Refuses reply number = (resolve (codes "ok" ∷ []) reply ≡ Some (boolean fals
 abbrev pub IsRefusal : Doc → Type 0
 IsRefusal reply = (number : ℕ) × Refuses reply number
 
--- A document of that name stands in a state.
+-- A document of that name is in a state.
 abbrev pub Has : State → List ℕ → Document → Type 0
 Has s name d = (is_name name ≡ true) × (find name s.documents ≡ Some d)
 
--- What a state shows to a question, as the reply that tells it. A request that is no question is shown nothing.
+-- What a state shows to a question, as the reply that says it. A request that is no question is shown nothing.
 abbrev pub Shows : State → Request → Doc → Type 0
 Shows s (get name path) reply = (d : Document) × Has s name d × (tokens : List (List ℕ)) × (pointer_text tokens ≡ path) × (v : Doc) × (resolve tokens d.doc ≡ Some v) × (reply ≡ value_reply v)
 Shows s (get_schema name) reply = (d : Document) × Has s name d × (reply ≡ value_reply d.schema)
@@ -58,7 +58,7 @@ Tells s snapshot reply = (seq : ℕ) → reply ≢ change_reply seq
 Tells s (pump most) reply = (seq : ℕ) → reply ≢ change_reply seq
 Tells s question reply = Shows s question reply ⊎ (IsRefusal reply × ((shown : Doc) → Shows s question shown → ⊥))
 
--- The same of a line. One that asks for nothing is refused, and any line may be: for want of memory, or since the store is broken.
+-- The same of a line. One that asks for nothing is refused, and any line may be: out of memory, or since the store is broken.
 abbrev pub LineTells : State → List ℕ → Doc → Type 0
 LineTells s line reply =
     ((request : Request) × AsksFor line request × Tells s request reply) ⊎ (IsRefusal reply × ((request : Request) → AsksFor line request → ⊥))
@@ -67,7 +67,7 @@ LineTells s line reply =
 -- Lines and their replies, one to each, in order, from a state; with the transactions that were done, and those that a fault of the device hit.
 pub data Replied : State → List (List ℕ) → List Doc → (done hit : List Transaction) → Type 0 where
   no_line : (s : State) → Replied s [] [] [] []
-  -- a transaction is done, and answered by the number of its last change; all behind it go on from the state after it
+  -- a transaction is done, and answered by the number of its last change; all after it go on from the state after it
   was_done : (s : State) (line : List ℕ) (t : Transaction) (lines : List (List ℕ)) (replies : List Doc) (done hit : List Transaction) → AsksFor line (change t)
       → Replied (after_in s t) lines replies done hit → Replied s (line ∷ lines) (change_reply (after_in s t).seq ∷ replies) (t ∷ done) hit
   -- one is hit
@@ -77,7 +77,7 @@ pub data Replied : State → List (List ℕ) → List Doc → (done hit : List T
   was_told : (s : State) (line : List ℕ) (reply : Doc) (lines : List (List ℕ)) (replies : List Doc) (done hit : List Transaction) → LineTells s line reply
       → Replied s lines replies done hit → Replied s (line ∷ lines) (reply ∷ replies) done hit
 
--- What is kept of a session, however it ended: of the lines that were read, the first were answered so, and those transactions keep the promise.
+-- What is kept of a session, however it ended: of the lines that were read, the first were answered in this way, and those transactions keep the promise.
 pub record IsKept {D : Type 0} (disk : D → Disk) (old new : StoreView D) (left left_new : Option (List ℕ)) : Type 0 where
   pub read : List ℕ
   pub consumed : Consumes left left_new read

@@ -1,4 +1,4 @@
--- What is said of sessions whose batches are one transaction each.
+-- The laws of sessions whose batches are one transaction each.
 use Rattle.std.specs.Prelude.{◌≡◌, ℕ, Bool, List, [], ◌∷◌, Option}
 use Rattle.sector_device.specs.Disk.{Disk}
 use Rattle.doc_tree.specs.Doc.{Doc}
@@ -14,7 +14,7 @@ abbrev pub OneIsAnswered : Type 0
 OneIsAnswered = (old new : Account) (line : List ℕ) (events : List Event) (said : List Reply) (replies : List Doc) (fault : Bool) → AnswersGroup old (together (line ∷ [])) events said replies fault new
     → (reply : Doc) × (replies ≡ reply ∷ []) × Answers old line events said reply new
 
--- No line waits where a batch takes one: all lines were done.
+-- No line waits if a batch takes one: all lines were done.
 abbrev pub OneNeverWaits : {D : Type 0} → (D → Disk) → Type 0
 OneNeverWaits {D} disk = (options : Options) (old new : StoreView D) (lines : List (List ℕ)) (before after : Option (List ℕ)) → most_of options ≡ 1
     → Pauses disk options old lines before new after → Writes disk options old lines before new after

@@ -1,4 +1,4 @@
--- How far a session's lines have come.
+-- The progress of a session in its lines.
 use Rattle.std.specs.Prelude.{◌≡◌, ◌⊎◌, ◌<◌, ◌+◌, ℕ, Bool, true, false, List, [], ◌∷◌, ◌++◌, flat_map, length, Ok}
 use Rattle.std.specs.List.{AllByRecursion}
 use Rattle.sector_device.specs.Disk.{Disk}
@@ -29,7 +29,7 @@ pub record HasAnswered {D : Type 0} (disk : D → Disk) (options : Options) (sta
   pub asked : AskFor waiting cs
   pub fewer : length cs < most_of options
   pub halted_is : session.halted ≡ halted
-  -- and where it has halted none waits
+  -- and if it has halted none waits
   pub still : halted ≡ true → cs ≡ []
 
 -- From start, the bytes were read, all lines that a line feed has ended are answered but those whose transactions wait, and some of the next line has come.
@@ -73,7 +73,7 @@ pub record IsPassed {D : Type 0} (old : StoreView D) (cs : List Transaction) (re
   pub same : new ≡ old
   pub left_are : left ≡ cs
 
--- A line that isn't blank has ended, where some transactions waited: one of these.
+-- A line that isn't blank has ended, if some transactions waited: one of these.
 abbrev pub LineIsWaitingOrDone : {D : Type 0} → (D → Disk) → Options → StoreView D → List Transaction → Bool → List ℕ → List Doc → StoreView D → List Transaction → Bool → Type 0
 LineIsWaitingOrDone disk options old cs was line replies new left is =
     ((was ≡ false) × (is ≡ false) × Waits options old cs line replies new left) ⊎ ((was ≡ false) × Fills disk options old cs line replies new left is)

@@ -1,4 +1,4 @@
--- What is answered to a request or a line, for private clauses.
+-- The answers to a request or a line, for private clauses.
 use Rattle.std.specs.Prelude.{◌≡◌, ◌⊎◌, ◌<◌, ◌&&◌, List, [], ◌∷◌, ◌++◌, length, map, ℕ, Bool, true, false, nat_eq, Result, Ok, Err, ⊤}
 use Rattle.std.specs.List.{list_any}
 use Rattle.sector_device.specs.Disk.{Disk}
@@ -24,7 +24,7 @@ use Rattle.protocol.specs.declared.reply.Reply.TheVariants.{Changed, Snapshot, P
 use Rattle.serve_lines.specs.Session.{AnswersBatch, ChangesNothing, Does, Follows, HasDone, Replies, WantsStep, alone}
 use Rattle.serve_lines.specs.declared.options.Options.{Options}
 
--- From old, a request was given this reply, or want of memory, and led to new.
+-- From old, a request was given this reply, or memory ran out, and led to new.
 abbrev pub AnswersRequest : Account → Request → List Event → List StoreReply → Doc → Account → Type 0
 AnswersRequest old request events said reply new =
     ((reply ≡ refusal_reply (plain MEMORY)) × ChangesNothing old events said new) ⊎ Replies old request events said reply new
@@ -33,13 +33,13 @@ AnswersRequest old request events said reply new =
 abbrev pub IsRunFrom : {D : Type 0} → (D → Disk) → StoreView D → List Event → List StoreReply → StoreView D → Type 0
 IsRunFrom disk old events said new = ((new ≡ old) × (events ≡ []) × (said ≡ [])) ⊎ RanInBatches disk old new events said
 
--- A step of a copy was made where one is wanted, and else nothing.
+-- A step of a copy was made if one is wanted, and else nothing.
 abbrev pub MakesCopyStep : {D : Type 0} → (D → Disk) → Options → StoreView D → StoreView D → Type 0
 MakesCopyStep disk options old new =
     (WantsStep options old.account × ((outcome : Result Pump Refusal) × PumpAnswers old.account options.pump outcome new.account × Ran disk old new (store.pump options.pump ∷ []) (reply_of store_replies.Pumped outcome ∷ [])))
     ⊎ ((WantsStep options old.account → ⊥) × (new ≡ old))
 
--- The same behind these replies: where one of them says that a transaction was done.
+-- The same after these replies, if one of them says that a transaction was done.
 abbrev pub FollowsBatch : {D : Type 0} → (D → Disk) → Options → List StoreReply → StoreView D → StoreView D → Type 0
 FollowsBatch disk options said old new = (HasDone said × MakesCopyStep disk options old new) ⊎ ((HasDone said → ⊥) × (new ≡ old))
 
@@ -54,7 +54,7 @@ pub record RequestIsAnswered {D : Type 0} (disk : D → Disk) (options : Options
   pub follows : Follows options own_said mid more more_said new.account
   pub led : IsRunFrom disk old (own ++ more) (own_said ++ more_said) new
 
--- The same with nothing behind it, whatever the options.
+-- The same with nothing after it, whatever the options.
 abbrev pub IsAnsweredAlone : {D : Type 0} → (D → Disk) → StoreView D → Request → Doc → StoreView D → Type 0
 IsAnsweredAlone disk old request reply new = (options : Options) → RequestIsAnswered disk options old request reply new
 

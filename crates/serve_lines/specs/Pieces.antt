@@ -56,7 +56,8 @@ pub record ReadsToAReply {D : Type 0} (disk : D → Disk) (input : List ℕ) (ol
   pub less : length left + held_in is < length input + held_in was
   pub hears : ReadsAndReplies disk taken old was reply new is
 
--- Where no reply was ready, whatever it had read and given since whatever start: all lines of it are done now, whether a line feed ended them or not.
+-- If no reply was ready, then for whatever it had read and given from whatever start: all lines of it are done now,
+-- whether a line feed ended them or not.
 abbrev pub EndsInput : {D : Type 0} → (D → Disk) → StoreView D → Session → StoreView D → Session → Type 0
 EndsInput {D} disk old was new is =
     was.ready.items ≡ [] → (options : Options) (start : StoreView D) (read : List ℕ) (replies : List Doc) → HasRead disk options start read old was replies → HasEnded disk options start (lines_of read) new is replies

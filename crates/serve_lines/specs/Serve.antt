@@ -37,7 +37,8 @@ pub record Serves {D : Type 0} (disk : D → Disk) (options : Options) (old : St
   pub counted : count ≡ count_of told.replies
   pub halted_is : told.session.halted ≡ halted
 
--- Where it pauses: transactions wait for others, fewer than a batch takes, and aren't done; a session over all lines before them went so, none of whose batches was ended but by being full or by a line behind it.
+-- If it pauses: transactions wait for others, fewer than a batch takes, and aren't done. A session over all lines
+-- before them went in this way, and each of its batches was ended by being full or by a line after it.
 pub record Pauses {D : Type 0} (disk : D → Disk) (options : Options) (old : StoreView D) (lines : List (List ℕ)) (before : Option (List ℕ)) (new : StoreView D) (after : Option (List ℕ)) : Type 0 where
   pub done : List (List ℕ)
   pub waiting : List (List ℕ)
@@ -48,7 +49,8 @@ pub record Pauses {D : Type 0} (disk : D → Disk) (options : Options) (old : St
   pub asked : AskFor waiting changes
   pub fewer : length changes < most_of options
 
--- A session over the first of the lines that line feeds ended in these bytes led from old to new, with no batch cut short, or where they are all of the input, over the first of its lines.
+-- A session over the first of the lines that line feeds ended in these bytes led from old to new, with no batch cut
+-- short, or if they are all of the input, over the first of its lines.
 pub record BreaksOff {D : Type 0} (disk : D → Disk) (options : Options) (old : StoreView D) (bytes : List ℕ) (left : Option (List ℕ)) (new : StoreView D) : Type 0 where
   pub lines : List (List ℕ)
   pub later : List (List ℕ)

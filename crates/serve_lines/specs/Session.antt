@@ -84,7 +84,9 @@ Selects old name path selected =
 abbrev pub ChangesNothing : Account → List Event → List Reply → Account → Type 0
 ChangesNothing old events said new = (events ≡ []) × (said ≡ []) × (new ≡ old)
 
--- From old, a request was given this reply and led to new, and these events of the store were given these replies: a transaction, a snapshot or a step of a copy is one event, and answered as the store answers it; a question is none, is answered by what stands, and changes nothing.
+-- From old, a request was given this reply and led to new, and these events of the store were given these replies: a
+-- transaction, a snapshot or a step of a copy is one event, and answered as the store answers it; a question is none,
+-- is answered by what is stored, and changes nothing.
 abbrev pub Replies : Account → Request → List Event → List Reply → Doc → Account → Type 0
 Replies old (change c) events said reply new =
     (outcome : Result ℕ Refusal) × by_itself.Answers old c outcome new × (reply ≡ reply_to_change outcome) × (events ≡ store.change c ∷ []) × (said ≡ reply_of Done outcome ∷ [])
@@ -105,7 +107,8 @@ abbrev pub RepliesTo : Account → Result Request ℕ → List Event → List Re
 RepliesTo old (Ok request) events said reply new = Replies old request events said reply new
 RepliesTo old (Err number) events said reply new = (reply ≡ refusal_reply (plain number)) × ChangesNothing old events said new
 
--- From old, a line was given this reply and led to new, by these events and their replies. Want of memory may be answered to any line before the store is asked.
+-- From old, a line was given this reply and led to new, by these events and their replies. That memory ran out may be
+-- answered to any line before the store is asked.
 abbrev pub Answers : Account → List ℕ → List Event → List Reply → Doc → Account → Type 0
 Answers old line events said reply new =
     ((reply ≡ refusal_reply (plain MEMORY)) × ChangesNothing old events said new)
@@ -116,7 +119,7 @@ abbrev pub IsOther : Result Request ℕ → Type 0
 IsOther (Ok request) = IsNoChange request
 IsOther (Err number) = ⊤
 
--- The same of a line that is no transaction, or of any for want of memory.
+-- The same of a line that is no transaction, or of any line if memory ran out for it.
 abbrev pub AnswersOther : Account → List ℕ → List Event → List Reply → Doc → Account → Type 0
 AnswersOther old line events said reply new =
     ((reply ≡ refusal_reply (plain MEMORY)) × ChangesNothing old events said new)
@@ -136,7 +139,8 @@ shown_reply (Snapped used) = snapshot_reply used
 shown_reply (Pumped step) = pump_reply step
 shown_reply (Refused refusal) = refusal_reply refusal
 
--- From old, transactions were made as one batch, and given these replies; that led to new. Want of memory may be answered to all of them before the store is asked. Whether one of them met a fault: this, or one of the store.
+-- From old, transactions were made as one batch, and given these replies; that led to new. That memory ran out may be
+-- answered to all of them before the store is asked. Whether one of them met a fault: this, or one of the store.
 abbrev pub AnswersBatch : Account → List Transaction → List Event → List Reply → List Doc → Bool → Account → Type 0
 AnswersBatch old cs events said replies fault new =
     ((replies ≡ map (λ _. refusal_reply (plain MEMORY)) cs) × ChangesNothing old events said new × (fault ≡ true))
@@ -156,7 +160,8 @@ pub data Group : Type 0 where
 abbrev pub most_of : Options → ℕ
 most_of options = max options.batch 1
 
--- The lines in groups, one behind another. A batch that isn't full is followed by a line by itself, or by nothing: the last word says that the last group is no such batch.
+-- The lines in groups, one after another. A batch that isn't full is followed by a line by itself, or by nothing: the
+-- last word says that the last group is no such batch.
 pub data AreGroups (options : Options) : List (List ℕ) → List Group → Bool → Type 0 where
   no_groups : AreGroups options [] [] true
   one_alone : (lines : List (List ℕ)) (groups : List Group) (whole : Bool) (line : List ℕ) → AreGroups options lines groups whole
@@ -166,7 +171,9 @@ pub data AreGroups (options : Options) : List (List ℕ) → List Group → Bool
   one_short : (lines : List (List ℕ)) (groups : List Group) (batch : List (List ℕ)) → AreGroups options lines groups true → 0 < length batch → length batch < most_of options
       → AreGroups options (lines ++ batch) (groups ++ together batch ∷ []) false
 
--- From old, a group of lines was given these replies, one to each line in their order, and led to new, by these events and their replies: a line by itself is no transaction, or there was want of memory for it. Whether a transaction of it met a fault.
+-- From old, a group of lines was given these replies, one to each line in their order, and led to new, by these events
+-- and their replies: a line by itself is no transaction, or memory ran out for it. Whether a transaction of it met a
+-- fault.
 abbrev pub AnswersGroup : Account → Group → List Event → List Reply → List Doc → Bool → Account → Type 0
 AnswersGroup old (alone line) events said replies fault new = (reply : Doc) × (replies ≡ reply ∷ []) × AnswersOther old line events said reply new × MayBeFault line reply fault
 AnswersGroup old (together lines) events said replies fault new = (cs : List Transaction) × AskFor lines cs × AnswersBatch old cs events said replies fault new
@@ -189,13 +196,16 @@ pub record WantsStep (options : Options) (a : Account) : Type 0 where
 abbrev pub IsDue : Options → List Reply → Account → Type 0
 IsDue options said a = HasDone said × WantsStep options a
 
--- What follows a group that was given these replies: where a step of a copy is due it is made, as one event more, and else nothing is.
+-- The event after a group that was given these replies: if a step of a copy is due it is made, as one event more, and
+-- else nothing is.
 abbrev pub Follows : Options → List Reply → Account → List Event → List Reply → Account → Type 0
 Follows options said old events more new =
     (IsDue options said old × ((outcome : Result Pump Refusal) × PumpAnswers old options.pump outcome new × (events ≡ store.pump options.pump ∷ []) × (more ≡ reply_of Pumped outcome ∷ [])))
     ⊎ ((IsDue options said old → ⊥) × ChangesNothing old events more new)
 
--- From old, a group of lines was given these replies, and what follows it was done, which no reply shows; that led to new, by these events and their replies. Where the options ask for it, a fault that a transaction meets halts the session, and of this batch too no transaction is done after it.
+-- From old, a group of lines was given these replies, and what follows it was done, which no reply shows; that led to
+-- new, by these events and their replies. If the options ask for it, a fault that a transaction meets halts the
+-- session, and of this batch too no transaction is done after it.
 pub record Does (options : Options) (old : Account) (group : Group) (events : List Event) (said : List Reply) (replies : List Doc) (halted : Bool) (new : Account) : Type 0 where
   pub mid : Account
   pub own : List Event

@@ -5,7 +5,7 @@ use Rattle.serde.specs.declared.name.Case.TheVariants.{AsIs}
 use Rattle.doc_tree.specs.Doc.{Doc, boolean, int, object, member, no_members}
 use Rattle.doc_store.specs.declared.status.Status.{Status}
 
--- what a store tells of itself
+-- the document of a store's status
 abbrev pub status_reply : Status → Doc
 status_reply s =
     object (member (codes "broken") (boolean s.broken)

@@ -1,4 +1,4 @@
-//! What is answered to a line by itself: one that is no change.
+//! The answer to a line by itself: one that is no change.
 ghost use Rattle.std.specs.Prelude.{◌≡◌, ◌⊎◌, ◌&&◌, ℕ, List, [], IfOk, Ok, Err, MatchResult};
 ghost use Rattle.doc_tree.specs.Doc.{Doc};
 ghost use Rattle.doc_changes.specs.Refusals.{plain};
@@ -24,8 +24,8 @@ use refusals::numbers::MEMORY;
 use sector_device::SectorDevice;
 use std::alloc::{AllocError, Global};
 
-/// What is answered to a line, by what it was read as: what it asks for, which is no change, or why it asks for nothing.
-/// It halts a session that is to halt where memory was refused for its reading.
+/// The answer to a line, by what it was read as: what it asks for, which is no change, or why it asks for nothing. It
+/// halts a session that halts at a fault if memory was refused for its reading.
 pub(crate) fn answer<D: SectorDevice>(
     alloc: Global,
     store: &mut Store<D>,
@@ -162,7 +162,7 @@ fn status<D: SectorDevice>(alloc: Global, store: &Store<D>) -> Reply
     shown(status_line(alloc, &status))
 }
 
-// A line, or want of memory for it.
+// A line, or that memory ran out for it.
 fn shown(line: Result<Vec<u8>, AllocError>) -> Reply
     ensures { (reply : Doc) → IfOk line (λ v. v.items ≡ line_of reply) → Says result reply ⊎ Says result (refusal_reply (plain MEMORY)) }
 {

@@ -25,9 +25,9 @@ use std::alloc::Global;
 use std::collections::VecDeque;
 use std::mem;
 
-/// Makes the transactions that wait as one batch, if any do, with the step of a copy behind it where one is wanted. Nothing
-/// waits then, and their replies are ready: if memory is refused, that to each of them. Whether the session halts: the
-/// options ask for it, and a transaction met a fault.
+/// Makes the transactions that wait as one batch, if any do, with the step of a copy after it if one is wanted. Nothing
+/// waits then, and their replies are ready: if memory is refused, that reply to each of them. Answers whether the
+/// session halts: the options ask for it, and a transaction met a fault.
 pub(crate) fn commit<D: SectorDevice>(
     alloc: Global,
     store: &mut Store<D>,
@@ -125,7 +125,7 @@ fn says_fault(reply: doc_store::Reply) -> bool
     }
 }
 
-// Makes a step of a copy behind these replies, where a change was done and one is wanted.
+// Makes a step of a copy after these replies, if a change was done and one is wanted.
 fn follow<D: SectorDevice>(store: &mut Store<D>, options: &Options, said: &[doc_store::Reply])
     ensures { FollowsBatch D.disk options.now said.now store.old store.new }
 {
@@ -150,7 +150,7 @@ fn is_done(reply: doc_store::Reply) -> bool
     }
 }
 
-// Makes a step of a copy behind changes that were done, where one is wanted. Its answer isn't shown.
+// Makes a step of a copy after changes that were done, if one is wanted. Its answer isn't shown.
 fn go_on<D: SectorDevice>(store: &mut Store<D>, options: &Options)
     ensures { MakesCopyStep D.disk options.now store.old store.new }
 {
@@ -192,7 +192,7 @@ fn shown(reply: doc_store::Reply) -> Reply
     }
 }
 
-// Lets the refusal with that number be ready as the reply to so many transactions.
+// Makes the refusal with that number ready as the reply to `many` transactions.
 fn refuse(ready: &mut VecDeque<Reply>, many: usize, number: u16)
     requires room { deque_len ready.old + many ≤ deque_capacity ready.old }
     ensures refused { ready.new.items ≡ ready.old.items ++ replicate many (Refused (plain number)) }
@@ -204,7 +204,7 @@ fn refuse(ready: &mut VecDeque<Reply>, many: usize, number: u16)
     }
 }
 
-/// Lets a reply be ready behind the others, without memory.
+/// Makes a reply ready after the others, without memory.
 pub(crate) fn push(ready: &mut VecDeque<Reply>, reply: Reply)
     requires room { deque_len ready.old < deque_capacity ready.old }
     ensures pushed { ready.new.items ≡ ready.old.items ++ reply ∷ [] }
@@ -224,7 +224,7 @@ pub(crate) fn hold(waiting: &mut Vec<Transaction>, transaction: Transaction)
     waiting.push(transaction).unwrap();
 }
 
-/// Whether so many transactions, one at least, make a batch full.
+/// Whether `many` transactions, one at least, make a batch full.
 pub(crate) fn is_full(options: &Options, many: usize) -> bool
     requires some { 0 < many }
     ensures yes { result ≡ true → most_of options.now ≤ many }

@@ -8,7 +8,7 @@ ghost use Rattle.serve_lines.specs.Laws.{OneIsAnswered, OneNeverWaits};
 
 use sector_device::SectorDevice;
 
-/// Where a batch takes one change, each change is answered by itself, and none waits.
+/// If a batch takes one change, each change is answered by itself, and none waits.
 pub fn batches_of_one<D: SectorDevice>()
     ensures answered { OneIsAnswered }
     ensures paused { OneNeverWaits D.disk }
@@ -20,7 +20,7 @@ pub fn halts_at_the_first_fault()
     ensures { EachStopsAtAFault }
 {}
 
-/// What is told of a line whose transaction wasn't made is never that one was done, whatever the number.
+/// What is said of a line whose transaction wasn't made is never that one was done, whatever the number.
 pub fn no_other_line_is_told_as_done()
     ensures { (s : State) (line : List ℕ) (seq : ℕ) → LineTells s line (change_reply seq) → ⊥ }
 {}

@@ -1,13 +1,13 @@
 //! Command lines over a store: JSON lines in, one reply line to each out.
 //!
 //! A `Session` is given input in pieces of any size, and hands out one reply at a time; what a reply
-//! says stands on the device when it is handed out. `serve` does so from any reader to any writer. At
+//! says is on the device when it is handed out. `serve` does so from any reader to any writer. At
 //! its end what was written is the reply lines of a session over the lines of all that was read, and
 //! nothing else, and the store is the session's last. A session (`specs/Session`) knows of lines,
-//! requests and accounts alone; buffers, pieces and want of memory in mid-stream are this crate's
-//! affair. Where the options ask for it, a step of a copied snapshot follows a change that was done,
+//! requests and accounts alone; buffers, pieces and a lack of memory in mid-stream are this crate's
+//! affair. If the options ask for it, a step of a copied snapshot follows a change that was done,
 //! before the change's reply is handed out. However it ends, what the session asked of the store is
-//! one run of it, and so its device stands for the documents at each moment (`specs/Serve`). What a
+//! one run of it, and so its device holds the documents at each moment (`specs/Serve`). What a
 //! client may count on, from the lines that come in to the lines that go out, is `specs/Kept`.
 #![tactic(auto)]
 

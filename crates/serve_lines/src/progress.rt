@@ -1,4 +1,4 @@
-//! How far serving has come between two reads.
+//! The progress of serving between two reads.
 ghost use Rattle.std.specs.Prelude.{◌≡◌, [], OnOk, OnErr, IfOk, false};
 ghost use Rattle.protocol.specs.LineBuffer.{Holds};
 
@@ -11,7 +11,7 @@ use sector_device::SectorDevice;
 use std::alloc::{AllocError, Global};
 use std::io::Write;
 
-/// A session, the reply lines that wait, and the number of replies so far, which stops at 2^64 - 1.
+/// A session, the reply lines that wait, and the number of replies until now, which stops at 2^64 - 1.
 #[derive(Drop)]
 pub(crate) struct Progress {
     session: Session,
@@ -117,7 +117,7 @@ impl Progress {
         Ok((self.answered, self.session.is_halted()))
     }
 
-    // Tells the replies that are ready.
+    // Gives the replies that are ready.
     fn tell_rest<W: Write>(&mut self, writer: &mut W) -> Result<(), Unwritten>
         ensures told { OnOk result (TellsRest self.old (W.contents writer.old) self.new (W.contents writer.new)) }
         ensures halted { OnOk result (self.new.session.halted ≡ self.old.session.halted) }

@@ -58,15 +58,14 @@ pub enum ServeFault {
 /// Reads lines to the end of the input, and writes one reply line to each that isn't blank, and
 /// nothing else.
 ///
-/// Lines end with LF; a last line without one is answered. Replies are written before the next
-/// call of the reader, of which there are `turns` at most. Successive changes are made as one batch, of
-/// `batch` at most, and answered then: one that isn't full when more input is awaited waits for it. A
-/// line for which memory is refused is answered so and skipped, behind the batch before it; where it is
-/// refused to a batch, each of its lines is answered so. Behind each batch of which a change was done a
-/// step of a copy is made, before its replies are written, where the options ask for one; it has no
-/// reply line. Once the store is broken, changes, snapshots and steps are refused, and questions are
-/// answered from what was last committed. Where the options ask to halt, all lines are answered `BROKEN` after a change that is
-/// answered 60 to 63, or a line for whose reading memory was refused, and nothing more is done.
+/// Lines end with LF; a last line without one is answered. Replies are written before the next call of the reader, of
+/// which there are `turns` at most. Successive changes are made as one batch, of `batch` at most, and answered then:
+/// one that isn't full when more input is awaited waits for it. A line for which memory is refused is answered with
+/// that refusal and skipped, after the batch before it; if memory is refused to a batch, each of its lines is. After
+/// each batch of which a change was done a step of a copy is made, before its replies are written, if the options ask
+/// for one; it has no reply line. Once the store is broken, changes, snapshots and steps are refused, and questions are
+/// answered from what was last committed. If the options ask to halt, all lines are answered `BROKEN` after a change
+/// that is answered 60 to 63, or a line for whose reading memory was refused, and nothing more is done.
 pub fn serve<D: SectorDevice, R: Read, W: Write>(
     alloc: Global,
     store: &mut Store<D>,
@@ -76,7 +75,7 @@ pub fn serve<D: SectorDevice, R: Read, W: Write>(
 ) -> Result<Served, ServeFault>
     // However it ends: the lines that were answered as done asked, in their order, for the transactions that no crash loses; of
     // each the reply is its number, and a question is answered by the state after those before it. Unless the writer failed,
-    // the lines of these replies are all that was written; where no fault ended it, no line is without one.
+    // the lines of these replies are all that was written; if no fault ended it, no line is without one.
     ensures kept { (k : IsKept D.disk store.old store.new (R.remaining reader.old) (R.remaining reader.new))
         × (IsOk result → (k.later ≡ []) × IsAtEnd (R.remaining reader.new))
         × ((IsErrOf result Writer → ⊥) → Appends (W.contents writer.old) (W.contents writer.new) (reply_lines k.replies)) }
@@ -87,7 +86,7 @@ pub fn serve<D: SectorDevice, R: Read, W: Write>(
         × (length read < 65_536 * options.now.turns)) }
     ensures broken { IfOk result (λ served. served.broken ≡ store.new.account.broken) }
 
-    // However it ends, what is stored is good, and the device of a store that works stands for it.
+    // However it ends, what is stored is good, and the device of a store that works holds it.
     ensures good { Good store.new.account.state }
     ensures standing { IsStanding (D.disk store.new.device) store.new.account }
 
@@ -115,7 +114,7 @@ pub fn serve<D: SectorDevice, R: Read, W: Write>(
 {
     runs_keep_the_promise::<D>();
     let ended = answer_all(alloc, store, reader, writer, options);
-    // By this call the proof knows at every exit that what is stored is good, and what the device stands for.
+    // By this call the proof knows at every exit that what is stored is good, and what the device holds.
     let broken = store.status().broken;
     match ended {
         Ok((lines, halted)) => Ok(Served {

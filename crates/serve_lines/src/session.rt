@@ -1,4 +1,4 @@
-//! A session over pieces of input: each line is answered when it has ended, or with the batch that it is of.
+//! A session over pieces of input: each line is answered when it has ended, or with its batch.
 ghost use Rattle.std.specs.Prelude.{◌≡◌, ◌≤◌, ◌<◌, ◌+◌, ◌++◌, ◌∷◌, [], List, ℕ, ◌&&◌, ◌||◌, IfOk, MatchOption, Ok, false, ⊤};
 ghost use Rattle.std.specs.Vec.{vec_capacity, vec_len};
 ghost use Rattle.std.specs.VecDeque.{deque_capacity, deque_len};
@@ -23,10 +23,10 @@ use sector_device::SectorDevice;
 use std::alloc::{AllocError, Global};
 use std::collections::VecDeque;
 
-/// A session over the lines of its input, which comes in pieces of any size. Successive transactions wait for one another, as
-/// many as a batch takes (`Options::batch`), and are made together; a line that is none makes those that wait before
-/// it is done. After a batch of which one was done a step of a copy is made before its replies are given, where its
-/// options ask for one (`Options::pump`).
+/// A session over the lines of its input, which comes in pieces of any size. Successive transactions wait for one
+/// another, as many as a batch takes (`Options::batch`), and are made together; a line that is none makes those that
+/// wait before it is done. After a batch of which one was done a step of a copy is made before its replies are given,
+/// if its options ask for one (`Options::pump`).
 #[derive(Drop)]
 pub struct Session {
     /// The line that is being read.
@@ -71,9 +71,9 @@ impl Session {
         self.halted
     }
 
-    /// The next reply that is ready, if there is one: else reads on in `input` until one is. The reply, and the input
-    /// behind what was read. `None` where no reply is ready in all of `input`, which is read then: each line that ended in
-    /// it is answered, but for the transactions that wait.
+    /// The next reply that is ready, if there is one; else it reads on in `input` until one is. The reply, and the
+    /// input after what was read. `None` if no reply is ready in all of `input`, which is read then: each line that
+    /// ended in it is answered, but for the transactions that wait.
     ///
     /// What a reply says is so when it is given: an accepted change is on the device.
     pub fn next_reply<'a, D: SectorDevice>(

@@ -1,4 +1,4 @@
-//! The reply line that shows what a store tells of itself.
+//! The reply line that shows the status of a store.
 ghost use Rattle.std.specs.Prelude.{◌≡◌, IfOk, OnOk};
 ghost use Rattle.serde_json.specs.Events.{SendsValue};
 ghost use Rattle.doc_tree.specs.Text.{data_of};

@@ -24,7 +24,7 @@ pub(crate) fn send<W: Write>(outbox: &mut Outbox, writer: &mut W) -> Result<(), 
     }
 }
 
-/// Writes what waits where there is no room for a reply that takes no memory.
+/// Writes what waits if there is no room for a reply that takes no memory.
 pub(crate) fn make_room<W: Write>(outbox: &mut Outbox, writer: &mut W) -> Result<(), Unwritten>
     ensures told { OnOk result (KeepsWritten outbox.old (W.contents writer.old) outbox.new (W.contents writer.new)) }
     ensures room { OnOk result (HasRoom outbox.new) }

@@ -46,7 +46,7 @@ fn deletion(rt: &impl Abort, alloc: Global, of: &str) -> Command {
     }
 }
 
-/// The text of so many letters x.
+/// The text of `many` letters x.
 fn letters(rt: &impl Abort, alloc: Global, many: usize) -> Tree {
     Tree::Text("x".repeat(alloc, many).expect(rt, "memory"))
 }
@@ -70,7 +70,7 @@ fn add(rt: &impl Abort, commands: &mut Vec<Command>, command: Command) {
     commands.push(command).expect(rt, "memory");
 }
 
-/// That the first creations of four are answered so, and its other commands refused.
+/// Asserts that the first creations of four are answered in this way, and the other commands refused.
 fn assert_answers(rt: &impl Abort, said: &[Reply], d: Reply, e: Reply) {
     let wanted = [
         d,
@@ -136,7 +136,7 @@ fn calls_of_opening(rt: &impl Abort, alloc: Global) -> usize {
     store.into_device().calls().len()
 }
 
-/// That so many changes are made, in turn.
+/// Asserts that `many` changes are made, in turn.
 fn assert_done(rt: &impl Abort, said: &[Reply], many: u64) {
     let mut seq: u64 = 0;
     for reply in said {
@@ -179,7 +179,7 @@ fn assert_broken<D: SectorDevice>(rt: &impl Abort, alloc: Global, store: &mut St
     assert_eq!(rt; next, Err(Refusal::plain(62)));
 }
 
-/// That so much stands after a batch whose last sync failed, where the commit sector's content is picked so.
+/// Asserts the documents and the seq after a batch whose last sync failed, if the crash keeps these picks.
 fn assert_left(rt: &impl Abort, alloc: Global, picks: &[u64], documents: u64, seq: u64) {
     let mut store = in_doubt(rt, alloc);
     assert_broken(rt, alloc, &mut store);

@@ -1,4 +1,4 @@
-//! What a file does as a device: the bytes that stand in it, and which calls the system refuses.
+//! A file as a device: the bytes in it, and which calls the system refuses.
 use file_device::{Blocks, Cause, FileDevice, FileFault, Held, Progress, Rights, SystemFault};
 use sector_device::SectorDevice;
 use std::alloc::Global;
@@ -32,7 +32,7 @@ fn create<R: Files<File = File> + Abort>(rt: &R, path: &str, sectors: u64) -> Fi
     )
 }
 
-/// No file of so many sectors is made.
+/// No file of `sectors` sectors is made.
 fn is_not_made<R: Files<File = File> + Abort>(rt: &R, path: &str, sectors: u64) {
     let made = FileDevice::create(rt, path, sectors, Blocks::Allocated, OWNER_ALONE, &mut ());
     assert!(rt; made.is_err());
@@ -60,12 +60,12 @@ fn to_write<R: Files<File = File> + Abort>(rt: &R, path: &str) -> File {
     how.open(rt, path).expect(rt, "opened")
 }
 
-/// Gives a file that length; where nothing stands, it is made.
+/// Gives a file that length; makes it if nothing is there.
 fn set_length<R: Files<File = File> + Abort>(rt: &R, path: &str, length: u64) {
     to_write(rt, path).set_len(length).expect(rt, "so long");
 }
 
-/// Nothing stands there.
+/// Nothing is there.
 fn is_missing<R: Files + Abort>(rt: &R, path: &str) {
     assert!(rt; !fs::exists(rt, path).expect(rt, "known"));
 }
@@ -154,7 +154,7 @@ fn a_file_is_opened_by_one_alone(rt: HostRuntime) {
     has_fault(&rt, rt.alloc(), "no such file", Some(MISSING));
 }
 
-/// What was told of a new file, the first three times.
+/// The reports on a new file, the first three times.
 #[derive(Clone, Copy, Debug, PartialEq, Eq)]
 struct Told {
     times: usize,
@@ -172,7 +172,7 @@ impl Progress for Told {
     }
 }
 
-/// Makes a file of 300 sectors, of which this is told.
+/// Makes a file of 300 sectors, of which these reports are given.
 fn tells_of_a_new_file<R: Files<File = File> + Abort>(
     rt: &R,
     path: &str,
@@ -211,7 +211,7 @@ fn length_of<R: Files + Abort>(rt: &R, path: &str) -> u64 {
     fs::metadata(rt, path).expect(rt, "known").len()
 }
 
-/// A file of that length has so many sectors, and keeps its length.
+/// A file of that length has `sectors` sectors, and keeps its length.
 fn has_sectors<R: Files<File = File> + Abort>(
     rt: &R,
     alloc: Global,

@@ -1,5 +1,5 @@
-//! Tests of readers, writers, files, pieces of input, lists of events and batches, which no row of a transcript has. They
-//! stand in a crate of their own since a crate with tests is proved twice.
+//! Tests of readers, writers, files, pieces of input, lists of events and batches, which no row of a transcript has.
+//! They are in a crate of their own since a crate with tests is proved twice.
 #![tactic(auto)]
 
 #[cfg(test)]

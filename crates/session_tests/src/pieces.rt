@@ -28,7 +28,7 @@ impl Told {
     }
 }
 
-/// A session where so many changes make a batch full.
+/// A session in which `batch` changes make a batch full.
 fn session_by(rt: &impl Abort, alloc: Global, batch: u64) -> Session {
     let options = Options {
         batch,
@@ -70,7 +70,7 @@ fn take_ready(rt: &impl Abort, session: &mut Session, told: &mut Told) {
     }
 }
 
-/// What is replied to an input that comes in pieces of one size, where so many changes make a batch full.
+/// The replies to an input that comes in pieces of one size, if `batch` changes make a batch full.
 fn told_in_pieces(
     rt: &impl Abort,
     alloc: Global,

@@ -1,4 +1,4 @@
-//! Which lines of a stream have a reply, and how a session ends where its reader fails, or the turns run out.
+//! The lines of a stream that have a reply, and how a session ends if its reader fails, or the turns run out.
 use crate::support::{LISTED, TURNS, assert_says, assert_session};
 use serve_lines::{ServeFault, Served};
 use std::alloc::Global;
@@ -40,7 +40,7 @@ impl Read for Counted {
     }
 }
 
-/// How a session over two lines ends after so many turns, what it says, and how often it reads.
+/// How a session over two lines ends after `turns` turns, what it replies, and how often it reads.
 fn assert_ends(
     rt: &impl Abort,
     alloc: Global,
@@ -73,7 +73,7 @@ fn a_turn_is_a_call_of_the_reader(rt: HostRuntime) {
     assert_ends(&rt, alloc, 31, Ok(done), TWO_LISTED);
 }
 
-/// A session whose reader fails at that call has answered so many lines.
+/// A session whose reader fails at that call has given these replies.
 fn assert_fails(rt: &impl Abort, alloc: Global, failing: u64, replies: &str) {
     let mut reader = Counted {
         left: TWO_LINES,

@@ -13,7 +13,7 @@ pub(crate) const TURNS: u64 = 1_000;
 /// The reply line to `list` over a store without documents.
 pub(crate) const LISTED: &str = "{\"names\":[],\"ok\":true}\n";
 
-/// A disk in memory of so many sectors, formatted.
+/// A disk in memory of `sectors` sectors, formatted.
 pub(crate) fn formatted(rt: &impl Abort, alloc: Global, sectors: u64) -> MemDisk {
     let mut disk = MemDisk::new(alloc, sectors).expect(rt, "a disk");
     format(&mut disk).expect(rt, "formatted");
@@ -66,7 +66,7 @@ pub(crate) fn session<R: Read>(
     (end, writer)
 }
 
-/// That a session over a new store ends so, and writes these replies.
+/// Asserts that a session over a new store ends in this way, and writes these replies.
 pub(crate) fn assert_session<R: Read>(
     rt: &impl Abort,
     alloc: Global,

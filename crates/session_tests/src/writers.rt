@@ -1,11 +1,11 @@
-//! How a session ends by what its writer does.
+//! Writers: how a session ends by what its writer does.
 use crate::support::{LISTED, TURNS, assert_ended, new_store, served};
 use serve_lines::{ServeFault, Served};
 use std::alloc::Global;
 use std::io::{self, Write};
 use std::process::Abort;
 
-/// A writer that takes so many bytes a call at most, counts its calls, and fails at one of them, 0 for none.
+/// A writer that takes at most `most` bytes a call, counts its calls, and fails at the call `failing`, at none for 0.
 #[derive(Drop)]
 struct Slow {
     taken: Vec<u8>,
@@ -54,7 +54,7 @@ impl Write for Buffered {
     }
 }
 
-/// How a session that asks for the names ends with such a writer after so many reads, and which bytes were flushed.
+/// How a session that asks for the names ends with such a writer after `turns` reads, and which bytes were flushed.
 fn assert_flushes(
     rt: &impl Abort,
     alloc: Global,

@@ -1,10 +1,10 @@
--- What a store is seen as.
+-- The view of a store.
 use Rattle.std.specs.Prelude.{◌≡◌, ℕ, Bool, true, false, Option, None}
 use Rattle.sector_device.specs.Disk.{Disk, Image}
 use Rattle.doc_changes.specs.State.{State}
 use Rattle.store_commits.specs.Images.{Stands}
 
--- a copy that runs: the length of its target, and how many of these bytes stand
+-- a copy that runs: the length of its target, and how many of these bytes the other half holds
 pub record Copy : Type 0 where
   pub target : ℕ
   pub standing : ℕ
@@ -36,6 +36,6 @@ pub record StoreView (D : Type 0) : Type 0 where
   pub device : D
   pub account : Account
 
--- of a working store on an honest device, each image that a crash may leave stands for its state
+-- of a working store on an honest device, each image that a crash may leave holds its state
 abbrev pub IsStanding : Disk → Account → Type 0
 IsStanding disk account = disk.honest → account.broken ≡ false → (image : Image) → disk.left image → Stands account.state image

@@ -1,4 +1,4 @@
--- How a transaction is answered, and what becomes of the account.
+-- The answer to a transaction, and what becomes of the account.
 use Rattle.std.specs.Prelude.{◌≡◌, ◌⊎◌, ℕ, ◌+◌, List, [], ◌∷◌, length, true, false, Result, Ok, Err, Option, None, Some, option_map, if◌then◌else◌, nat_le}
 use Rattle.refusals.specs.declared.numbers.TheConstants.{MEMORY, FULL, DEVICE, BROKEN}
 use Rattle.store_journal.specs.Layout.{capacity_of}
@@ -21,17 +21,18 @@ frame_sizes (c ∷ cs) = (12 + length (body_of c)) + frame_sizes cs
 abbrev pub size_of : Transaction → ℕ
 size_of t = frame_sizes (changes_of t)
 
--- the store works, its state accepts the transaction, and the frames have room, if need be behind a snapshot of that state
+-- the store works, its state accepts the transaction, and the frames have room, if need be after a snapshot of that
+-- state
 pub record Accepts (a : Account) (t : Transaction) : Type 0 where
   pub works : a.broken ≡ false
   pub accepted : refusal_in a.state t ≡ None
   pub room : HasRoom a (size_of t)
 
--- the target of a running copy grows by so many bytes
+-- the target of a running copy grows by `n` bytes
 abbrev pub copy_with : Option Copy → ℕ → Option Copy
 copy_with k n = option_map (λ (c : Copy). record c { target = c.target + n }) k
 
--- the account after the transaction: its frames stand behind the used bytes where they fit there, else behind the snapshot
+-- the account after the transaction: its frames come after the used bytes if they fit there, else after the snapshot
 abbrev pub account_with : Account → Transaction → Account
 account_with a t = let before = if nat_le (a.used + size_of t) (capacity_of a.sectors) then a else account_with_snapshot a in
     record a { state = after_in a.state t; used = before.used + size_of t; half = before.half; copy = copy_with before.copy (size_of t) }
@@ -55,12 +56,12 @@ StoreRefuses a t r =
     ⊎ ((r ≡ plain FULL) × (a.broken ≡ false) × (refusal_in a.state t ≡ None) × HasNoRoom a (size_of t))
     ⊎ (r ≡ plain MEMORY)
 
--- the answer to a transaction; where it is refused before it does anything, nothing has changed
+-- the answer to a transaction; if it is refused before it does anything, nothing has changed
 abbrev pub Answers : Account → Transaction → Result ℕ Refusal → Account → Type 0
 Answers old t (Ok seq) new = IsDone old t seq new
 Answers old t (Err r) new = ((r ≡ plain DEVICE) × IsInDoubt old t new) ⊎ (StoreRefuses old t r × (new ≡ old))
 
--- the calls of its own commit, behind the snapshot that makes room for it
+-- the calls of its own commit, after the snapshot that makes room for it
 abbrev pub calls_behind : Account → Transaction → ℕ
 calls_behind a t = append_calls a.rides (account_with_snapshot a).used (size_of t)
 

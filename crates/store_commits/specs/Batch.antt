@@ -15,7 +15,8 @@ use Rattle.store_commits.specs.Room.{IsOver, HasNoRoom}
 use Rattle.store_commits.specs.Snapshot.{snapshot_bytes}
 use Rattle.store_commits.specs.SnapshotAnswers.{account_with_snapshot, calls_of_snapshot}
 
--- What a commit is for: by so many calls of the device it makes this account, and the committed bytes then end with these.
+-- The purpose of a commit: by `calls` calls of the device it makes this account, and the committed bytes then end with
+-- these.
 pub record Intent : Type 0 where
   pub calls : ℕ
   pub made : Account
@@ -29,7 +30,7 @@ to_append a slots = record { calls = calls_for a.rides a.used (waiting slots); m
 abbrev pub to_snapshot : Account → Intent
 to_snapshot a = record { calls = calls_of_snapshot a; made = account_with_snapshot a; ending = snapshot_bytes a.state.documents }
 
--- a transaction behind that snapshot
+-- a transaction after that snapshot
 abbrev pub to_append_behind : Account → Transaction → Intent
 to_append_behind a c = record { calls = calls_behind a c; made = account_with a c; ending = frames_at a.state.seq (changes_of c) }
 
@@ -38,17 +39,18 @@ pub data Commit : Type 0 where
   passed : Intent → Commit
   failed : Intent → (kept : Account) → Commit
 
--- one commit, or none where nothing waits for it
+-- one commit, or none if nothing waits for it
 abbrev pub commit_for : List Transaction → Commit → List Commit
 commit_for [] k = []
 commit_for (c ∷ cs) k = k ∷ []
 
--- the first of the transactions, if there is one, is accepted by the documents and has no room behind the used bytes
+-- the first of the transactions, if there is one, is accepted by the documents and has no room after the used bytes
 abbrev pub IsForced : Account → List Transaction → Type 0
 IsForced a [] = ⊤
 IsForced a (c ∷ cs) = (refusal_in a.state c ≡ None) × IsOver a (size_of c)
 
--- A transaction that has no room behind the used bytes, as it is answered by itself, and its commits: the snapshot's, and its own. The account is that of the last commit that passed.
+-- A transaction that has no room after the used bytes, as it is answered by itself, and its commits: the snapshot's,
+-- and its own. The account is that of the last commit that passed.
 pub data AnswersForced : Account → Transaction → Reply → List Commit → Account → Type 0 where
   alone_done : (a b : Account) (c : Transaction) (seq : ℕ) → IsDone a c seq b → AnswersForced a c (Done seq) (passed (to_snapshot a) ∷ passed (to_append_behind a c) ∷ []) b
   snapshot_failed : (a b : Account) (c : Transaction) → Accepts a c → b ≡ account_broken a
@@ -72,16 +74,18 @@ pub data IsBatch : Account → List Transaction → List Reply → List Commit �
   by_itself : (a b d : Account) (c : Transaction) (cs : List Transaction) (reply : Reply) (replies : List Reply) (commits more : List Commit)
       → IsForced a (c ∷ cs) → AnswersForced a c reply commits b → IsBatch b cs replies more d
       → IsBatch a (c ∷ cs) (reply ∷ replies) (commits ++ more) d
-  -- once the store is broken each is answered so
+  -- once the store is broken each is answered with that
   stays_broken : (a d : Account) (c : Transaction) (cs : List Transaction) (replies : List Reply) (more : List Commit)
       → a.broken ≡ true → IsBatch a cs replies more d → IsBatch a (c ∷ cs) (Refused (plain BROKEN) ∷ replies) more d
 
--- the calls passed, and each image that a crash may leave then is of the account that was to be made, and its bytes end so
+-- the calls passed, and each image that a crash may leave then is one of the account that was to be made, and its bytes
+-- end with these
 pub record PassedCommit {D : Type 0} (disk : D → Disk) (old new : D) (k : Intent) : Type 0 where
   pub passed : Made (disk old) (disk new) k.calls
   pub leaves : IsEndingWith k.ending (disk new) k.made
 
--- one of at most so many calls failed, and each image that a crash may leave then is of the one account or of the other
+-- one of at most `calls` calls failed, and each image that a crash may leave then is one of the old account or of the
+-- new one
 pub record FailedCommit {D : Type 0} (disk : D → Disk) (old new : D) (k : Intent) (kept : Account) : Type 0 where
   pub failed : Failed (disk old) (disk new) k.calls
   pub leaves : (disk new).honest → (image : Image) → (disk new).left image → StandsAs (extent_of kept) image ⊎ EndsWith k.ending (extent_of k.made) image

@@ -1,4 +1,5 @@
--- For the clauses within the crate: a batch under way, how its commits are planned and what was done of it so far.
+-- For the clauses within the crate: a batch that is being made, how its commits are planned and what is done of it
+-- already.
 use Rattle.std.specs.Prelude.{◌≡◌, ◌⊎◌, ◌↔◌, ℕ, ◌+◌, List, [], ◌∷◌, ◌++◌, length, Bool, true, false, None, Some, Option, ⊤, Vec}
 use Rattle.std.specs.List.{list_any}
 use Rattle.std.specs.Global.{Global}
@@ -54,14 +55,17 @@ pub record IsEmpty (segment : Segment) : Type 0 where
   pub adds : segment.adds ≡ 0
   pub replies : segment.replies.items ≡ []
 
--- Why a segment is one, with this snapshot or none: its transactions were judged so one after another, and fit beside one another; or one goes behind the snapshot; or neither the used bytes nor a snapshot leave room for one. It leads to an account, and the others are left.
+-- The kinds of segments, with this snapshot or none: its transactions were judged one after another, and fit beside one
+-- another; or one goes after the snapshot; or neither the used bytes nor a snapshot leave room for one. It leads to an
+-- account, and the others are left.
 pub data IsSegment (a : Account) (left : List Transaction) : Option (Vec ℕ Global) → List Slot → Account → Type 0 where
   together : (slots : List Slot) → AreJudged a slots → IsForced (account_committed a slots) left → IsSegment a left None slots (account_committed a slots)
   behind : (t : Transaction) (snapshot : Vec ℕ Global) → snapshot.items ≡ snapshot_bytes a.state.documents → refusal_in a.state t ≡ None → IsOver a (size_of t) → Fits (account_with_snapshot a) (size_of t)
       → IsSegment a left (Some snapshot) (waits t ∷ []) (account_with a t)
   full : (t : Transaction) → refusal_in a.state t ≡ None → HasNoRoom a (size_of t) → IsSegment a left None (said t (plain FULL) ∷ []) a
 
--- from an account, the segment answers the transactions that were judged so, once those that wait are committed
+-- from an account, the segment answers the transactions that were judged in this way, once those that wait are
+-- committed
 pub record IsPart (a : Account) (left : List Transaction) (segment : Segment) (slots : List Slot) (b : Account) : Type 0 where
   pub is : IsSegment a left segment.snapshot slots b
   pub has : HasFrames a.state (waiting slots) segment
@@ -117,16 +121,19 @@ IsAppendedBehind {D} disk old new target frames adds fine =
     × IsAppended disk mid new frames adds fine)
     ⊎ ((fine ≡ false) × IsTried disk old new (switched (carried_of old) target) (Broke (disk old.device) (disk new.device) (sectors_of (length target) + 3) old new))
 
--- ---- what was done so far
+-- ---- the part that is done
 
--- Transactions of a batch were answered so, and however the others go on as a batch makes one with them; and it is the run of these.
+-- Transactions of a batch were given these replies, and however the others go on as a batch makes one with them; and it
+-- is the run of these.
 pub record RanPrefix {D : Type 0} (disk : D → Disk) (old new : StoreView D) (cs : List Transaction) (replies : List Reply) (left : List Transaction) : Type 0 where
   pub commits : List Commit
   pub goes : (rs : List Reply) (more : List Commit) (end : Account) → IsBatch new.account left rs more end → IsBatch old.account (cs ++ left) (replies ++ rs) (commits ++ more) end
   pub made : AreMade disk old.device commits new.device
   pub ran : RanBy disk (λ _ _ _ _. ⊤) old new (changes cs) replies
 
--- Transactions that were judged so are answered so: the first were committed. Of the others, which a fault of the device hit or which came behind it, none is said to be done, and where there are some a fault is told.
+-- Transactions that were judged in this way are given these replies: the first were committed. Of the others, which a
+-- fault of the device hit or which came after it, none is said to be done, and if there are some, a fault is among the
+-- replies.
 pub record RepliesOfPrefix (before after : Bool) (seq : ℕ) (slots : List Slot) (replies : List Reply) : Type 0 where
   pub first : List Slot
   pub lost : List Slot
@@ -145,7 +152,8 @@ pub record AnswersPart {D : Type 0} (disk : D → Disk) (old : JournalView D) (s
   pub account : new.broken ≡ false → with_copy (account_of new (after_each s (waiting told.first))) (copy_of copied) ≡ b
   pub went : RanPrefix disk (store_view old s copy) (store_view new (after_each s (waiting told.first)) copied) (asked slots) replies left
 
--- Segments were committed, or the device failed in one of them; whatever was answered so far, the others are planned from there.
+-- Segments were committed, or the device failed in one of them; whatever replies were given already, the others are
+-- planned from there.
 pub record HasCome {D : Type 0} (disk : D → Disk) (start : JournalView D) (s : State) (copy : Option Target) (slots : List Slot) (end : Account) (now : JournalView D) (copied : Option Target) (rest : List Segment) (replies : List Reply) : Type 0 where
   pub first : List Slot
   pub left : List Slot
@@ -172,7 +180,8 @@ abbrev pub EndsAtFault : List Slot → Type 0
 EndsAtFault [] = ⊤
 EndsAtFault (slot ∷ slots) = (slot_fault slot ≡ true → slots ≡ []) × EndsAtFault slots
 
--- of these transactions the first were judged so: all, or, where that is asked for, those through the first without room
+-- of these transactions the first were judged in this way: all, or, if that is asked for, those through the first
+-- without room
 pub record StopsAtFull (until_full : Bool) (cs : List Transaction) (slots : List Slot) : Type 0 where
   pub left : List Transaction
   pub parts : asked slots ++ left ≡ cs
@@ -184,7 +193,8 @@ pub record StopsAtFull (until_full : Bool) (cs : List Transaction) (slots : List
 abbrev pub tried_from : State → List Transaction → TrialView
 tried_from s ts = record { state = after_each s ts; past = befores s (all_changes ts) }
 
--- From an account transactions were judged so: whatever more is planned behind the segments from the account in between makes a plan with them; the open segment has those since, and all that are accepted were made on the trial.
+-- From an account transactions were judged in this way: whatever more is planned after the segments from the account in
+-- between makes a plan with them; the open segment has those since, and all that are accepted were made on the trial.
 pub record IsPlanning (a : Account) (slots : List Slot) (p : Planning) (t : TrialView) : Type 0 where
   pub mid : Account
   pub closed : List Slot

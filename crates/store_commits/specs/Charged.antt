@@ -1,4 +1,4 @@
--- What a run does with its device, event by event: how many calls it makes, and which of them failed.
+-- The calls of a run, event by event: how many it makes of its device, and which of them failed.
 use Rattle.std.specs.Prelude.{◌≡◌, ◌≢◌, ℕ, List, [], ◌∷◌, ◌++◌, Bool, true, Ok, Err}
 use Rattle.sector_device.specs.Disk.{Disk}
 use Rattle.sector_device.specs.Charges.{Made, Failed}
@@ -13,7 +13,7 @@ use Rattle.store_commits.specs.Events.{Event, Reply, change, snapshot, pump, Don
 use Rattle.store_commits.specs.Pumping.{PumpAnswers, calls_of_pump}
 use Rattle.store_commits.specs.SnapshotAnswers.{SnapshotAnswers, calls_of_snapshot}
 
--- the calls that an event makes of the device, where it is done
+-- the calls that an event makes of the device, if it is done
 abbrev pub cost_of : Account → Event → ℕ
 cost_of a (change c) = calls_of a c
 cost_of a snapshot = calls_of_snapshot a
@@ -39,7 +39,8 @@ abbrev pub IsCharged : {D : Type 0} → (D → Disk) → StoreView D → Event �
 IsCharged disk old e (Refused r) new = (r.number ≡ DEVICE → FailedIn disk old e r new) × (r.number ≢ DEVICE → new.device ≡ old.device)
 IsCharged disk old e r new = Made (disk old.device) (disk new.device) (cost_of old.account e)
 
--- events one after another, each answered and charged by itself, or, where batches are made, the transactions of one together
+-- events one after another, each answered and charged by itself, or, if batches are made, the transactions of one
+-- together
 pub data Charged {D : Type 0} (disk : D → Disk) (in_batches : Bool) (start : StoreView D) : List Event → List Reply → StoreView D → Type 0 where
   begins : Charged disk in_batches start [] [] start
   and_event : (es : List Event) (rs : List Reply) (mid : StoreView D) (e : Event) (r : Reply) (end : StoreView D)

@@ -36,7 +36,7 @@ abbrev pub sizes_of : List Transaction → ℕ
 sizes_of [] = 0
 sizes_of (t ∷ ts) = size_of t + sizes_of ts
 
--- the account once the transaction's frames stand behind the used bytes, and behind the target of a copy that runs
+-- the account once the transaction's frames come after the used bytes, and after the target of a copy that runs
 abbrev pub account_behind : Account → Transaction → Account
 account_behind a t = record a { state = after_in a.state t; used = a.used + size_of t; copy = copy_with a.copy (size_of t) }
 
@@ -46,7 +46,8 @@ account_committed a [] = a
 account_committed a (waits t ∷ slots) = account_committed (account_behind a t) slots
 account_committed a (said t r ∷ slots) = account_committed a slots
 
--- Each was judged after those before it: one that waits is accepted, and its frames fit behind theirs; of another the refusal is the documents' own.
+-- Each was judged after those before it: one that waits is accepted, and its frames fit after theirs; of another the
+-- refusal is the documents' own.
 abbrev pub AreJudged : Account → List Slot → Type 0
 AreJudged a [] = ⊤
 AreJudged a (waits t ∷ slots) = (refusal_in a.state t ≡ None) × Fits a (size_of t) × AreJudged (account_behind a t) slots
@@ -58,13 +59,14 @@ replies_done seq [] = []
 replies_done seq (waits t ∷ slots) = Done (seq + length (changes_of t)) ∷ replies_done (seq + length (changes_of t)) slots
 replies_done seq (said t r ∷ slots) = Refused r ∷ replies_done seq slots
 
--- those of a commit that a fault of the device hit: each that waited is in doubt, and the other refusals stand
+-- those of a commit that a fault of the device hit: each that waited is in doubt, and the other refusals stay
 abbrev pub replies_in_doubt : List Slot → List Reply
 replies_in_doubt [] = []
 replies_in_doubt (waits t ∷ slots) = Refused (plain DEVICE) ∷ replies_in_doubt slots
 replies_in_doubt (said t r ∷ slots) = Refused r ∷ replies_in_doubt slots
 
--- the calls of the device that the commit makes: one for each sector that the frames touch, and 3 more, in format 3 at most 456 bytes 2 more; none where nothing waits
+-- the calls of the device that the commit makes: one for each sector that the frames touch, and 3 more, or 2 more for
+-- at most 456 bytes in format 3; none if nothing waits
 abbrev pub calls_for : Bool → ℕ → List Transaction → ℕ
 calls_for rides used [] = 0
 calls_for rides used (t ∷ ts) = append_calls rides used (sizes_of (t ∷ ts))

@@ -1,4 +1,4 @@
--- What a store is asked, and what it answers.
+-- The events of a store, and its answers.
 use Rattle.std.specs.Prelude.{ℕ, List, [], ◌∷◌, ◌++◌, Result, Ok, Err, if◌then◌else◌, nat_eq}
 use Rattle.refusals.specs.declared.numbers.TheConstants.{DEVICE}
 use Rattle.doc_machine.specs.Transaction.{Transaction, transaction_of}
@@ -8,7 +8,7 @@ use Rattle.store_commits.specs.declared.event.Event.TheVariants.{Run, Snapshot, 
 pub use Rattle.store_commits.specs.declared.event.Reply.{Reply}
 pub use Rattle.store_commits.specs.declared.event.Reply.TheVariants.{Done, Snapped, Pumped, Refused}
 
--- what a store is asked: to make a transaction, or a snapshot, or to copy at most so many sectors of one
+-- an event: to make a transaction, or a snapshot, or to copy at most a number of sectors of one
 pub data Event : Type 0 where
   change : Transaction → Event
   snapshot : Event
@@ -20,7 +20,7 @@ event_of (Run transaction) = change (transaction_of transaction)
 event_of Snapshot = snapshot
 event_of (Pump most) = pump most
 
--- an answer as a reply: one that says what was done so, or why not
+-- an answer as a reply: one that says what was done, or why not
 abbrev pub reply_of : {A : Type 0} → (A → Reply) → Result A Refusal → Reply
 reply_of says (Ok answer) = says answer
 reply_of says (Err r) = Refused r

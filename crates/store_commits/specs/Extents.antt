@@ -1,4 +1,4 @@
--- In how many bytes of which half an image of a device holds a state.
+-- The extent of a state on an image of a device: in how many bytes of which half it is.
 use Rattle.std.specs.Prelude.{◌≡◌, ℕ, List, ◌++◌, length, Bool, false}
 use Rattle.sector_device.specs.Disk.{Disk, Image}
 use Rattle.store_journal.specs.Carries.{Carries}
@@ -19,7 +19,7 @@ pub record Extent : Type 0 where
 abbrev pub extent_of : Account → Extent
 extent_of a = record { state = a.state; used = a.used; half = a.half; rides = a.rides; sectors = a.sectors }
 
--- the image has so many sectors, and carries the state in format 2, or 3, in so many bytes in that half
+-- the image has `sectors` sectors, and carries the state in format 2, or 3, in `used` bytes in that half
 pub record StandsAs (l : Extent) (image : Image) : Type 0 where
   pub bytes : List ℕ
   pub opens : ℕ

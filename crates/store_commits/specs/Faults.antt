@@ -22,7 +22,8 @@ abbrev pub StopsAtFault : List Reply → Type 0
 StopsAtFault [] = ⊤
 StopsAtFault (r ∷ rs) = (is_fault r ≡ true → list_any is_done rs ≡ false) × StopsAtFault rs
 
--- The first of these transactions are a batch that was answered so, and after a fault nothing was done. The others weren't judged: there are some only where a fault is among the replies.
+-- The first of these transactions are a batch that was given these replies, and after a fault nothing was done. The
+-- others weren't judged: there are some only if a fault is among the replies.
 pub record BatchedUntilFull {D : Type 0} (disk : D → Disk) (old new : StoreView D) (cs : List Transaction) (replies : List Reply) : Type 0 where
   pub first : List Transaction
   pub rest : List Transaction

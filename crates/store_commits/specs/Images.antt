@@ -1,4 +1,4 @@
--- What an image of a device stands for, in format 1 or 2.
+-- The state that an image of a device holds, in format 1 or 2.
 use Rattle.std.specs.Prelude.{◌≡◌, ℕ, List}
 use Rattle.sector_device.specs.Disk.{Image}
 use Rattle.store_journal.specs.Carries.{Carried, Carries}
@@ -22,7 +22,7 @@ pub record Stands (state : State) (image : Image) : Type 0 where
   pub seq_is : carried.seq ≡ state.seq
   pub holds : Holds carried.version carried.seq carried.bytes state.documents
 
--- it stands for no state
+-- it holds no state
 abbrev pub StandsForNothing : Image → Type 0
 StandsForNothing image = (state : State) → Stands state image → ⊥
 
@@ -30,6 +30,6 @@ StandsForNothing image = (state : State) → Stands state image → ⊥
 abbrev pub HoldsOne : Type 0
 HoldsOne = (version seq : ℕ) (bytes : List ℕ) (ds es : List Document) → Holds version seq bytes ds → Holds version seq bytes es → ds ≡ es
 
--- an image stands for one state at most
+-- an image holds one state at most
 abbrev pub StandsForOne : Type 0
 StandsForOne = (image : Image) (s t : State) → Stands s image → Stands t image → s ≡ t

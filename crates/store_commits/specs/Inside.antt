@@ -1,4 +1,4 @@
--- How a journal and a machine are seen as a store.
+-- The view of a journal and a machine as a store.
 use Rattle.std.specs.Prelude.{◌≡◌, length, true, None, Option}
 use Rattle.sector_device.specs.Disk.{Disk}
 use Rattle.store_journal.specs.JournalView.{JournalView, IsKept}
@@ -7,7 +7,7 @@ use Rattle.store_commits.specs.Account.{Account, StoreView, with_copy}
 use Rattle.store_commits.specs.Copying.{IsCopied, Target, copy_of}
 use Rattle.store_commits.specs.Images.{Holds}
 
--- the account of a journal and a machine, where no copy runs
+-- the account of a journal and a machine, if no copy runs
 abbrev pub account_of : {D : Type 0} → JournalView D → State → Account
 account_of journal state = record {
   state = state;
@@ -33,7 +33,7 @@ pub record IsHeld {D : Type 0} (disk : Disk) (journal : JournalView D) (state : 
   pub good : Good state
   pub held : disk.honest → Holds 2 state.seq journal.bytes state.documents
 
--- the same, and the copy that runs is of this state
+-- the same, and the copy that runs holds this state
 pub record IsStored {D : Type 0} (disk : Disk) (journal : JournalView D) (state : State) (copy : Option Target) : Type 0 where
   pub held : IsHeld disk journal state
   pub copied : IsCopied disk journal state copy

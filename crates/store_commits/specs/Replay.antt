@@ -29,7 +29,7 @@ pub record BeginsIn (version seq : ℕ) (bytes : List ℕ) (e : Entry) (n : ℕ)
   pub frame : take n bytes ≡ frame_in version e
   pub len : n ≡ length (frame_in version e)
 
--- each frame of that format that may stand there is this entry's, and as long
+-- each frame of that format that the bytes may begin with is this entry's, and of this length
 abbrev pub ReadsAs : ℕ → ℕ → List ℕ → Entry → ℕ → Type 0
 ReadsAs version seq bytes e n = (f : Entry) (m : ℕ) → BeginsIn version seq bytes f m → (e ≡ f) × (n ≡ m)
 

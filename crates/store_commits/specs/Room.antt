@@ -4,7 +4,7 @@ use Rattle.store_journal.specs.Layout.{capacity_of}
 use Rattle.store_commits.specs.Account.{Account}
 use Rattle.store_commits.specs.SnapshotAnswers.{account_with_snapshot}
 
--- so many bytes fit behind the used ones
+-- `n` bytes fit after the used ones
 abbrev pub Fits : Account → ℕ → Type 0
 Fits a n = a.used + n ≤ capacity_of a.sectors
 
@@ -16,6 +16,6 @@ IsOver a n = capacity_of a.sectors < a.used + n
 abbrev pub HasRoom : Account → ℕ → Type 0
 HasRoom a n = Fits a n ⊎ (IsOver a n × Fits (account_with_snapshot a) n)
 
--- they fit neither behind the used bytes nor behind a snapshot
+-- they fit neither after the used bytes nor after a snapshot
 abbrev pub HasNoRoom : Account → ℕ → Type 0
 HasNoRoom a n = IsOver a n × IsOver (account_with_snapshot a) n

@@ -1,4 +1,4 @@
--- Runs: what a store is asked, what it answers, and what becomes of it, of its device's images and of its device's calls.
+-- Runs: the events of a store, its answers, and what becomes of it, of its device's images and of its device's calls.
 use Rattle.std.specs.Prelude.{◌≡◌, ◌↔◌, List, [], ◌∷◌, ◌++◌, true, false}
 use Rattle.sector_device.specs.Disk.{Disk, Image, LeavesOnly}
 use Rattle.doc_machine.specs.Transaction.{Transaction}
@@ -32,7 +32,8 @@ pub record RanBy {D : Type 0} (disk : D → Disk) (Charge : StoreView D → List
   pub state_is : new.account.state ≡ after_each old.account.state dones
   pub none_in_doubt : new.account.broken ≡ false → in_doubt ≡ []
   pub honest : (disk old.device).honest ↔ (disk new.device).honest
-  -- at each moment each image stands for the state after some of the accepted transactions, each whole, the first of them first
+  -- at each moment each image holds the state after some of the accepted transactions, each whole, the first of them
+  -- first
   pub any_moment : (disk old.device).honest → old.account.broken ≡ false → LeavesOnly (disk old.device) (disk new.device) (StandsAfter old.account.state (dones ++ in_doubt))
   -- at the end for the one after all that were done, with or without those that were hit
   pub at_end : (disk old.device).honest → old.account.broken ≡ false → (image : Image) → (disk new.device).left image → StandsAfter new.account.state in_doubt image

@@ -1,4 +1,4 @@
--- How a snapshot is answered, and what becomes of the account.
+-- The answer to a snapshot, and what becomes of the account.
 use Rattle.std.specs.Prelude.{◌≡◌, ◌⊎◌, ℕ, ◌+◌, ◌-◌, ◌≤◌, ◌<◌, length, true, false, None, Result, Ok, Err}
 use Rattle.refusals.specs.declared.numbers.TheConstants.{MEMORY, FULL, DEVICE, BROKEN}
 use Rattle.store_journal.specs.Layout.{capacity_of}
@@ -12,12 +12,12 @@ use Rattle.store_commits.specs.Snapshot.{snapshot_bytes}
 abbrev pub snapshot_size : Account → ℕ
 snapshot_size a = length (snapshot_bytes a.state.documents)
 
--- the store works, and a half has room for so many bytes
+-- the store works, and a half has room for `size` bytes
 pub record CanHold (a : Account) (size : ℕ) : Type 0 where
   pub works : a.broken ≡ false
   pub fits : size ≤ capacity_of a.sectors
 
--- the account once the snapshot stands in the other half and this one counts: no copy runs
+-- the account once the snapshot is in the other half and this one counts: no copy runs
 abbrev pub account_with_snapshot : Account → Account
 account_with_snapshot a = record a { used = snapshot_size a; half = 1 - a.half; copy = None }
 
@@ -27,7 +27,8 @@ pub record IsSnapshotDone (old : Account) (used : ℕ) (new : Account) : Type 0 
   pub new_is : new ≡ account_with_snapshot old
   pub used_is : used ≡ new.used
 
--- a fault of the device hit what puts so many bytes into the other half: the store is broken, no copy runs, and nothing else has changed
+-- a fault of the device hit the write of `size` bytes into the other half: the store is broken, no copy runs, and
+-- nothing else has changed
 pub record IsCopyInDoubt (old : Account) (size : ℕ) (new : Account) : Type 0 where
   pub can : CanHold old size
   pub new_is : new ≡ account_broken old
@@ -36,13 +37,13 @@ pub record IsCopyInDoubt (old : Account) (size : ℕ) (new : Account) : Type 0 w
 abbrev pub StopsBefore : Account → Refusal → Type 0
 StopsBefore a r = ((r ≡ plain BROKEN) × (a.broken ≡ true)) ⊎ (r ≡ plain MEMORY)
 
--- a half has no room for so many bytes: a copy that runs is dropped, and nothing else has changed
+-- a half has no room for `size` bytes: a copy that runs is dropped, and nothing else has changed
 pub record IsOverlong (old : Account) (size : ℕ) (new : Account) : Type 0 where
   pub works : old.broken ≡ false
   pub over : capacity_of old.sectors < size
   pub new_is : new ≡ record old { copy = None }
 
--- why else it is refused, and what it leaves: all as it was, or, where a half has no room, no copy
+-- the other refusals, and what they leave: all as it was, or, if a half has no room, no copy
 abbrev pub IsSnapshotRefused : Account → Refusal → Account → Type 0
 IsSnapshotRefused old r new = (StopsBefore old r × (new ≡ old)) ⊎ ((r ≡ plain FULL) × IsOverlong old (snapshot_size old) new)
 

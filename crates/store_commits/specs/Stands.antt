@@ -1,4 +1,4 @@
--- What an image of a device stands for while transactions are made.
+-- The state that an image of a device holds while transactions are made.
 use Rattle.std.specs.Prelude.{◌≡◌, List, ◌++◌}
 use Rattle.sector_device.specs.Disk.{Image}
 use Rattle.doc_changes.specs.State.{State}
@@ -6,7 +6,7 @@ use Rattle.store_commits.specs.Images.{Stands}
 use Rattle.doc_machine.specs.Transaction.{Transaction}
 use Rattle.store_commits.specs.Folds.{after_each}
 
--- it stands for the state after some of the transactions, whole, the first of them first
+-- it holds the state after some of the transactions, whole, the first of them first
 pub record StandsAfter (state : State) (transactions : List Transaction) (image : Image) : Type 0 where
   pub kept : List Transaction
   pub rest : List Transaction

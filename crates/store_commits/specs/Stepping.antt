@@ -1,4 +1,4 @@
--- What a step of a copy makes of a journal.
+-- The effect of a step of a copy on a journal.
 use Rattle.std.specs.Prelude.{◌≡◌, ◌⊎◌, ℕ, ◌<◌, max, length, Option, None, Some}
 use Rattle.sector_device.specs.Disk.{Disk}
 use Rattle.store_journal.specs.Calls as journal
@@ -8,7 +8,7 @@ use Rattle.store_commits.specs.Pumping.{calls_of_step, standing_after, written_o
 use Rattle.store_commits.specs.declared.pump.Pump.{Pump}
 use Rattle.store_commits.specs.declared.pump.CopyState.TheVariants.{Running, Switched}
 
--- sectors were written, and more are left: the committed bytes stay, and more of the target stands
+-- sectors were written, and more are left: the committed bytes stay, and more of the target is written
 pub record WentOn {D : Type 0} (disk new_disk : Disk) (old new : JournalView D) (t : Target) (most : ℕ) (p : Pump) (left : Option Target) : Type 0 where
   pub less : standing_after (count_of t) most < length t.bytes
   pub pump_is : p ≡ record { written = written_of (count_of t) most; copy = Running }

@@ -21,9 +21,9 @@ use std::alloc::{AllocError, Global};
 use std::mem;
 use store_journal::Journal;
 
-/// Makes transactions of a machine that the journal holds, by as few commits as their room allows: all of them, or, where
-/// it is asked to, those through the first that has no room. Answers one reply to each of these. An `Err` is want of
-/// memory, before the device is called.
+/// Makes transactions of a machine that the journal holds, by as few commits as their room allows: all of them, or, if
+/// it is asked to, those through the first that has no room. Answers one reply to each of these. An `Err` means that
+/// memory ran out, before the device is called.
 pub fn commit_batch<D: SectorDevice>(
     alloc: Global,
     journal: &mut Journal<D>,

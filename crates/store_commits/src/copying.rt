@@ -25,11 +25,11 @@ use store_journal::Journal;
 pub struct Copying {
     /// The snapshot, and the frames of the changes that were accepted since it was made.
     pub target: Vec<u8>,
-    /// How many of these bytes stand in the other half.
+    /// How many of these bytes the other half holds.
     pub standing: u64,
 }
 
-/// Takes the memory by which the target of a copy that runs can grow by so many bytes.
+/// Takes the memory by which the target of a copy that runs can grow by `more` bytes.
 pub fn reserve(copy: &mut Option<Copying>, more: usize) -> Result<(), AllocError>
     ensures same { target_of copy.new ≡ target_of copy.old }
     ensures room { OnOk result (HasSpare copy.new more) }
@@ -40,7 +40,7 @@ pub fn reserve(copy: &mut Option<Copying>, more: usize) -> Result<(), AllocError
     Ok(())
 }
 
-/// Puts bytes behind the target of a copy that runs. It takes no memory.
+/// Puts bytes after the target of a copy that runs. It takes no memory.
 pub fn grow(copy: &mut Option<Copying>, more: &[u8])
     requires { HasSpare copy.old (length more.now) }
     ensures grown { target_of copy.new ≡ target_with more.now (target_of copy.old) }
@@ -73,8 +73,8 @@ pub fn take_or_begin(
     })
 }
 
-/// Writes at most so many sectors of the target, 0 as 1, and makes the target count where they were the last.
-/// Answers what it did, and the copy where it goes on. It takes no memory.
+/// Writes at most `most` sectors of the target, 0 as 1, and makes the target count if they were the last. Answers what
+/// it did, and the copy if it goes on. It takes no memory.
 pub fn step<D: SectorDevice>(
     journal: &mut Journal<D>,
     copying: Copying,

@@ -1,4 +1,4 @@
-//! What a store is asked and answers, as a list of events.
+//! The events of a store, and its replies.
 use crate::pump::Pump;
 use doc_machine::{Refusal, Transaction};
 
@@ -9,7 +9,7 @@ pub enum Event {
     Run(Transaction),
     /// A snapshot.
     Snapshot,
-    /// A step of a copy, of at most so many sectors.
+    /// A step of a copy, of at most this number of sectors.
     Pump(u64),
 }
 

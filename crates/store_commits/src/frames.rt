@@ -8,7 +8,7 @@ use doc_machine::{Command, Transaction};
 use record_text::frame;
 use std::alloc::Global;
 
-/// The frames of a transaction, back to back, whose first change gets the seq after this one. `None` where one of its
+/// The frames of a transaction, back to back, whose first change gets the seq after this one. `None` if one of its
 /// changes has no frame, which no documents accept, or seq ends, or memory was refused.
 pub(crate) fn frames(alloc: Global, transaction: &Transaction, seq: u64) -> Option<Vec<u8>>
     ensures { IfSome result (λ bytes. bytes.items ≡ frames_at seq (changes_of (transaction_of transaction.now))) }

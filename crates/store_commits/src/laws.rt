@@ -13,8 +13,7 @@ use doc_machine::laws::storable_documents_are_framed;
 use record_text::laws::frame_lists_differ;
 use store_journal::laws::images_carry_one;
 
-/// Bytes of a format and a seq hold one list of documents at most, and an image of a device stands for one state at
-/// most.
+/// Bytes of a format and a seq hold one list of documents at most, and an image of a device holds one state at most.
 pub fn one_state_stands()
     ensures bytes { HoldsOne }
     ensures images { StandsForOne }
@@ -30,14 +29,14 @@ pub fn snapshots_remake_all()
     storable_documents_are_framed();
 }
 
-/// Behind bytes that hold the documents of a state in format 2, the frame of an accepted change, with its new seq, holds
+/// After bytes that hold the documents of a state in format 2, the frame of an accepted change, with its new seq, holds
 /// the documents after it.
 pub fn changes_are_appended()
     ensures { (s : State) (bytes : List ℕ) (c : Change) → Good s → Holds 2 s.seq bytes s.documents → refusal_of s c ≡ None
         → IsFramed c → Holds 2 (after s c).seq (bytes ++ frame_of (entry (after s c).seq c)) (after s c).documents }
 {}
 
-/// While what holds a state is migrated to its snapshot, each image stands for the state: its documents with their
+/// While bytes that hold a state are migrated to its snapshot, each image holds the state: its documents with their
 /// revisions, and its seq.
 pub fn migrations_stand()
     ensures { (state : State) (was : Carried) → was.seq ≡ state.seq

@@ -1,14 +1,14 @@
-//! What commits to the journal of a store. A store is seen as its `Account`, which all replies depend on
-//! (`specs/Account.antt`); how events are answered, and what becomes of the account, its device's images and its device's
-//! calls, is a run (`specs/Run.antt`). Of a journal and a machine that stand for a state: a transaction, the snapshot that makes
-//! room for it, a step of a copied snapshot or the transactions of a batch are committed, or given up where the device failed,
-//! and each image that a crash may leave meanwhile carries what was there before or what was being committed. All that is
-//! committed is of format 2, and a change's frame has the number of accepted changes with it. What takes memory stands
-//! apart from what calls the device.
+//! The commits to the journal of a store. A store is seen as its `Account`, which all replies depend on
+//! (`specs/Account.antt`); how events are answered, and what becomes of the account, its device's images and its
+//! device's calls, is a run (`specs/Run.antt`). Of a journal and a machine that hold a state: a transaction, the
+//! snapshot that makes room for it, a step of a copied snapshot or the transactions of a batch are committed, or given
+//! up if the device failed. Each image that a crash may leave meanwhile carries what was there before or what was being
+//! committed. All that is committed is in format 2, and a change's frame has the number of accepted changes with it.
+//! What takes memory is apart from what calls the device.
 //!
-//! An image of a device stands for one state at most (`specs/Images.antt`, `laws`); a snapshot makes the documents of a good
-//! state again, with their revisions; `replay` makes the machine that committed bytes of either format hold, and refuses
-//! exactly those that hold none.
+//! An image of a device holds one state at most (`specs/Images.antt`, `laws`); a snapshot makes the documents of a good
+//! state again, with their revisions; `replay` makes the machine that committed bytes of either format hold, and
+//! refuses exactly those that hold none.
 #![tactic(auto)]
 
 mod batch;

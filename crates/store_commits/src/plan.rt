@@ -1,5 +1,5 @@
-//! How the transactions of a batch are put together to commits: all memory of a batch is taken here, before the device is
-//! called.
+//! The plan of a batch: how its transactions are put together to commits. All memory of a batch is taken here, before
+//! the device is called.
 ghost use Rattle.std.specs.Prelude.{Bool, ◌≡◌, ◌+◌, ◌≤◌, ◌<◌, List, [], length, map, OnOk, IfOk, false};
 ghost use Rattle.store_journal.specs.Layout.{capacity_of};
 ghost use Rattle.doc_machine.specs.Transaction.{RefusesTransaction, changes_of, transaction_of};
@@ -33,14 +33,14 @@ pub(crate) struct Planning {
     pub left: u64,
     /// The bytes of all frames.
     pub bytes: usize,
-    /// What is to be committed.
+    /// The commits of the plan.
     pub segments: Vec<Segment>,
     /// The transactions since.
     pub last: Segment,
 }
 
-/// Judges the transactions one after another, each with those accepted before it made on the trial, and answers what is
-/// to be committed, in order; where it is asked to, no further than the first transaction that has no room.
+/// Judges the transactions one after another, each with those accepted before it made on the trial, and answers the
+/// commits, in order; if it is asked to, no further than the first transaction that has no room.
 pub(crate) fn prepare<D: SectorDevice>(
     alloc: Global,
     journal: &Journal<D>,
@@ -94,7 +94,7 @@ impl Segment {
 }
 
 impl Planning {
-    // Plans transactions one after another: all, or, where it is asked to, those through the first that has no room.
+    // Plans transactions one after another: all, or, if it is asked to, those through the first that has no room.
     fn add_all(
         &mut self,
         alloc: Global,
@@ -193,8 +193,8 @@ impl Planning {
         Ok(false)
     }
 
-    // Ends the commit of those that wait, and lets a transaction whose frames don't fit beside them go on by itself: behind
-    // a snapshot, where that leaves room for it.
+    // Ends the commit of those that wait, and lets a transaction whose frames don't fit beside them go on by itself:
+    // after a snapshot, if that leaves room for it.
     #[tactic(auto, using(crate::proofs::Plans::first_stays))]
     fn force(
         &mut self,

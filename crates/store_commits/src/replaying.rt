@@ -75,8 +75,8 @@ impl From<Refusal> for ReplayFault {
 }
 
 /// The machine that the bytes of that format make under a journal's `seq`: each frame is read and its command taken as
-/// it was the first time, with the frame's seq as the revision, in format 1 with the journal's. `Damaged` where the
-/// bytes aren't frames from end to end, a frame's seq is over the journal's, or the machine refuses one of them.
+/// it was the first time, with the frame's seq as the revision, in format 1 with the journal's. `Damaged` if the bytes
+/// aren't frames from end to end, a frame's seq is over the journal's, or the machine refuses one of them.
 pub fn replay(alloc: Global, bytes: &[u8], version: u32, seq: u64) -> Result<Machine, ReplayFault>
     requires { IsFormat version }
     ensures holds { IfOk result (λ machine. Holds version seq bytes.now machine.documents) }

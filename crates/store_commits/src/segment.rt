@@ -23,7 +23,7 @@ use store_journal::Journal;
 /// Transactions of a batch that were judged one after another. Those that are accepted wait for one commit.
 #[derive(Drop)]
 pub(crate) struct Segment {
-    /// What makes room for the frames first, where something has to.
+    /// The snapshot that makes room for the frames first, if they need one.
     pub snapshot: Option<Vec<u8>>,
     /// The frames of those that wait.
     pub frames: Vec<u8>,
@@ -93,7 +93,7 @@ fn commit_segment<D: SectorDevice>(
     say(said, segment.replies, fate);
 }
 
-// Commits a segment. Where nothing waits it makes no call of the device.
+// Commits a segment. If nothing waits it makes no call of the device.
 fn commit<D: SectorDevice>(
     journal: &mut Journal<D>,
     copy: &mut Option<Copying>,
@@ -118,7 +118,7 @@ fn commit<D: SectorDevice>(
     ended(append(journal, copy, &segment.frames, segment.adds))
 }
 
-// Puts the snapshot in the place of the committed bytes, and the frames behind it. A copy that runs is dropped.
+// Puts the snapshot in the place of the committed bytes, and the frames after it. A copy that runs is dropped.
 fn append_behind<D: SectorDevice>(
     journal: &mut Journal<D>,
     copy: &mut Option<Copying>,
@@ -140,7 +140,7 @@ fn append_behind<D: SectorDevice>(
     append(journal, copy, frames, adds)
 }
 
-// Appends the frames, and puts them behind the target of a copy that runs, or drops that where the device failed.
+// Appends the frames, and puts them after the target of a copy that runs, or drops that if the device failed.
 fn append<D: SectorDevice>(
     journal: &mut Journal<D>,
     copy: &mut Option<Copying>,

@@ -1,4 +1,4 @@
--- What the calls of a journal make of it. Nothing is said of the bytes on a device that isn't honest.
+-- The effects of a journal's calls. Nothing is said of the bytes on a device that isn't honest.
 use Rattle.std.specs.Prelude.{◌≡◌, ◌≢◌, ◌⊎◌, ℕ, ◌+◌, ◌-◌, ◌*◌, ◌/◌, ◌<◌, ◌≤◌, ◌^◌, min, List, [], true, false, length, take}
 use Rattle.sector_device.specs.Disk.{Disk}
 use Rattle.sector_device.specs.Charges.{Made, Failed}
@@ -16,7 +16,7 @@ use Rattle.refusals.specs.declared.numbers.TheConstants.{FULL, DEVICE, BROKEN, S
 abbrev pub BeginsWith : List ℕ → List ℕ → Type 0
 BeginsWith front all = take (length front) all ≡ front
 
--- a working journal has room for so many bytes more, and seq for so many changes
+-- a working journal has room for `more` bytes, and seq for `adds` changes
 pub record Takes {D : Type 0} (view : JournalView D) (more adds : ℕ) : Type 0 where
   pub works : view.broken ≡ false
   pub fits : length view.bytes + more ≤ capacity_of view.sectors
@@ -46,7 +46,7 @@ pub record Stays {D : Type 0} (disk : Disk) (old new : JournalView D) : Type 0 w
   pub sectors : new.sectors ≡ old.sectors
   pub settled : new.settled ≡ old.settled
 
--- one of at most so many calls of the device failed
+-- one of at most `calls` calls of the device failed
 pub record Broke {D : Type 0} (disk new_disk : Disk) (calls : ℕ) (old new : JournalView D) : Type 0 where
   pub stays : Stays disk old new
   pub broken : new.broken ≡ true
@@ -56,7 +56,7 @@ pub record Broke {D : Type 0} (disk new_disk : Disk) (calls : ℕ) (old new : Jo
 abbrev pub Refused : {D : Type 0} → Disk → Disk → ℕ → JournalView D → JournalView D → ℕ → Type 0
 Refused disk new_disk calls old new number = ((number ≡ DEVICE) × Broke disk new_disk calls old new) ⊎ ((number ≢ DEVICE) × (new ≡ old))
 
--- a working journal has room for the commit, seq goes so far, and the other half holds a target that is copied
+-- a working journal has room for the commit, seq doesn't pass its end, and the other half holds a target that is copied
 pub record CanCommit {D : Type 0} (disk : Disk) (view : JournalView D) (update : Update) : Type 0 where
   pub works : view.broken ≡ false
   pub version_fits : IsFormat (begun (carried_of view) update.base).version
@@ -94,7 +94,7 @@ pub record Committed {D : Type 0} (disk new_disk : Disk) (old new : JournalView 
   pub copied : disk.honest → new.copied ≡ copied_after update.base old.copied
   pub size : length new.copied ≡ length (copied_after update.base old.copied)
 
--- an append that succeeded: the bytes stand behind the old ones, and seq has risen
+-- an append that succeeded: the bytes follow the old ones, and seq has risen
 abbrev pub Appended : {D : Type 0} → Disk → Disk → JournalView D → JournalView D → List ℕ → ℕ → Type 0
 Appended disk new_disk old new more adds =
     Became disk new_disk old new (appended (carried_of old) more adds) (length old.bytes + length more) (append_calls old.rides (length old.bytes) (length more))
@@ -105,7 +105,7 @@ pub record Counted {D : Type 0} (disk new_disk : Disk) (old new : JournalView D)
   pub became : Became disk new_disk old new (counted (carried_of old)) (length old.bytes) (count_calls old.rides (length old.bytes))
   pub open became use *
 
--- a step of a copy: where the other half began with the target's first bytes, it begins with as many as were answered
+-- a step of a copy: if the other half began with the target's first bytes, it begins with as many as were answered
 pub record Stepped {D : Type 0} (disk new_disk : Disk) (old new : JournalView D) (target : List ℕ) (from max answer : ℕ) : Type 0 where
   pub worked : old.broken ≡ false
   pub stays : Stays disk old new
@@ -122,7 +122,7 @@ pub record Moved {D : Type 0} (disk new_disk : Disk) (old new : JournalView D) (
   pub open became use *
   pub copied : new.copied ≡ []
 
--- by a switch, after a copy or not: in so many calls
+-- by a switch, after a copy or not, in `calls` calls
 abbrev pub Switched : {D : Type 0} → Disk → Disk → JournalView D → JournalView D → List ℕ → ℕ → Type 0
 Switched disk new_disk old new target calls = Moved disk new_disk old new (switched (carried_of old) target) calls
 

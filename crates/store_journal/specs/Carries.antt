@@ -1,4 +1,4 @@
--- What an image of the device stands for.
+-- The bytes and numbers that an image of the device carries.
 use Rattle.std.specs.Prelude.{◌≡◌, ◌⊎◌, ℕ, ◌+◌, ◌-◌, ◌<◌, ◌≤◌, ◌^◌, min, List, [], ◌++◌, length, drop, slice_index, slice_index_or, Bool, true, false, if◌then◌else◌}
 use Rattle.sector_device.specs.Disk.{Image}
 use Rattle.store_journal.specs.Layout.{sector_of, half_start, capacity_of, IsFormat, IsSized}
@@ -23,11 +23,11 @@ pub record Carried : Type 0 where
 abbrev pub format_of : ℕ → Bool → ℕ
 format_of version rides = if rides then 3 else version
 
--- the commit sector that says it, of a device of so many sectors, where so many bytes ride
+-- the commit sector that names this, of a device of `sectors` sectors, if `riding` bytes ride
 abbrev pub commit_of : Carried → ℕ → ℕ → Commit
 commit_of c sectors riding = record { format = format_of c.version c.rides; half = c.half; length = length c.bytes; seq = c.seq; opens = c.opens; sectors = sectors; riding = riding }
 
--- the last so many of the bytes
+-- the last `count` of the bytes
 abbrev pub last_of : ℕ → List ℕ → List ℕ
 last_of count bytes = drop (length bytes - count) bytes
 
@@ -59,7 +59,7 @@ CarriesTo n c image = Carries c image × Holds image (half_start (length image) 
 abbrev pub EitherCarried : Carried → Carried → Image → Type 0
 EitherCarried old new image = Carries old image ⊎ Carries new image
 
--- the bytes with more behind them, and so many changes more
+-- the bytes with more after them, and `adds` changes more
 abbrev pub appended : Carried → List ℕ → ℕ → Carried
 appended c more adds = record c { bytes = c.bytes ++ more; seq = c.seq + adds }
 

@@ -1,4 +1,4 @@
--- What a journal's fields are seen as.
+-- The view of a journal's fields.
 use Rattle.std.specs.Prelude.{◌≡◌, ℕ, ◌-◌, ◌/◌, ◌%◌, ◌*◌, List, length, take, drop, false}
 use Rattle.sector_device.specs.Disk.{Image}
 use Rattle.sector_device.specs.declared.device.SectorDevice.{Ghosts}

@@ -1,4 +1,4 @@
--- What formatting a device with bytes makes of it, and when it is refused.
+-- The formatting of a device with bytes: what it leaves, and when it is refused.
 use Rattle.std.specs.Prelude.{◌≡◌, ◌≢◌, ◌⊎◌, ℕ, ◌+◌, ◌<◌, ◌≤◌, List, length, false}
 use Rattle.sector_device.specs.Disk.{Disk, Image}
 use Rattle.sector_device.specs.Charges.{Made, Failed}

@@ -1,4 +1,4 @@
--- What a journal is seen as.
+-- The view of a journal.
 use Rattle.std.specs.Prelude.{◌≡◌, ℕ, zero, suc, ◌≤◌, List, [], ◌∷◌, ◌++◌, Bool, true, false, length}
 use Rattle.sector_device.specs.Disk.{Disk, Image}
 use Rattle.store_journal.specs.Layout.{capacity_of, IsFormat, IsSized}

@@ -1,4 +1,4 @@
--- What a commit that rides leaves, whichever of the sectors that its one sync settles a crash keeps.
+-- The images that a commit leaves which rides, whichever of the sectors that its one sync settles a crash keeps.
 use Rattle.std.specs.Prelude.{◌≡◌, ℕ, ◌+◌, ◌*◌, ◌<◌, ◌≤◌, ◌^◌, List, ◌++◌, length, drop, slice_set, true}
 use Rattle.sector_device.specs.Disk.{Image, OrReplaced}
 use Rattle.sector_device.specs.Sectors.{Over, SectorsHold}
@@ -21,7 +21,7 @@ pub record IsWritten (c : Carried) (riding q count : ℕ) (before image : Image)
   pub to_the_end : length c.bytes ≤ 512 * (q + count)
   pub image_is : image ≡ slice_set mid 0 (sector_of (commit_of c (length before) riding) (last_of riding c.bytes))
 
--- in format 3, at most 456 bytes are put behind those with which the half begins
+-- in format 3, at most 456 bytes are put after those with which the half begins
 pub record IsSmall (c : Carried) (more : List ℕ) (adds : ℕ) (before : Image) : Type 0 where
   pub rides : c.rides ≡ true
   pub rests : CarriesTo (length c.bytes) c before
@@ -29,7 +29,7 @@ pub record IsSmall (c : Carried) (more : List ℕ) (adds : ℕ) (before : Image)
   pub fits : length (c.bytes ++ more) ≤ capacity_of (length before)
   pub seq_fits : c.seq + adds < 2 ^ 64
 
--- in format 3, so many of the last bytes are written anew, those that ride with them
+-- in format 3, `anew` of the last bytes are written anew, those that ride with them
 pub record IsAnew (c : Carried) (anew : ℕ) (before : Image) : Type 0 where
   pub rides : c.rides ≡ true
   pub carries : Carries c before

@@ -19,7 +19,7 @@ mark_of format riding = if nat_eq format 3 then riding + 1 else 0
 abbrev pub sector_of : Commit → List ℕ → List ℕ
 sector_of c riding = fields_of c ++ to_be_bytes w64 (mark_of c.format (length riding)) ++ riding ++ replicate (456 - length riding) 0
 
--- the first so many bytes from byte 56 on
+-- the first `count` bytes from byte 56 on
 abbrev pub riding_in : ℕ → List ℕ → List ℕ
 riding_in count sector = take count (drop 56 sector)
 
@@ -34,7 +34,7 @@ pub record Fits (c : Commit) : Type 0 where
   pub riding : c.riding ≤ 456
   pub plain : nat_eq c.format 3 ≡ false → c.riding ≡ 0
 
--- the sectors of each half of a device of so many sectors
+-- the sectors of each half of a device of `sectors` sectors
 abbrev pub half_size : ℕ → ℕ
 half_size sectors = (sectors - 1) / 2
 
@@ -51,7 +51,8 @@ pub record IsFormat (format : ℕ) : Type 0 where
   pub at_least : 1 ≤ format
   pub at_most : format ≤ 2
 
--- What a commit sector may say of a device of so many sectors. It names format 1, 2 or 3: in format 3 the frames are those of format 2.
+-- The commit sectors of a device of `sectors` sectors. One names format 1, 2 or 3: in format 3 the frames are those of
+-- format 2.
 pub record IsOf (sectors : ℕ) (c : Commit) : Type 0 where
   pub sectors_is : c.sectors ≡ sectors
   pub format_at_least : 1 ≤ c.format
@@ -60,7 +61,7 @@ pub record IsOf (sectors : ℕ) (c : Commit) : Type 0 where
   pub length_fits : c.length ≤ capacity_of sectors
   pub rides_last : c.riding ≤ c.length
 
--- a device that can hold a store has so many sectors
+-- the numbers of sectors with which a device can hold a store
 pub record IsSized (sectors : ℕ) : Type 0 where
   pub at_least : 3 ≤ sectors
   pub at_most : sectors ≤ 2 ^ 32

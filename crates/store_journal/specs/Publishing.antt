@@ -1,4 +1,4 @@
--- The commit sector replaced: what reads give then, and which images are left.
+-- The write of the commit sector that makes a commit count: what reads give then, and which images are left.
 use Rattle.std.specs.Prelude.{◌≡◌, ◌⊎◌, List, ℕ, slice_set, Result, OnOk}
 use Rattle.sector_device.specs.Disk.{Image, Disk, LeavesOnly, OrReplaced}
 

@@ -15,7 +15,7 @@ abbrev pub is_settled : Option Riding → Bool
 is_settled None = true
 is_settled (Some riding) = false
 
--- so many committed bytes: those that the half has, and these behind them
+-- the first `used` committed bytes: those that the half has, and these after them
 abbrev pub bytes_seen : Image → ℕ → ℕ → Option Riding → List ℕ
 bytes_seen image start used None = bytes_read image start used
 bytes_seen image start used (Some riding) = bytes_read image start (used - length (riding_in riding.count riding.sector)) ++ riding_in riding.count riding.sector

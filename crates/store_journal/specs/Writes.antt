@@ -11,11 +11,12 @@ use Rattle.store_journal.specs.declared.update.Base.TheVariants.{Kept, Again, Wr
 use Rattle.store_journal.specs.declared.update.Start.{Start}
 use Rattle.store_journal.specs.declared.update.Update.{Update}
 
--- how many sectors hold bytes of those behind the used ones: from the first of them to the last
+-- how many sectors hold bytes of those after the used ones: from the first of them to the last
 abbrev pub touched : ℕ → ℕ → ℕ
 touched used more = if nat_eq more 0 then 0 else (used + more - 1) / 512 + 1 - used / 512
 
--- the sectors that a step of a copy writes: at most max, from the one that holds byte from to the end of so many bytes
+-- the sectors that a step of a copy writes: at most `max`, from the one that holds byte `from` to the end of `bytes`
+-- bytes
 abbrev pub step_count : ℕ → ℕ → ℕ → ℕ
 step_count bytes from max = min max (sectors_of bytes - from / 512)
 
@@ -28,7 +29,7 @@ abbrev pub written_first : Base → List ℕ
 written_first (Written target version) = target.now
 written_first _ = []
 
--- the other half begins with the target, where the commit takes it as copied
+-- the other half begins with the target, if the commit takes it as copied
 abbrev pub HasCopied : Base → List ℕ → Type 0
 HasCopied (Copied target version) copied = take (length target.now) copied ≡ target.now
 HasCopied _ copied = Unit {0}
@@ -39,7 +40,8 @@ copied_after Kept copied = copied
 copied_after (Again first) copied = copied
 copied_after _ copied = []
 
--- one sync makes the commit durable: in the half that counts, at most 456 bytes of frames ride, where small commits ride, or an opening is counted alone
+-- one sync makes the commit durable: in the half that counts, at most 456 bytes of frames ride, if small commits ride,
+-- or an opening is counted alone
 abbrev pub one_sync : Base → Bool → Bool → ℕ → Bool
 one_sync Kept counts rides frames = (counts && nat_eq frames 0) || (rides && nat_le frames 456)
 one_sync (Again first) counts rides frames = rides && nat_le frames 456
@@ -48,7 +50,8 @@ one_sync _ counts rides frames = false
 abbrev pub takes_one_sync : Update → Bool
 takes_one_sync update = one_sync update.base update.counts_opening update.rides (length update.frames.now)
 
--- the calls of the device: writes of the target, writes of the frames after so many bytes, and sync, write 0, sync; where one sync is enough, write 0, sync
+-- the calls of the device: writes of the target, writes of the frames after `used` bytes, and sync, write 0, sync; if
+-- one sync is enough, write 0, sync
 abbrev pub commit_calls : Update → ℕ → ℕ
 commit_calls update used = sectors_of (length (written_first update.base)) + touched used (length update.frames.now) + (if takes_one_sync update then 2 else 3)
 
@@ -56,7 +59,7 @@ commit_calls update used = sectors_of (length (written_first update.base)) + tou
 abbrev pub append_calls : Bool → ℕ → ℕ → ℕ
 append_calls rides used more = touched used more + (if rides && nat_le more 456 then 2 else 3)
 
--- how many of the last bytes an opening writes anew: where small commits ride, all that may
+-- how many of the last bytes an opening writes anew: if small commits ride, all that may
 abbrev pub written_anew : Bool → ℕ → ℕ
 written_anew rides used = if rides then min 456 used else 0
 
@@ -87,7 +90,8 @@ pub record WritesRun {T E : Type 0} (old new : Disk) (first count : ℕ) (run : 
   pub seen : Over first count run old.seen new.seen
   pub written : OnOk result (SectorsHold new.seen first count run)
 
--- each image carries old, its half begins with so many of the bytes, with all of them if it is settled, and the commit sector is that of the update
+-- each image carries old, its half begins with `held` of the bytes, with all of them if it is settled, and the commit
+-- sector is that of the update
 pub record CanWrite (disk : Disk) (update : Update) (start : Start) (commit : Commit) (old : Carried) (settled : Bool) (held read : ℕ) : Type 0 where
   pub honest : disk.honest
   pub carried : (image : Image) → disk.left image → CarriesTo held old image
@@ -109,7 +113,8 @@ abbrev pub EndsInZeros : ℕ → List ℕ → ℕ → Image → Type 0
 EndsInZeros half bytes from image =
     SectorsHold image (half_start (length image) half + from / 512) (touched from (length bytes - from)) (drop (512 * (from / 512)) bytes)
 
--- a commit that was made or failed: at any moment the old bytes or the new, at Ok the new alone, with all of which the half begins, and the old ones are read where they were
+-- a commit that was made or failed: at any moment the old bytes or the new, at Ok the new alone, with all of which the
+-- half begins, and the old ones are read from their own place
 pub record Tried {T E : Type 0} (disk new_disk : Disk) (update : Update) (old : Carried) (held : ℕ) (result : Result T E) : Type 0 where
   pub any_moment : LeavesOnly disk new_disk (EitherCarried old (committed old update))
   pub stays : Holds new_disk.seen (half_start disk.sectors old.half) old.bytes held

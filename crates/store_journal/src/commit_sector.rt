@@ -1,4 +1,4 @@
-// The commit sector, by what it says.
+//! The commit sector, by what it says.
 
 /// Which half counts, how many bytes and in which format, and the numbers that go with them.
 #[derive(Clone, Copy, Debug, PartialEq, Eq)]
@@ -9,7 +9,7 @@ pub struct Commit {
     pub half: u32,
     /// How many bytes count, with those that ride.
     pub length: u64,
-    /// The number of changes that the bytes stand for.
+    /// The number of changes in the bytes.
     pub seq: u64,
     /// How often the device was opened.
     pub opens: u64,

@@ -1,4 +1,4 @@
-// A device made a store of some bytes.
+//! A device that is made a store of given bytes.
 ghost use Rattle.std.specs.Prelude.{◌≡◌, ◌⊎◌, ◌≤◌, ◌+◌, IfErr, OnOk, length};
 ghost use Rattle.sector_device.specs.Disk.{Image, LeavesOnly};
 ghost use Rattle.sector_device.specs.Charges.{Charges, IsSame, IsSameRead};
@@ -16,11 +16,11 @@ use crate::{Commit, replace_commit};
 use refusals::numbers::{ALREADY_A_STORE, DEVICE, NO_ROOM, SMALL};
 use sector_device::{DeviceFault, SECTOR_BYTES, SectorDevice, read_first, write_run};
 
-/// Makes `device` a store with these bytes, in format 2, which stand for `seq` changes and were opened `opens` times: sync, read 0, the sectors that hold the bytes in ascending order,
-/// sync, write 0, sync. It takes no memory. A crash at any moment leaves no store, or all of it. Refused as `SMALL` under
-/// 3 sectors or over 2^32, and as `NO_ROOM` where a half doesn't hold the bytes, before any call of the device; as
-/// `ALREADY_A_STORE` where sector 0 begins with the 8 bytes `JPSTORE1`, whatever follows; as `DEVICE` where the device
-/// failed. The first three leave the images as they were.
+/// Makes `device` a store with these bytes, in format 2, which hold `seq` changes and were opened `opens` times: sync,
+/// read 0, the sectors that hold the bytes in ascending order, sync, write 0, sync. It takes no memory. A crash at any
+/// moment leaves no store, or all of it. Refused as `SMALL` under 3 sectors or over 2^32, and as `NO_ROOM` if a half
+/// doesn't hold the bytes, before any call of the device; as `ALREADY_A_STORE` if sector 0 begins with the 8 bytes
+/// `JPSTORE1`, whatever follows; as `DEVICE` if the device failed. The first three leave the images as they were.
 pub fn format_with<D: SectorDevice>(
     device: &mut D,
     bytes: &[u8],

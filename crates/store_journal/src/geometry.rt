@@ -1,4 +1,4 @@
-// The parts of a device that holds a store: the commit sector, and behind it two halves of one size.
+//! The parts of a device that holds a store: the commit sector, and then two halves of one size.
 ghost use Rattle.std.specs.Prelude.{◌≡◌, ◌≤◌, ◌↔◌, IsTrue};
 ghost use Rattle.store_journal.specs.Layout.{IsSized, capacity_of, half_size, half_start};
 
@@ -10,14 +10,14 @@ pub const MIN_SECTORS: u64 = 3;
 /// The most sectors.
 pub const MAX_SECTORS: u64 = 4_294_967_296;
 
-/// Whether a device of so many sectors can hold a store.
+/// Whether a device of `sectors` sectors can hold a store.
 pub fn is_sized(sectors: u64) -> bool
     ensures { IsTrue result ↔ IsSized sectors }
 {
     MIN_SECTORS <= sectors && sectors <= MAX_SECTORS
 }
 
-/// The sectors of each half of a device of so many sectors.
+/// The sectors of each half of a device of `sectors` sectors.
 pub fn half_size(sectors: u64) -> u64
     ensures { result ≡ half_size sectors }
 {

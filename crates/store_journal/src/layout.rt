@@ -1,4 +1,4 @@
-// The commit sector in bytes.
+//! The commit sector in bytes.
 ghost use Rattle.std.specs.Prelude.{◌≡◌, ◌≢◌, ◌↔◌, ◌≤◌, ◌+◌, ◌-◌, ◌^◌, List, ℕ, length, take, drop, IfSome, IfNone, IsTrue, nat_eq, if◌then◌else◌};
 ghost use Rattle.store_journal.specs.declared.commit_sector.Commit.{Commit};
 ghost use Rattle.store_journal.specs.Layout.{sector_of, riding_in, mark_of, Fits, IsOf, IsSized, magic};
@@ -53,7 +53,7 @@ fn mark_of(format: u32, riding: u64) -> u64
     }
 }
 
-// How many bytes ride, where the sector says so.
+// How many bytes ride in a sector of that format with that mark.
 fn riding_of(format: u32, mark: u64) -> u64
     ensures is { result ≡ (if nat_eq format 3 then mark - 1 else 0) }
     ensures plain { format ≢ 3 → result ≡ 0 }
@@ -65,7 +65,7 @@ fn riding_of(format: u32, mark: u64) -> u64
     }
 }
 
-/// The bytes that ride in the sector, so many.
+/// The bytes that ride in the sector, `count` of them.
 pub fn riding_in(sector: &[u8; 512], count: u64) -> &[u8]
     requires { count ≤ MAX_RIDING }
     ensures { result.now ≡ riding_in count sector.now }
@@ -99,8 +99,8 @@ pub fn decode(sector: &[u8; 512]) -> Option<Commit>
     }
 }
 
-/// What the sector says, if it is a commit sector for a device of so many sectors: format 1, 2 or 3, half 0 or 1, a
-/// length that the half can hold, and no more riding bytes than that, none in formats 1 and 2.
+/// The commit that the sector holds, if it is a commit sector for a device of `sectors` sectors: format 1, 2 or 3, half
+/// 0 or 1, a length that the half can hold, and no more riding bytes than that, none in formats 1 and 2.
 pub fn commit_in(sector: &[u8; 512], sectors: u64) -> Option<Commit>
     requires { IsSized sectors }
     ensures some { IfSome result (λ commit. IsOf sectors commit × Fits commit × (sector.now ≡ sector_of commit (riding_in commit.riding sector.now))) }

@@ -1,4 +1,4 @@
-// A commit is published: the commit sector is replaced.
+//! A commit is published: the commit sector is replaced.
 ghost use Rattle.std.specs.Prelude.{◌<◌, ◌≤◌, length};
 ghost use Rattle.sector_device.specs.Charges.{Charges, IsSame};
 ghost use Rattle.store_journal.specs.Publishing.{Replaces};

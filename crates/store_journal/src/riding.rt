@@ -1,4 +1,4 @@
-// The committed bytes that may be in the commit sector alone.
+//! The committed bytes that may be in the commit sector alone.
 ghost use Rattle.std.specs.Prelude.{◌≡◌, None};
 ghost use Rattle.store_journal.specs.Layout.{riding_in};
 ghost use Rattle.store_journal.specs.Riding.{riding_of};
@@ -13,7 +13,7 @@ pub struct Riding {
 }
 
 impl Riding {
-    /// So many bytes that ride in the sector. `None`: there are none.
+    /// The `count` bytes that ride in the sector. `None`: there are none.
     pub fn found(sector: [u8; 512], count: u64) -> Option<Riding>
         ensures bytes { riding_of result ≡ riding_in count sector }
         ensures none { count ≡ 0 → result ≡ None }

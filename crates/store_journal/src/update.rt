@@ -1,4 +1,4 @@
-// What one commit changes.
+//! The changes that one commit makes.
 ghost use Rattle.std.specs.Prelude.{◌≡◌, ◌≤◌, ◌*◌, ◌/◌, ◌%◌, List, ℕ, length, take, drop, if◌then◌else◌};
 ghost use Rattle.store_journal.specs.Carries.{Carried, begun, format_of, one_more};
 ghost use Rattle.store_journal.specs.Writes.{copied_after, riding_with, takes_one_sync, written_first};
@@ -19,7 +19,7 @@ pub enum Base<'a> {
     Copied { target: &'a [u8], version: u32 },
 }
 
-/// What one commit changes.
+/// The changes that one commit makes.
 #[derive(Clone, Copy)]
 pub struct Update<'a> {
     pub base: Base<'a>,
@@ -33,7 +33,7 @@ pub struct Update<'a> {
     pub rides: bool,
 }
 
-/// Where the frames of a commit begin.
+/// The place at which the frames of a commit begin.
 #[derive(Clone, Copy)]
 pub struct Start<'a> {
     pub version: u32,
@@ -42,7 +42,7 @@ pub struct Start<'a> {
     pub used: u64,
     /// Those of them that the commit writes, from the first sector of the half on.
     pub target: &'a [u8],
-    /// Those of them in the sector where the frames begin.
+    /// Those of them in the sector in which the frames begin.
     pub front: &'a [u8],
 }
 
@@ -84,7 +84,7 @@ impl<'a> Update<'a> {
 }
 
 impl<'a> Base<'a> {
-    /// Where the frames begin, in a journal with so many used bytes, of which `tail` has the last sector's.
+    /// The place at which the frames begin, in a journal with `used` used bytes, of which `tail` has the last sector's.
     pub fn start(self, version: u32, half: u32, used: u64, tail: &'a [u8; 512]) -> Start<'a>
         requires { half ≤ 1 }
         ensures short { length result.front.now ≤ 512 }

@@ -1,4 +1,4 @@
-// What a commit writes: its bytes, and then the commit sector that names them.
+//! The writes of a commit: its bytes, and then the commit sector that names them.
 ghost use Rattle.std.specs.Prelude.{◌≡◌, ℕ, ◌<◌, ◌≤◌, ◌+◌, ◌/◌, ◌^◌, [], ◌++◌, OnOk, length, if◌then◌else◌, Bool, false};
 ghost use Rattle.sector_device.specs.Disk.{Image, LeavesOnly};
 ghost use Rattle.sector_device.specs.Charges.{Charges, IsSame};
@@ -12,8 +12,8 @@ use crate::update::{Start, Update};
 use crate::{Commit, replace_commit};
 use sector_device::{DeviceFault, SECTOR_BYTES, SectorDevice, write_run};
 
-/// Writes the target and the frames in ascending order, then the commit sector: the writes, sync, write 0, sync. Where
-/// the frames ride, or an opening is counted alone, the first of these syncs is left out.
+/// Writes the target and the frames in ascending order, then the commit sector: the writes, sync, write 0, sync. If the
+/// frames ride, or an opening is counted alone, the first of these syncs is left out.
 pub fn write_commit<D: SectorDevice>(
     device: &mut D,
     update: Update<'_>,
@@ -54,7 +54,7 @@ fn write_target<D: SectorDevice>(
     write_run(device, first, count, &[], start.target)
 }
 
-// Writes the frames behind the used bytes, with those in front of them in their sector.
+// Writes the frames after the used bytes, with those in front of them in their sector.
 fn write_frames<D: SectorDevice>(
     device: &mut D,
     frames: &[u8],
@@ -85,7 +85,7 @@ pub fn settle<D: SectorDevice>(device: &mut D, skips: bool) -> Result<(), Device
     if skips { Ok(()) } else { device.sync() }
 }
 
-/// How many sectors hold `more` bytes behind `used` ones.
+/// How many sectors hold `more` bytes after `used` ones.
 pub fn sectors_touched(used: u64, more: u64) -> u64
     requires { used + more < 2 ^ 62 }
     ensures { result ≡ touched used more }

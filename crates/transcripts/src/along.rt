@@ -6,17 +6,17 @@ use crate::words::act;
 use std::alloc::Global;
 use std::io::{BufRead, BufReader};
 
-/// What stands between the command lines of one session, which are one line of standard input. No JSON text has it.
+/// The separator of the command lines of one session, which are one line of standard input. No JSON text has it.
 const BETWEEN: &str = "\u{1e}";
 
 /// Does each line of standard input as it comes: a new bench for `# NAME`, a word, or a session of a command line or of
-/// several, with `BETWEEN` between them. What is said to it is printed at once, with a line `.` behind it.
+/// several, with `BETWEEN` between them. Each reply or report is printed at once, with a line `.` after it.
 pub fn play_along(rt: &HostRuntime) -> Result<(), Fault> {
     let mut bench = Bench::new(rt.alloc())?;
     follow(rt, &mut bench)
 }
 
-/// Does each line over the bench that stands.
+/// Does each line over the bench at hand.
 fn follow(rt: &HostRuntime, bench: &mut Bench) -> Result<(), Fault> {
     let alloc = rt.alloc();
     for line in BufReader::new(alloc, rt.reader())?.lines(alloc) {
@@ -39,7 +39,7 @@ fn said_to(alloc: Global, bench: &mut Bench, line: String) -> Result<String, Fau
     Ok(said)
 }
 
-/// Puts a new bench in the place of the one that stands.
+/// Puts a new bench in the place of the one at hand.
 fn begin(alloc: Global, bench: &mut Bench) -> Result<(), Fault> {
     *bench = Bench::new(alloc)?;
     Ok(())

@@ -7,7 +7,7 @@ use serve_lines::{Options, serve};
 use std::alloc::Global;
 use store_journal::{format, format_in};
 
-/// A reply line has at most so many bytes, with its line feed, so a session of one line grows no writer.
+/// A reply line has at most this number of bytes, with its line feed, so a session of one line grows no writer.
 const LONGEST_REPLY: usize = 16_777_217;
 
 /// A disk that may fail once, and from some call on.
@@ -23,7 +23,7 @@ pub struct Bench {
     pub passing: u64,
     /// The call from there on that fails, counted from 1 (0: none), and whether it has its effect.
     pub failing: (u64, bool),
-    /// The sectors that a session's steps behind changes write, 0 for no step.
+    /// The sectors that a session's steps after changes write, 0 for no step.
     pub behind: u64,
     /// The successive changes that a session makes as one batch, at most.
     pub together: u64,
@@ -46,7 +46,7 @@ impl Bench {
         })
     }
 
-    /// Takes another disk, of so many sectors, formatted or all zeros.
+    /// Takes another disk, of `sectors` sectors, formatted or all zeros.
     pub fn renew(&mut self, sectors: u64, is_formatted: bool) -> Result<(), Fault> {
         let disk = if is_formatted {
             formatted(self.alloc, sectors, false)?
@@ -58,7 +58,7 @@ impl Bench {
         Ok(())
     }
 
-    /// Takes another disk, of so many sectors, formatted in format 3.
+    /// Takes another disk, of `sectors` sectors, formatted in format 3.
     pub fn renew_in_3(&mut self, sectors: u64) -> Result<(), Fault> {
         let disk = formatted(self.alloc, sectors, true)?;
         self.store = None;
@@ -66,7 +66,7 @@ impl Bench {
         Ok(())
     }
 
-    /// The disk as it stands, taken back from the store.
+    /// The disk as it is, taken back from the store.
     pub fn disk(&mut self) -> Option<MemDisk> {
         match self.store.take() {
             Some(store) => Some(store.into_device().into_inner().into_inner()),
@@ -79,7 +79,7 @@ impl Bench {
         self.disk = Some(disk);
     }
 
-    /// Opens the disk anew, and says the number where it is refused.
+    /// Opens the disk anew, and says the number if it is refused.
     pub fn open(&mut self, said: &mut String) -> Result<(), Fault> {
         let Some(disk) = self.disk() else {
             return Err(Fault::Script);
@@ -96,7 +96,7 @@ impl Bench {
         Ok(())
     }
 
-    /// Formats the disk as it stands, and says the number where that is refused.
+    /// Formats the disk as it is, and says the number if that is refused.
     pub fn format(&mut self, said: &mut String) -> Result<(), Fault> {
         let Some(disk) = self.disk() else {
             return Err(Fault::Script);
@@ -120,7 +120,7 @@ impl Bench {
         device
     }
 
-    /// Makes a step of a copied snapshot, over the disk that is opened for it where it isn't open.
+    /// Makes a step of a copied snapshot, over the disk, which is opened for it if it isn't open.
     pub fn pump(&mut self, max: u64, said: &mut String) -> Result<(), Fault> {
         if self.store.is_none() {
             self.open(said)?;
@@ -142,8 +142,8 @@ impl Bench {
         Ok(())
     }
 
-    /// Brings the store to format 3, or for any other number to format 2, over the disk that is opened for it where it isn't
-    /// open, and says the format that it was in.
+    /// Brings the store to format 3, or for any other number to format 2, over the disk, which is opened for it if it
+    /// isn't open, and says the format that it was in.
     pub fn upgrade(&mut self, number: u64, said: &mut String) -> Result<(), Fault> {
         if self.store.is_none() {
             self.open(said)?;
@@ -167,8 +167,8 @@ impl Bench {
         Ok(())
     }
 
-    /// Copies the store to a disk of so many sectors of zeros, with the stops that are set, and goes on with that disk, which
-    /// isn't open.
+    /// Copies the store to a disk of `sectors` sectors of zeros, with the stops that are set, and goes on with that
+    /// disk, which isn't open.
     pub fn copy(&mut self, sectors: u64, said: &mut String) -> Result<(), Fault> {
         let disk = MemDisk::new(self.alloc, sectors)?;
         let mut device = self.device(disk);
@@ -190,7 +190,7 @@ impl Bench {
         }
     }
 
-    /// Serves lines, over the disk that is opened for them where it isn't open.
+    /// Serves lines, over the disk, which is opened for them if it isn't open.
     pub fn serve(&mut self, input: &str, said: &mut String) -> Result<(), Fault> {
         if self.store.is_none() {
             self.open(said)?;
@@ -214,7 +214,7 @@ impl Bench {
         Ok(())
     }
 
-    /// Says the status, and each document behind its revision and schema, where the disk is open.
+    /// Says the status, and each document after its revision and schema, if the disk is open.
     pub fn state(&mut self, said: &mut String) -> Result<(), Fault> {
         let Some(store) = &self.store else {
             said.push_str("closed\n")?;
@@ -242,7 +242,7 @@ fn word_of(copy: CopyState) -> &'static str {
     }
 }
 
-/// A disk of so many sectors, formatted in format 2 or 3, with nothing unsettled and no call on record.
+/// A disk of `sectors` sectors, formatted in format 2 or 3, with nothing unsettled and no call on record.
 fn formatted(alloc: Global, sectors: u64, rides: bool) -> Result<MemDisk, Fault> {
     let mut disk = MemDisk::new(alloc, sectors)?;
     format_in(&mut disk, rides)?;

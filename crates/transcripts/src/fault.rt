@@ -1,11 +1,11 @@
-//! Why a transcript could not be played to its end.
+//! The reasons why a transcript could not be played to its end.
 
 use doc_store::Refusal;
 use std::alloc::{AllocError, AllocFailed};
 use std::io;
 use store_journal::FormatFault;
 
-/// Why a transcript could not be played to its end.
+/// The reasons why a transcript could not be played to its end.
 #[derive(Debug, Drop)]
 pub enum Fault {
     /// The allocator refused memory.
@@ -42,7 +42,7 @@ impl From<FormatFault> for Fault {
     }
 }
 
-/// A list of names is refused for want of memory alone.
+/// A list of names is refused only if memory ran out.
 impl From<Refusal> for Fault {
     fn from(_refused: Refusal) -> Fault {
         Fault::Memory

@@ -4,13 +4,14 @@
 //! memory and formatted, which the first command line opens.
 //!
 //!     # what the row shows
-//!     @pick 0 1                   it is played once with each, which then stands for %pick%
+//!     @pick 0 1                   it is played once with each, which then replaces %pick%
 //!     !fuse 12                    a word for the device (`words`)
-//!     {"cmd":"list"}              a command line; <<x*600>> stands for 600 times x
+//!     {"cmd":"list"}              a command line; <<x*600>> means 600 times x
 //!     > {"names":[],"ok":true}    a reply, or what a word says
 //!
-//! The command lines up to a reply or a word are one session. A reply is compared whole; after `> ..` it ends so, and
-//! after `> #` it has so many bytes. A row that goes another way is shown with both texts, and the status is then 1.
+//! The command lines up to a reply or a word are one session. A reply is compared whole; after `> ..` it ends with the
+//! text, and after `> #` it has that number of bytes. A row that goes another way is shown with both texts, and the
+//! status is then 1.
 //!
 //! The word `-` is standard input, whose lines are done as they come (`along`).
 #![tactic(auto)]
@@ -42,7 +43,7 @@ fn main(rt: HostRuntime) -> ExitCode {
     }
 }
 
-/// Plays each file, and tells whether all went as they should.
+/// Plays each file, and answers whether all went as they should.
 fn play_files(rt: &HostRuntime) -> Result<bool, Fault> {
     let files: Vec<String> = env::args(rt)?.collect(rt.alloc())?;
     let mut well = true;
@@ -72,7 +73,7 @@ fn play_rows(rt: &HostRuntime, file: &str, text: &str) -> Result<bool, Fault> {
     Ok(well)
 }
 
-/// Plays a row once, and prints it where it went another way.
+/// Plays a row once, and prints it if it went another way.
 fn play_row(
     rt: &HostRuntime,
     file: &str,

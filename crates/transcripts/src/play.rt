@@ -9,7 +9,7 @@ use crate::words::act;
 use std::alloc::Global;
 use std::mem;
 
-/// What was said where something else was wanted.
+/// The reply or report, and the one that was wanted in its place.
 #[derive(Drop)]
 pub struct Difference {
     pub wanted: String,
@@ -26,7 +26,7 @@ struct Playing {
     wanted: String,
 }
 
-/// Plays a row with the choice of that number, and answers where it goes another way first.
+/// Plays a row with the choice of that number, and answers the first place at which it goes another way.
 pub fn play(alloc: Global, row: &Row, turn: usize) -> Result<Option<Difference>, Fault> {
     let mut playing = Playing {
         alloc,
@@ -39,7 +39,7 @@ pub fn play(alloc: Global, row: &Row, turn: usize) -> Result<Option<Difference>,
 }
 
 impl Playing {
-    /// Does all steps, and answers where one went another way first.
+    /// Does all steps, and answers the first place at which one went another way.
     fn play(&mut self, row: &Row, turn: usize) -> Result<Option<Difference>, Fault> {
         for step in &row.steps {
             if let Some(found) = self.go_on(row, turn, *step)? {
@@ -50,7 +50,7 @@ impl Playing {
         Ok(self.compare())
     }
 
-    /// Does a step, and answers where it went another way before.
+    /// Does a step, and answers the place before it at which the row went another way.
     fn go_on(&mut self, row: &Row, turn: usize, step: Step) -> Result<Option<Difference>, Fault> {
         match step {
             Step::Reply(text) => {
@@ -87,7 +87,7 @@ impl Playing {
         Ok(())
     }
 
-    /// Compares before a line: where none waits, the last replies are complete.
+    /// Compares before a line: if none waits, the last replies are complete.
     fn compare_replies(&mut self) -> Option<Difference> {
         if self.lines.is_empty() {
             return self.compare();

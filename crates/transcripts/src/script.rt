@@ -13,7 +13,7 @@ pub struct Row<'a> {
     pub steps: Vec<Step<'a>>,
 }
 
-/// A name in a row, and each text that stands in its place in turn.
+/// A name in a row, and the texts that replace it in turn.
 #[derive(Drop)]
 pub struct Choice<'a> {
     pub name: &'a str,
@@ -42,7 +42,7 @@ impl<'a> Row<'a> {
     }
 }
 
-/// The rows of a text. What stands before the first is left out, and so are empty lines.
+/// The rows of a text. What comes before the first is left out, and so are empty lines.
 pub fn rows_of<'a>(alloc: Global, text: &'a str) -> Result<Vec<Row<'a>>, AllocError> {
     let mut rows: Vec<Row<'a>> = Vec::new(alloc);
     for line in text.split('\n') {

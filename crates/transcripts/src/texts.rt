@@ -1,4 +1,4 @@
-//! The text that a line stands for.
+//! The text that a line spells.
 
 use crate::script::{Choice, Row};
 use std::alloc::{AllocError, Global};
@@ -28,7 +28,7 @@ fn with_value(
     text.replace(alloc, mark.as_str(), value)
 }
 
-/// The text with so many times PART for each `<<PART*N>>`.
+/// The text with PART repeated N times for each `<<PART*N>>`.
 fn written_out(alloc: Global, text: &str) -> Result<String, AllocError> {
     let mut out = String::new(alloc);
     for (index, piece) in text.split("<<").enumerate() {
@@ -43,7 +43,7 @@ fn written_out(alloc: Global, text: &str) -> Result<String, AllocError> {
     Ok(out)
 }
 
-/// The part, how many times it stands, and what comes behind it.
+/// The part, how many times it is repeated, and what comes after it.
 fn repetition<'a>(piece: &'a str) -> Option<(&'a str, usize, &'a str)> {
     let (mark, rest) = piece.split_once(">>")?;
     let (part, count) = mark.rsplit_once('*')?;

@@ -3,31 +3,31 @@
 //!
 //!     !format N          another disk of N sectors, formatted
 //!     !format N 3        the same in format 3
-//!     !format            formats the disk as it stands; says `refused NUMBER` where it is refused
+//!     !format            formats the disk as it is; says `refused NUMBER` if it is refused
 //!     !blank N           another disk of N sectors, of zeros
 //!     !copy N            copies the store, which is open, to a disk of N sectors of zeros, and goes on with that disk; says
 //!                        how many bytes it uses there, or `refused NUMBER`
 //!     !fuse N            from the next opening, formatting or copying on N calls of the device pass, and no later one
 //!     !fail N 0          the Nth call from there on fails, and no other; after `1` it has its effect
-//!     !behind N          from here on sessions make a step of N sectors behind a change, where one is wanted
+//!     !behind N          from here on sessions make a step of N sectors after a change, if one is wanted
 //!     !together N        from here on sessions make up to N successive changes as one batch
 //!     !halting N         from here on sessions halt at the first change that meets a fault; not after `0`
-//!     !open              opens the disk; says `refused NUMBER` where it is refused
+//!     !open              opens the disk; says `refused NUMBER` if it is refused
 //!     !pump N            a step of a copied snapshot, of N sectors at most; says how many were written, and whether the
 //!                        copy is running, switched or dropped, or `refused NUMBER`
 //!     !upgrade N         brings the store to format 3, or for any other number to format 2; says `from` and the number of the
 //!                        format that it was in, or `refused NUMBER`
-//!     !state             says the status and each document behind its revision and schema, or `closed` where the disk isn't
-//!                        open
+//!     !state             says the status and each document after its revision and schema, or `closed` if the disk
+//!                        isn't open
 //!     !crash PICK ..     the power fails: sector i keeps its content after the last sync for pick 0, else the one that
-//!                        was written so many writes later; a sector without a pick takes 0
+//!                        was written that many writes later; a sector without a pick takes 0
 //!     !calls N           says the calls of the device from the Nth on, counted from 0
 //!     !sector S FROM TO  says the bytes of a sector
 //!     !write S FROM B .. writes bytes into a sector
 //!     !text S FROM TEXT  writes the bytes of a text into a sector
 //!     !turn S AT         turns the lowest bit of a byte of a sector
-//!     !beginnings LINE   sends each proper beginning of the line, without a line feed behind it, as a session of its own, and
-//!                        says each reply that isn't the one before
+//!     !beginnings LINE   sends each proper beginning of the line, without a line feed after it, as a session of its
+//!                        own, and says each reply that isn't the one before
 //!     !times N LINE      sends the line N times, with 1, 2, .. for each #, and says the last reply
 
 use crate::bench::Bench;
@@ -103,7 +103,7 @@ fn act_on_disk(
     ended
 }
 
-/// Those that leave it where it is.
+/// The words that leave the disk as it is.
 fn act_on(disk: &mut MemDisk, name: &str, numbers: &[u64], said: &mut String) -> Result<(), Fault> {
     match name {
         "calls" => say_calls(disk, at(numbers, 0)?, said),
@@ -169,7 +169,7 @@ fn say_bytes(sector: &[u8; 512], from: u64, to: u64, said: &mut String) -> Resul
     Ok(())
 }
 
-/// Writes the bytes behind the first two numbers into a sector, from some byte on.
+/// Writes the bytes after the first two numbers into a sector, from some byte on.
 fn write_bytes(disk: &mut MemDisk, numbers: &[u64]) -> Result<(), Fault> {
     let place = at(numbers, 0)?;
     let from = at(numbers, 1)?;
@@ -243,7 +243,7 @@ fn beginnings(
     Ok(())
 }
 
-/// Sends a line so many times, and says the last reply.
+/// Sends a line that many times, and says the last reply.
 fn times(alloc: Global, bench: &mut Bench, rest: &str, said: &mut String) -> Result<(), Fault> {
     let Some((count, line)) = rest.split_once(' ') else {
         return Err(Fault::Script);

@@ -1,4 +1,4 @@
-//! How many documents there are, and how many changes were accepted.
+//! The number of documents, and the number of accepted changes.
 ghost use Rattle.std.specs.Prelude.{◌≡◌, length};
 ghost use Rattle.doc_changes.specs.State.{Good};
 

@@ -1,4 +1,4 @@
-//! What a machine answers of its documents. Nothing changes.
+//! The questions that a machine answers of its documents. Nothing changes.
 ghost use Rattle.std.specs.Prelude.{◌≡◌, ◌⊎◌, Ok, Err, map, MatchResult};
 ghost use Rattle.doc_tree.specs.TreeView.{view};
 ghost use Rattle.refusals.specs.declared.numbers.TheConstants.{MEMORY};
@@ -29,8 +29,8 @@ impl Machine {
     /// The value in the document of that name to which the pointer leads (RFC 6901, section 4). It
     /// takes no memory.
     ///
-    /// `NAME` where the text is no name, `NO_DOCUMENT` where no document has it, `NO_VALUE` where the
-    /// pointer leads nowhere, in this order.
+    /// `NAME` if the text is no name, `NO_DOCUMENT` if no document has it, `NO_VALUE` if the pointer leads nowhere, in
+    /// this order.
     pub fn get(&self, name: &str, pointer: &Pointer) -> Result<&Tree, Refusal>
         ensures value { MatchResult result (λ t. value_at self.now name.now pointer.now ≡ Ok (view t.now))
             (λ r. value_at self.now name.now pointer.now ≡ Err r) }
@@ -42,9 +42,8 @@ impl Machine {
     /// The nodes that the query selects in the document of that name, in order, each with its location
     /// and with its value, which the machine lends (RFC 9535, sections 2.3 and 2.5).
     ///
-    /// `NAME` where the text is no name, `NO_DOCUMENT` where no document has it, `PATH_NODES` where a
-    /// list of the evaluation has more than `limits::NODES` nodes, in this order; `MEMORY` may come in
-    /// place of any answer.
+    /// `NAME` if the text is no name, `NO_DOCUMENT` if no document has it, `PATH_NODES` if a list of the evaluation has
+    /// more than `limits::NODES` nodes, in this order; `MEMORY` may come in place of any answer.
     pub fn query(&self, name: &str, query: &Query) -> Result<Vec<Node<'_>>, Refusal>
         ensures nodes { let nodes = nodes_at self.now name.now (query_view query.now) in
             MatchResult result (λ found. nodes ≡ Ok (nodes_of found.items)) (λ r. (nodes ≡ Err r) ⊎ (r ≡ plain MEMORY)) }
@@ -55,7 +54,7 @@ impl Machine {
 
     /// The schema of the document of that name. It takes no memory.
     ///
-    /// `NAME` where the text is no name, else `NO_DOCUMENT` where no document has it.
+    /// `NAME` if the text is no name, else `NO_DOCUMENT` if no document has it.
     pub fn schema_of(&self, name: &str) -> Result<&Tree, Refusal>
         ensures schema { MatchResult result (λ t. schema_at self.now name.now ≡ Ok (view t.now))
             (λ r. schema_at self.now name.now ≡ Err r) }
@@ -67,7 +66,7 @@ impl Machine {
     /// The revision of the document of that name: the number of accepted changes after the last creation,
     /// patch or schema of it. It takes no memory.
     ///
-    /// `NAME` where the text is no name, else `NO_DOCUMENT` where no document has it.
+    /// `NAME` if the text is no name, else `NO_DOCUMENT` if no document has it.
     pub fn revision(&self, name: &str) -> Result<u64, Refusal>
         ensures revision { result ≡ revision_at self.now name.now }
         ensures good { Good self.now }

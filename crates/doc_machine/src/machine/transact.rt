@@ -16,11 +16,12 @@ use refusals::numbers::{COMMAND, MEMORY, SEQ_END, TRANSACTION_LARGE};
 impl Trial {
     /// Makes a transaction whole, and answers the new number of accepted changes, or refuses it and nothing changes.
     ///
-    /// A single change is refused as `judge` answers. Several are refused with `COMMAND` where they are none or over
-    /// `TRANSACTION_CHANGES`; else by the first of these reasons, change after change, each judged after those before it:
-    /// `TRANSACTION_LARGE` where the documents that are patched, or put under another schema, have more than
-    /// `TRANSACTION_KEPT_BYTES` of text together up to this change, each counted with each change; and then the change's
-    /// own refusal, with its place beside it, but `SEQ_END` with none. `MEMORY` may come in place of any answer.
+    /// A single change is refused as `judge` answers. Several are refused with `COMMAND` if they are none or over
+    /// `TRANSACTION_CHANGES`; else by the first of these reasons, change after change, each judged after those before
+    /// it: `TRANSACTION_LARGE` if the documents that are patched, or put under another schema, have more than
+    /// `TRANSACTION_KEPT_BYTES` of text together up to this change, each counted with each change; and then the
+    /// change's own refusal, with its place beside it, but `SEQ_END` with none. `MEMORY` may come in place of any
+    /// answer.
     pub fn transact(&mut self, transaction: Transaction) -> Result<u64, Refusal>
         ensures made { IfOk result (λ seq. IsTransacted self.old (transaction_of transaction) seq self.new) }
         ensures refused { IfErr result (RefusesTransaction self.old.state (transaction_of transaction)) }
@@ -98,7 +99,8 @@ impl Trial {
         Ok(())
     }
 
-    // The bytes that a change keeps beside so many of the changes before it, or a refusal where they are too many.
+    // The bytes that a change keeps together with the `kept` bytes of the changes before it, or a refusal if they are
+    // too many.
     fn kept_with(&self, command: &Command, kept: u64) -> Result<u64, Refusal>
         ensures counted { let together = kept + kept_by self.now.state (change_of command.now) in
             MatchResult result (λ more. (more ≡ together) × (large_refusal together ≡ None)) (λ r. large_refusal together ≡ Some r) }
@@ -121,7 +123,7 @@ impl Trial {
         }
     }
 
-    // The bytes of the text of the document of that name, if it stands.
+    // The bytes of the text of the document of that name, if there is one.
     fn bytes_of(&self, name: &str) -> u64
         ensures { result ≡ text_bytes (find name.now self.now.state.documents) }
     {

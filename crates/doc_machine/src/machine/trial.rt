@@ -16,8 +16,8 @@ use record_text::Command;
 use std::alloc::{AllocError, Global};
 use std::marker::Model;
 
-/// Documents on which changes are tried: each stands in memory as if it were made, and all of them can be
-/// taken back, the newest first, which takes no memory.
+/// Documents on which changes are tried: each change is made in memory, and all of them can be taken back, the newest
+/// first, which takes no memory.
 #[derive(Drop)]
 pub struct Trial {
     alloc: Global,
@@ -147,7 +147,7 @@ impl Trial {
         self.seq -= 1;
     }
 
-    /// Takes back all that was tried but the oldest so many changes. It takes no memory.
+    /// Takes back all that was tried but the oldest `oldest` changes. It takes no memory.
     pub fn keep(&mut self, oldest: u64)
         ensures state { self.new.state ≡ state_at oldest self.old }
         ensures past { self.new.past ≡ take oldest self.old.past }

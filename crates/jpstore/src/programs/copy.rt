@@ -29,15 +29,16 @@ use store_journal::geometry::capacity;
 /// How `copy` ended once it had opened the store.
 #[derive(Drop)]
 pub struct Ended {
-    /// The store that was opened, as it stands.
+    /// The store that was opened, as it is then.
     pub store: Store<FileDevice>,
     /// The device of the copy, or why there is none.
     pub copied: Result<FileDevice, Fault>,
 }
 
-/// Opens the store in a file that holds what `held` says, which counts as an opening, copies it into a new file of that many
-/// sectors, at a path where nothing exists, and writes the status of the copy. The new file has the rights of the old one
-/// before its first byte, and its blocks are allocated first, while `progress` looks on. If there is a fault it is removed again, if the system does so.
+/// Opens the store in a file that holds what `held` says, which counts as an opening, copies it into a new file of that
+/// many sectors, at a path at which nothing exists, and writes the status of the copy. The new file has the rights of
+/// the old one before its first byte, and its blocks are allocated first, while `progress` looks on. If there is a
+/// fault it is removed again, if the system does so.
 pub fn copy_file<R: Files<File = File>, O: Write, P: Progress>(
     rt: &R,
     alloc: Global,
@@ -105,7 +106,7 @@ fn make_new<R: Files<File = File>, P: Progress>(
     }
 }
 
-// Copies a store to a device of so many sectors, and writes the status of the copy.
+// Copies a store to a device of `sectors` sectors, and writes the status of the copy.
 fn fill<O: Write>(
     alloc: Global,
     store: &Store<FileDevice>,
@@ -126,7 +127,7 @@ fn fill<O: Write>(
     }
 }
 
-// What the copy tells of itself, before it is opened.
+// The status of the copy, before it is opened.
 fn status_of_copy(status: &Status, used: u64, sectors: u64) -> Status
     requires most { sectors ≤ MAX_SECTORS }
     ensures { (a : Account) → status.now ≡ status_of a → used ≡ length (snapshot_bytes a.state.documents) → result ≡ status_of (account_copied a sectors) }

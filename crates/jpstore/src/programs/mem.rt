@@ -15,13 +15,13 @@ use store_journal::laws::images_carry_one;
 /// A store in memory at the end of a program.
 #[derive(Drop)]
 pub struct ClosedInMemory {
-    /// The store, as it then stands.
+    /// The store, as it is then.
     pub store: Store<MemDisk>,
     /// How the program ended.
     pub ended: Result<(), Fault>,
 }
 
-/// Serves lines over an empty store on a disk in memory, each change by itself, and hands it out as it stands at the end.
+/// Serves lines over an empty store on a disk in memory, each change by itself, and hands it out as it is at the end.
 pub fn serve_memory<I: Read, O: Write>(
     alloc: Global,
     sectors: u64,
@@ -38,11 +38,11 @@ pub fn serve_memory<I: Read, O: Write>(
     Ok(ClosedInMemory { store, ended })
 }
 
-// An empty store on a disk of so many sectors in memory.
+// An empty store on a disk of `sectors` sectors in memory.
 fn new_store(alloc: Global, sectors: u64) -> Result<Store<MemDisk>, Fault>
     ensures { IfOk result (λ store. store.account ≡ new_account sectors) }
 {
-    // A formatted disk carries no bytes, and stands for nothing else than no documents.
+    // A formatted disk carries no bytes: it holds no documents and nothing else.
     images_carry_one();
     one_state_stands();
     let mut disk = MemDisk::new(alloc, sectors)?;
