@@ -131,7 +131,7 @@ class Embedded:
         out = os.path.join(self.folder, "%s.%s" % (test, os.path.basename(library)))
         parts = os.path.join(library, "inner.o" if inner else "libjpstore.a")
         wraps = ["-Wl,--wrap=" + name for name in WRAPPED.get(test, ())]
-        run(["cc", *STRICT, "-I", EMBED, os.path.join(TESTS, test + ".c"), "-o", out, parts, "-pthread", *wraps, *flags])
+        run(["cc", *STRICT, "-I", EMBED, "-I", os.path.join(EMBED, "src"), os.path.join(TESTS, test + ".c"), "-o", out, parts, "-pthread", *wraps, *flags])
         return out
 
     def passes(self, test, *words, before=(), **more):
@@ -172,11 +172,11 @@ class Embedded:
         os.makedirs(os.path.join(copy, "tests", "gate"))
         shutil.copy(os.path.join(HERE, "stack.py"), os.path.join(copy, "tests", "gate"))
         shutil.copytree(self.library, out, symlinks=True)
-        with open(os.path.join(copy, "clients", "c", "fiber.h"), "r+") as file:
+        with open(os.path.join(copy, "clients", "c", "src", "fiber.h"), "r+") as file:
             text = file.read()
             small = text.replace("((size_t)16 << 20)", "((size_t)1 << 20)")
             if small == text:
-                raise Failed("clients/c/fiber.h has another stack")
+                raise Failed("clients/c/src/fiber.h has another stack")
             file.seek(0)
             file.truncate()
             file.write(small)
