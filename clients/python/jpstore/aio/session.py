@@ -146,7 +146,9 @@ class AsyncSession:
             return
         if self._channel is None:
             if self.over:
-                self._tell_waiting(JpstoreError(CLOSED))
+                # A call may come just after the end was known, and before it could be told to one.
+                untold, self._untold = self._untold, None
+                self._tell_waiting(untold or JpstoreError(CLOSED))
             elif self._opening is None:
                 self._opening = asyncio.ensure_future(self._open_again())
             return
