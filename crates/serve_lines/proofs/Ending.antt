@@ -20,7 +20,7 @@ use Rattle.protocol.specs.Request.{Asks, change}
 use Rattle.protocol.specs.Lines.{line_feed, onto, onto_ended, cut, ended, answered, is_blank, lines_of, HasNoBreak}
 use Rattle.serve_lines.specs.Session.{AreGroups, no_groups, one_alone, one_full, one_short, AskFor, Does, Session, begun, one_more, one_refused, alone, together, most_of}
 use Rattle.serve_lines.specs.LineReplies.{BatchIsAnswered, EndsBatch, IsRunFrom, LineIsAnswered}
-use Rattle.serve_lines.specs.LineEnds.{with_feeds, LineEnds, LineIsWaitingOrDone, Fills, LineByItself, IsPassed, HasCut, HasAnswered, Waits}
+use Rattle.serve_lines.specs.EndOfLine.{with_feeds, EndsLine, LineIsWaitingOrDone, Fills, LineByItself, IsPassed, HasCut, HasAnswered, Waits}
 use Rattle.serve_lines.specs.Serve.{BreaksOff, IsSession}
 use Rattle.serve_lines.specs.declared.options.Options.{Options}
 use Rattle.serve_lines.proofs.Batching.{true_false}
@@ -454,7 +454,7 @@ module _ {D : Type 0} (disk : D → Disk) (options : Options) (coherent : (devic
     settles_busy (inr (inr (inr p))) = settles_passed p.0 p.1 p.2
 
     -- one line more
-    settles_line : LineEnds disk options old cs was line more new left is → HasAnswered disk options start (lines ++ last line) new (replies ++ more) left is
+    settles_line : EndsLine disk options old cs was line more new left is → HasAnswered disk options start (lines ++ last line) new (replies ++ more) left is
     settles_line e = elim e [
       | inl w ↦
           let no_more : replies ++ more ≡ replies = ap (λ x. replies ++ x) w.1 ∙ append-nil replies in
@@ -499,7 +499,7 @@ module _ {D : Type 0} (disk : D → Disk) (options : Options) (coherent : (devic
 
   -- a line feed came
   pub reaches_line : (start : StoreView D) (bytes : List ℕ) (old new : StoreView D) (replies more : List Doc) (cs left : List Transaction) (was is : Bool) (line : List ℕ) → HasNoBreak line → HasCut disk options start bytes old replies cs was line
-      → LineEnds disk options old cs was line more new left is → HasCut disk options start (bytes ++ line_feed ∷ []) new (replies ++ more) left is []
+      → EndsLine disk options old cs was line more new left is → HasCut disk options start (bytes ++ line_feed ∷ []) new (replies ++ more) left is []
   reaches_line start bytes old new replies more cs left was is line whole r e = record {
     lines = r.lines ++ line ∷ [];
     unbroken = unbroken_more r.lines line r.unbroken whole;
@@ -514,7 +514,7 @@ module _ {D : Type 0} (disk : D → Disk) (options : Options) (coherent : (devic
 
   -- the input has ended: the last line is, and then the batch that waits
   pub session_end : (start : StoreView D) (bytes : List ℕ) (old mid new : StoreView D) (replies more docs : List Doc) (cs left : List Transaction) (was is halts : Bool) (rest : List ℕ) → HasNoBreak rest
-      → HasCut disk options start bytes old replies cs was rest → LineEnds disk options old cs was rest more mid left is → EndsBatch disk options mid left docs halts new
+      → HasCut disk options start bytes old replies cs was rest → EndsLine disk options old cs was rest more mid left is → EndsBatch disk options mid left docs halts new
       → SatSo disk options start (lines_of bytes) (replies ++ (more ++ docs)) new (is || halts)
   session_end start bytes old mid new replies more docs cs left was is halts rest whole r e b =
       let all = ap lines_of (sym (append-nil bytes)) ∙ lines_of-reached disk options start bytes old replies cs was rest r [] ∙ ap (λ x. answered r.lines ++ x) (ap lines_of (append-nil rest) ∙ answered_rest rest whole) in

@@ -11,7 +11,7 @@ use Rattle.protocol.specs.Lines.{answered, ended}
 use Rattle.protocol.specs.LineBuffer.{Holds}
 use Rattle.protocol.specs.Says.{Says}
 use Rattle.protocol.specs.declared.reply.Reply.{Reply}
-use Rattle.serve_lines.specs.LineEnds.{HasCut, HasAnswered}
+use Rattle.serve_lines.specs.EndOfLine.{HasCut, HasAnswered}
 use Rattle.serve_lines.specs.Pieces.{HasEnded, HasRead, KeepsLines, waiting_in}
 use Rattle.serve_lines.specs.LineReplies.{AllSay}
 use Rattle.serve_lines.specs.declared.session.Session.{Session}

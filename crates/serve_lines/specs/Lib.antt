@@ -2,7 +2,7 @@ pub mod Session
 pub mod StatusReply
 pub mod LineReplies
 pub mod Written
-pub mod LineEnds
+pub mod EndOfLine
 pub mod Pieces
 pub mod Progress
 pub mod Serve

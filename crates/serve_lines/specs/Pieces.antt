@@ -9,7 +9,7 @@ use Rattle.protocol.specs.Says.{Says}
 use Rattle.serve_lines.specs.LineReplies.{AllSay}
 use Rattle.serve_lines.specs.Serve.{IsSession}
 use Rattle.protocol.specs.LineBuffer.{Holds}
-use Rattle.serve_lines.specs.LineEnds.{HasCut, LineEnds, LineIsWaitingOrDone}
+use Rattle.serve_lines.specs.EndOfLine.{EndsLine, HasCut, LineIsWaitingOrDone}
 use Rattle.protocol.specs.declared.reply.Reply.{Reply}
 use Rattle.serve_lines.specs.declared.session.Session.{Session}
 use Rattle.serve_lines.specs.declared.options.Options.{Options}
@@ -32,11 +32,11 @@ pub record HasRead {D : Type 0} (disk : D → Disk) (options : Options) (start :
   pub says : AllSay session.ready.items ready
 
 -- The input has ended: with the replies that are ready, those that were given are the replies of a session over these lines, and nothing waits.
-pub record HasEnded {D : Type 0} (disk : D → Disk) (options : Options) (start : StoreView D) (lines : List (List ℕ)) (now : StoreView D) (session : Session) (replies : List Doc) : Type 0 where
+pub record HasEnded {D : Type 0} (disk : D → Disk) (options : Options) (start : StoreView D) (lines : List (List ℕ)) (now : StoreView D) (is : Session) (replies : List Doc) : Type 0 where
   pub ready : List Doc
   pub session : IsSession disk options start lines (replies ++ ready) now
-  pub halted_is : session.halted ≡ session.halted
-  pub says : AllSay session.ready.items ready
+  pub halted_is : session.halted ≡ is.halted
+  pub says : AllSay is.ready.items ready
 
 -- Whatever it had read and given since whatever start, it has read these bytes more.
 abbrev pub ReadsMore : {D : Type 0} → (D → Disk) → List ℕ → StoreView D → Session → StoreView D → Session → Type 0
@@ -85,4 +85,4 @@ LineEnds disk line old was new is = (more : List Doc) × AllSay is.ready.items m
 
 -- Whatever line was held, it has ended.
 abbrev pub LineEndsFor : {D : Type 0} → (D → Disk) → StoreView D → Session → StoreView D → Session → Type 0
-LineEndsFor disk old was new is = (line : List ℕ) → Holds was.line line → (more : List Doc) × AllSay is.ready.items more × LineEnds disk was.options old (waiting_in was) was.halted line more new (waiting_in is) is.halted
+LineEndsFor disk old was new is = (line : List ℕ) → Holds was.line line → (more : List Doc) × AllSay is.ready.items more × EndsLine disk was.options old (waiting_in was) was.halted line more new (waiting_in is) is.halted

@@ -3,7 +3,7 @@ use Rattle.std.proofs.lemmas.List.{append-nil}
 use Rattle.doc_tree.specs.Doc.{Doc}
 use Rattle.protocol.specs.Lines.{lines_of}
 use Rattle.protocol.specs.declared.reply.Reply.{Reply}
-use Rattle.serve_lines.specs.LineEnds.{LineEnds}
+use Rattle.serve_lines.specs.EndOfLine.{EndsLine}
 use Rattle.serve_lines.specs.Pieces.{waiting_in}
 use Rattle.serve_lines.specs.LineReplies.{AllSay, EndsBatch}
 use Rattle.serve_lines.specs.declared.options.Options.{Options}
@@ -24,7 +24,7 @@ returns-then-is_empty-clause-ended g c = λ taken options start read replies s.
     let was = c.args.self.now.halted in
     let is = c.end_line.new.self.halted in
     let halts = c.commit-halts.result in
-    let ends = subst (λ (o : Options). LineEnds disk o old cs was s.rest e.0 mid left is) s.goes_by e.2 in
+    let ends = subst (λ (o : Options). EndsLine disk o old cs was s.rest e.0 mid left is) s.goes_by e.2 in
     let b = c.commit-halts.ensures.batch in
     let batch = subst (λ (o : Options). EndsBatch disk o mid left b.1 halts new) (c.end_line.ensures.options ∙ s.goes_by) b.4 in
     let all : (replies ++ s.ready) ++ (e.0 ++ b.1) ≡ replies ++ (e.0 ++ b.1) = ap (λ (l : List Doc). (replies ++ l) ++ (e.0 ++ b.1)) none ∙ ap (λ (l : List Doc). l ++ (e.0 ++ b.1)) (append-nil replies) in

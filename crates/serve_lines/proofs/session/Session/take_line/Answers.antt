@@ -3,7 +3,7 @@ use Rattle.std.proofs.lemmas.List.{append-nil}
 use Rattle.doc_tree.specs.Doc.{Doc}
 use Rattle.protocol.specs.Lines.{line_feed}
 use Rattle.protocol.specs.declared.reply.Reply.{Reply}
-use Rattle.serve_lines.specs.LineEnds.{LineEnds, HasCut}
+use Rattle.serve_lines.specs.EndOfLine.{EndsLine, HasCut}
 use Rattle.serve_lines.specs.Pieces.{waiting_in}
 use Rattle.serve_lines.specs.LineReplies.{AllSay}
 use Rattle.serve_lines.specs.declared.options.Options.{Options}
@@ -25,7 +25,7 @@ returns-clause-heard g c = λ options start read replies s.
     let e = c.end_line.ensures.ends line kept in
     let was = c.args.self.now.halted in
     let is = c.end_line.new.self.halted in
-    let ends = subst (λ (o : Options). LineEnds disk o old cs was line e.0 new left is) s.goes_by e.2 in
+    let ends = subst (λ (o : Options). EndsLine disk o old cs was line e.0 new left is) s.goes_by e.2 in
     let all : (replies ++ s.ready) ++ e.0 ≡ replies ++ e.0 = ap (λ (l : List Doc). (replies ++ l) ++ e.0) none ∙ ap (λ (l : List Doc). l ++ e.0) (append-nil replies) in
     record {
       rest = [];

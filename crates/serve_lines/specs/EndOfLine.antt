@@ -80,6 +80,6 @@ LineIsWaitingOrDone disk options old cs was line replies new left is =
     ⊎ ((was ≡ false) × LineByItself disk options old cs line replies new left is) ⊎ ((was ≡ true) × (is ≡ true) × IsPassed old cs replies new left)
 
 -- A line has ended: it was blank and nothing was said, or so.
-abbrev pub LineEnds : {D : Type 0} → (D → Disk) → Options → StoreView D → List Transaction → Bool → List ℕ → List Doc → StoreView D → List Transaction → Bool → Type 0
-LineEnds disk options old cs was line replies new left is =
+abbrev pub EndsLine : {D : Type 0} → (D → Disk) → Options → StoreView D → List Transaction → Bool → List ℕ → List Doc → StoreView D → List Transaction → Bool → Type 0
+EndsLine disk options old cs was line replies new left is =
     ((is_blank line ≡ true) × (replies ≡ []) × (new ≡ old) × (left ≡ cs) × (is ≡ was)) ⊎ ((is_blank line ≡ false) × LineIsWaitingOrDone disk options old cs was line replies new left is)
