@@ -6,6 +6,7 @@ import re
 import select
 import signal
 import subprocess
+import time
 
 try:
     import readline
@@ -271,6 +272,11 @@ done, changes 10 to 16
 """)
 
 
+def heeds_interrupts():
+    """What a shell starts in its background ignores them, and so would its children."""
+    signal.signal(signal.SIGINT, signal.SIG_DFL)
+
+
 def test_a_hub_is_watched_and_followed_until_an_interrupt(place):
     place.format()
     with RealHub(place) as hub, Store.connect(hub.path) as store:
@@ -278,10 +284,12 @@ def test_a_hub_is_watched_and_followed_until_an_interrupt(place):
         for line, first in ((b"watch 0\n", b'{"change":{"cmd":"create","doc":1,"name":"d","schema":true},"seq":1}\n'),
                             (b"follow d\n", b'{"rev":1,"value":1}\n')):
             with subprocess.Popen(place.words("socket"), stdin=subprocess.PIPE, stdout=subprocess.PIPE,
-                                  cwd=place.folder, env=place.environment()) as shell:
+                                  cwd=place.folder, env=place.environment(), preexec_fn=heeds_interrupts) as shell:
                 shell.stdin.write(line)
                 shell.stdin.flush()
                 assert shell.stdout.readline() == first
+                # A signal that comes just before a system call waits is seen when that returns, so it comes later.
+                time.sleep(0.2)
                 shell.send_signal(signal.SIGINT)
                 assert shell.communicate(b"get d\n", timeout=PATIENCE)[0] == b"1\n"
                 assert shell.returncode == 0
