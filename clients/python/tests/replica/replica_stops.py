@@ -151,11 +151,12 @@ def ended_in_the_midst_of_answers(folder, program):
     """A node ends at SIGTERM while its program has much more to answer than its clients take."""
     with cluster(folder, program, (24_000, 24_000, 30_000), 6_000_000) as nodes:
         nodes.ask("a", create("x", "x" * 1_000_000))
-        for _ in range(3):
+        # How soon the program is in the midst of its answers, and how long it is, depends on the machine.
+        for seconds in (0.02, 0.05, 0.1, 0.2, 0.4):
             with socket.socket(socket.AF_UNIX) as client:
                 client.connect(nodes.socket("a", True))
-                client.sendall((json.dumps(get("x")).encode() + b"\n") * 50)
-                time.sleep(0.3)
+                client.sendall((json.dumps(get("x")).encode() + b"\n") * 200)
+                time.sleep(seconds)
                 nodes.processes["a"].terminate()
                 stopped(nodes, "a")
             nodes.start("a")
