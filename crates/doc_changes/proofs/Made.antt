@@ -30,11 +30,11 @@ pub may_count : (s : State) (c : Change) (judged : Judged) → Good s → IsJudg
 may_count s c judged g j = (accepts s c g.counted j.accepted).rises
 
 -- a document within the limits is measured
-pub measured : (r : Result Doc Tree) (v : Doc) → MatchResult r (λ d. d ≡ v) (λ _. IsWithin v → ⊥) → IsWithin v → is_ok r ≡ true
+pub measured : (r : Result Doc Tree) (v : Doc) → MatchResult r (λ d. d ≡ v) (λ back. (view back ≡ v) × (IsWithin v → ⊥)) → IsWithin v → is_ok r ≡ true
 measured (Ok d) v h within = refl
-measured (Err t) v h within = absurd (h within)
+measured (Err t) v h within = absurd (h.1 within)
 
-pub new_is : (r : Result Doc Tree) (d v : Doc) → MatchResult r (λ x. x ≡ v) (λ _. IsWithin v → ⊥) → r ≡ Ok d → d ≡ v
+pub new_is : (r : Result Doc Tree) (d v : Doc) → MatchResult r (λ x. x ≡ v) (λ back. (view back ≡ v) × (IsWithin v → ⊥)) → r ≡ Ok d → d ≡ v
 new_is (Ok x) d v h is = let same : x ≡ d = cc in sym same ∙ h
 new_is (Err t) d v h is = absurd (cc)
 

@@ -1,6 +1,7 @@
 -- What a patch makes of whose operations one alone changes anything.
-use Rattle.std.proofs.Common.{◌≡◌, ℕ, suc, Option, Some, None, IfSome, is_some, Bor, Ok, false, List, [], ◌∷◌, length, drop, drop-cons, get_or, nat_lt, refl, sym, ap, subst, ◌∙◌, ◌<◌, ◌≤◌}
+use Rattle.std.proofs.Common.{◌≡◌, ◌≢◌, ℕ, suc, ◌+◌, Bool, Option, Some, None, IfNone, IfSome, is_some, Bor, Ok, true, false, cond, List, [], ◌∷◌, length, drop, drop-cons, get_or, nat_lt, refl, sym, ap, subst, ◌∙◌, ◌<◌, ◌≤◌, arith, count_by}
 use Rattle.std.proofs.lemmas.List.{drop_all}
+use Rattle.std.proofs.lemmas.List.Sums.{sum_by-cons}
 use Rattle.doc_tree.specs.Doc.{Doc, height}
 use Rattle.doc_tree.specs.Text.{text_of}
 use Rattle.doc_edits.specs.Meaning.{meaning}
@@ -72,3 +73,44 @@ at_end os i None le all = tt
 at_end os i (Some o) le all = λ d e h.
     let k = all d e h in
     k.1 ∙ ap Ok (ended i k.0 e (subst (λ l. patch_from i (meanings l) k.0 ≡ Ok e) (drop_all i os le) k.2))
+
+-- ---- how many may change something
+
+abbrev counted : Bool → ℕ
+counted b = cond b 1 0
+
+-- of all operations as many as were found, and those that are left
+abbrev pub Counts : Option (Bor code.Operation) → List code.Operation → List code.Operation → Type 0
+Counts found left all = count_by may_change (meanings all) ≡ counted (is_some found) + count_by may_change (meanings left)
+
+-- the next one, and those behind it
+counted_at : (os : List code.Operation) (i m : ℕ) (o : code.Operation) → m ≡ suc i → i < length os → o ≡ get_or os i o
+    → count_by may_change (meanings (drop i os)) ≡ counted (may_change (meaning o)) + count_by may_change (meanings (drop m os))
+counted_at os i m o s less is =
+    ap (λ l. count_by may_change (meanings l)) (left_at os i o less is) ∙ sum_by-cons (λ x. counted (may_change x)) (meaning o) (meanings (drop (suc i) os))
+    ∙ ap (λ n. counted (may_change (meaning o)) + count_by may_change (meanings (drop n os))) (sym s)
+
+pub count_test : (os : List code.Operation) (i m : ℕ) (found : Option (Bor code.Operation)) (o : code.Operation) → m ≡ suc i → i < length os → o ≡ get_or os i o → may_change (meaning o) ≡ false
+    → Counts found (drop i os) os → Counts found (drop m os) os
+count_test os i m found o s less is test h = let at = counted_at os i m o s less is ∙ ap (λ b. counted b + count_by may_change (meanings (drop m os))) test in omega (arith, at, h)
+
+pub count_first : (os : List code.Operation) (i m : ℕ) (found new : Option (Bor code.Operation)) (b : Bor code.Operation) (o : code.Operation) → m ≡ suc i → i < length os → o ≡ get_or os i o → may_change (meaning o) ≡ true → is_some found ≡ false → new ≡ Some b
+    → Counts found (drop i os) os → Counts new (drop m os) os
+count_first os i m found new b o s less is changes none one h =
+    let at = counted_at os i m o s less is ∙ ap (λ b. counted b + count_by may_change (meanings (drop m os))) changes in
+    let before = ap counted none in
+    let after : counted (is_some new) ≡ 1 = ap (λ f. counted (is_some f)) one in
+    omega (arith, at, h, before, after)
+
+-- a second one
+pub count_second : (os : List code.Operation) (i : ℕ) (found : Option (Bor code.Operation)) (o : code.Operation) → i < length os → o ≡ get_or os i o → may_change (meaning o) ≡ true → is_some found ≡ true
+    → Counts found (drop i os) os → count_by may_change (meanings os) ≢ 1
+count_second os i found o less is changes some h one =
+    let at = counted_at os i (suc i) o refl less is ∙ ap (λ b. counted b + count_by may_change (meanings (drop (suc i) os))) changes in
+    let before = ap counted some in
+    omega (arith, at, h, before, one)
+
+-- where none is left, what was found is all
+pub count_end : (os : List code.Operation) (i : ℕ) (found : Option (Bor code.Operation)) → length os ≤ i → Counts found (drop i os) os → IfNone found (count_by may_change (meanings os) ≢ 1)
+count_end os i None le h = λ one. let none = h ∙ ap (λ l. 0 + count_by may_change (meanings l)) (drop_all i os le) in omega (arith, none, one)
+count_end os i (Some o) le h = tt

@@ -1,5 +1,5 @@
 -- The place below which a patch changes a document, and documents that differ below one place alone.
-use Rattle.std.specs.Prelude.{◌≡◌, ◌⊎◌, ⊤, List, [], ◌∷◌, Bool, true, false, ◌&&◌, Option, Some, None, Ok}
+use Rattle.std.specs.Prelude.{◌≡◌, ◌⊎◌, ◌↔◌, ⊤, List, [], ◌∷◌, Bool, true, false, ◌&&◌, Option, Some, None, Ok}
 use Rattle.std.specs.Str.{bytes_eq}
 use Rattle.doc_tree.specs.Doc.{Doc}
 use Rattle.doc_pointer.specs.Place.{child_named}
@@ -58,10 +58,10 @@ abbrev pub LeadsToFound : Tokens → Option Tokens → Type 0
 LeadsToFound ts None = ⊤
 LeadsToFound ts (Some us) = leads_to ts us ≡ true
 
--- what leads to the new place leads to the old one, and to all that the operation reaches
+-- what leads to the new place is what leads to the old one, and to all that the operation reaches
 abbrev pub Narrows : Option Tokens → Option Tokens → Operation → Type 0
-Narrows new old o = (ts : Tokens) → LeadsToFound ts new → LeadsToFound ts old × (leads_to_each ts (reaches o) ≡ true)
+Narrows new old o = (ts : Tokens) → (LeadsToFound ts new ↔ (LeadsToFound ts old × (leads_to_each ts (reaches o) ≡ true)))
 
--- what leads to the result leads to the place that was found, and to the other
+-- what leads to the result is what leads to the place that was found, and to the other
 abbrev pub IsWithin : Tokens → Option Tokens → Tokens → Type 0
-IsWithin result found place = (ts : Tokens) → leads_to ts result ≡ true → LeadsToFound ts found × (leads_to ts place ≡ true)
+IsWithin result found place = (ts : Tokens) → ((leads_to ts result ≡ true) ↔ (LeadsToFound ts found × (leads_to ts place ≡ true)))

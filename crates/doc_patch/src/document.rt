@@ -55,7 +55,7 @@ impl Model for Document {
 impl Document {
     /// The document of that tree, by a walk over it, or the tree again, if it is over `limits`.
     pub fn new(tree: Tree) -> Result<Document, Tree>
-        ensures { MatchResult result (λ d. d ≡ view tree) (λ _. IsWithin (view tree) → ⊥) }
+        ensures { MatchResult result (λ d. d ≡ view tree) (λ back. (view back ≡ view tree) × (IsWithin (view tree) → ⊥)) }
     {
         if tree.height() > DOCUMENT_HEIGHT {
             return Err(tree);

@@ -6,13 +6,13 @@
 //! A `Document` is within the limits and knows the length of its text, so no patch of it need walk over the whole.
 //! `Document::apply` changes it where it is, and answers a `Reversal` that makes it what it was and takes no memory;
 //! `Document::apply_for_good` keeps nothing to take it back. `Patch::apply` answers what the operations make of another
-//! tree, which never changes. `Patch::apply_in_place` changes a tree that isn't measured; no crate here calls it.
+//! tree, which never changes.
 //! All equal their definitions in `specs/Reading.antt` and `specs/Patch.antt` exactly, with refusals and their order.
 //! After each operation the document is within `limits`, which are judged from what changed. What one operation makes
 //! is in `doc_edits`.
 //!
-//! What an operation costs. `apply` takes one copy of the document beside it, and `apply_in_place` one walk over what
-//! the first operation made:
+//! What an operation costs. `Patch::apply` takes beside it one copy of the document, and one walk over what the first
+//! operation made:
 //! - every operation: the names on its way, each looked up in its object; nothing of the values
 //!   that it passes.
 //! - `add`, `replace`: a copy of the new value, a walk over it, and one over a value that goes.
@@ -49,4 +49,3 @@ pub use doc_edits::index_within;
 pub use document::{Document, Reversal};
 pub use fault::PatchFault;
 pub use patch::Patch;
-pub use undo::Undo;

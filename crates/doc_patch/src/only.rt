@@ -1,6 +1,6 @@
 //! The one operation of a patch that changes anything.
 
-ghost use Rattle.std.specs.Prelude.{◌≡◌, Ok, IfSome};
+ghost use Rattle.std.specs.Prelude.{◌≡◌, ◌≢◌, Ok, IfNone, IfSome, count_by};
 ghost use Rattle.doc_edits.specs.Meaning.{meaning};
 ghost use Rattle.doc_edits.specs.Operation.{change};
 ghost use Rattle.doc_patch.specs.Meaning.{operations};
@@ -14,7 +14,8 @@ use doc_edits::Operation;
 impl Patch {
     /// The one operation that changes anything, if all others are tests. `None` if there are more, or none.
     pub fn only_change(&self) -> Option<&Operation>
-        ensures { IfSome result (λ o. (d e : Doc) → patch (operations self.now) d ≡ Ok e → change (meaning o.now) d ≡ Ok e) }
+        ensures some { IfSome result (λ o. (d e : Doc) → patch (operations self.now) d ≡ Ok e → change (meaning o.now) d ≡ Ok e) }
+        ensures none { IfNone result (count_by may_change (operations self.now) ≢ 1) }
     {
         let mut found = None;
         for operation in &self.operations {

@@ -1,19 +1,18 @@
 //! A patch is a list of operations, applied all or none.
 
-ghost use Rattle.std.specs.Prelude.{◌≡◌, Ok, Some, IfOk, MatchResult, OnErr, is_some, true};
+ghost use Rattle.std.specs.Prelude.{◌≡◌, Ok, IfOk, MatchResult, is_some, true};
 ghost use Rattle.std.specs.Option.{ForSome};
 ghost use Rattle.doc_patch.specs.Fault.{IsFaultOf};
 ghost use Rattle.doc_edits.specs.SizeChange.{IsMeasured};
 ghost use Rattle.doc_patch.specs.Keeping.{IsWhole, kept};
 ghost use Rattle.doc_patch.specs.Meaning.{operations};
 ghost use Rattle.doc_patch.specs.Patch.{patch};
-ghost use Rattle.doc_patch.specs.Undo.{steps_back, taken_back};
+ghost use Rattle.doc_patch.specs.Undo.{steps_back};
 ghost use Rattle.doc_tree.specs.Sound.{IsSound};
 ghost use Rattle.doc_tree.specs.TreeView.{view};
 
 use crate::fault::PatchFault;
 use crate::log::Log;
-use crate::undo::Undo;
 use doc_edits::{DocumentSize, Operation};
 use doc_tree::Tree;
 use std::alloc::Global;
@@ -87,58 +86,8 @@ impl Patch {
         Ok(after.unwrap())
     }
 
-    /// Makes of the document what the operations say, one after the other, and answers what takes them all back.
-    ///
-    /// Refuses as `apply` does, and then leaves the document as it was.
-    pub fn apply_in_place(&self, alloc: Global, tree: &mut Tree) -> Result<Undo, PatchFault>
-        ensures made { let made = patch (operations self.now) (view tree.old) in
-            MatchResult result (λ _. made ≡ Ok (view tree.new)) (IsFaultOf made) }
-        ensures undo { IfOk result (λ undo. taken_back undo (view tree.new) ≡ Some (view tree.old)) }
-        ensures unchanged { OnErr result (view tree.new ≡ view tree.old) }
-        ensures sound { IsSound (view tree.old) → IfOk result (λ _. IsSound (view tree.new)) }
-    {
-        let mut log = Log::new(alloc);
-        match self.apply_from(alloc, tree, &mut log, None) {
-            Ok(_) => Ok(Undo { steps: log.steps }),
-            Err(fault) => {
-                Undo { steps: log.steps }.take_back(tree);
-                Err(fault)
-            }
-        }
-    }
-
-    // Makes of the document what the operations say, and keeps what takes them back, up to the first that is refused.
-    fn apply_from(
-        &self,
-        alloc: Global,
-        tree: &mut Tree,
-        log: &mut Log,
-        before: Option<DocumentSize>,
-    ) -> Result<Option<DocumentSize>, PatchFault>
-        requires measured { ForSome before (λ m. IsMeasured m (view tree.old)) }
-        requires whole { IsWhole log.old }
-        ensures made { let made = patch (operations self.now) (view tree.old) in
-            MatchResult result (λ _. made ≡ Ok (view tree.new)) (IsFaultOf made) }
-        ensures measured { IfOk result (λ after. ForSome after (λ m. IsMeasured m (view tree.new))) }
-        ensures known { IfOk result (λ after. is_some before ≡ true → is_some after ≡ true) }
-        ensures back { steps_back (kept log.new) (view tree.new) ≡ steps_back (kept log.old) (view tree.old) }
-        ensures sound { IsSound (view tree.old) → IfOk result (λ _. IsSound (view tree.new)) }
-    {
-        let mut measure = before;
-        let mut known = None;
-        for (index, operation) in self.operations.iter().enumerate() {
-            match log.apply(alloc, tree, operation, measure, known) {
-                Ok(after) => {
-                    measure = Some(after.measure);
-                    known = after.known;
-                }
-                Err(refused) => return Err(PatchFault::of(refused, index as u64)),
-            }
-        }
-        Ok(measure)
-    }
-
-    /// The same of a document that is measured, which is measured after it too.
+    /// Makes of a document that is measured what the operations say, and answers its measure after it; the log keeps
+    /// what takes back those before the first that is refused.
     pub(crate) fn apply_each(
         &self,
         alloc: Global,
@@ -154,7 +103,17 @@ impl Patch {
         ensures back { steps_back (kept log.new) (view tree.new) ≡ steps_back (kept log.old) (view tree.old) }
         ensures sound { IsSound (view tree.old) → IfOk result (λ _. IsSound (view tree.new)) }
     {
-        let after = self.apply_from(alloc, tree, log, Some(before))?;
-        Ok(after.unwrap())
+        let mut measure = before;
+        let mut known = None;
+        for (index, operation) in self.operations.iter().enumerate() {
+            match log.apply(alloc, tree, operation, Some(measure), known) {
+                Ok(after) => {
+                    measure = after.measure;
+                    known = after.known;
+                }
+                Err(refused) => return Err(PatchFault::of(refused, index as u64)),
+            }
+        }
+        Ok(measure)
     }
 }

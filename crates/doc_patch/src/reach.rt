@@ -5,7 +5,7 @@ ghost use Rattle.doc_edits.specs.Change.{tokens_of};
 ghost use Rattle.doc_edits.specs.Edit.{Tokens};
 ghost use Rattle.doc_edits.specs.Meaning.{meaning};
 ghost use Rattle.doc_patch.specs.Meaning.{operations};
-ghost use Rattle.doc_patch.specs.Within.{IsWithin, Narrows, Unchanging, holder, holds_all};
+ghost use Rattle.doc_patch.specs.Within.{IsWithin, Narrows, Unchanging, holder, holds_all, leads_to};
 
 use crate::patch::Patch;
 use doc_edits::Operation;
@@ -16,6 +16,7 @@ impl Patch {
     /// anything. Takes no memory.
     pub fn reach(&self) -> Option<&[String]>
         ensures some { IfSome result (λ place. holds_all (tokens_of place.now) (operations self.now) ≡ true) }
+        ensures longest { IfSome result (λ place. (ts : Tokens) → holds_all ts (operations self.now) ≡ true → leads_to ts (tokens_of place.now) ≡ true) }
         ensures none { IfNone result (Unchanging (operations self.now)) }
     {
         let mut found = None;

@@ -1,9 +1,10 @@
 //! The frame of a patch in parts that are lent: whoever replays it reads its operations straight to a patch.
-ghost use Rattle.std.specs.Prelude.{◌≡◌, ◌≤◌, None, IfSome};
+ghost use Rattle.std.specs.Prelude.{◌≡◌, ◌≤◌, ◌+◌, None, IfSome};
 ghost use Rattle.doc_tree.specs.Doc.{Doc, height};
 ghost use Rattle.doc_tree.specs.Sound.{IsSound};
 ghost use Rattle.doc_tree.specs.Text.{text_of};
 ghost use Rattle.record_text.specs.Change.{patch};
+ghost use Rattle.record_text.specs.Fault.{HasBody, stated_len, stated_seq};
 ghost use Rattle.record_text.specs.Frame.{BeginsWith, entry};
 
 use crate::plain::patch_parts;
@@ -29,8 +30,10 @@ pub struct PatchFrame<'b> {
 /// `None` says nothing: the bytes begin with no frame, or with one of another change, or the name holds an
 /// escape.
 pub fn patch_frame(bytes: &[u8]) -> Option<PatchFrame<'_>>
-    ensures { IfSome result (λ f. (ops : Doc) → f.ops.now ≡ text_of ops → IsSound ops → height ops ≤ 126
+    ensures begins { IfSome result (λ f. (ops : Doc) → f.ops.now ≡ text_of ops → IsSound ops → height ops ≤ 126
         → BeginsWith bytes.now (entry f.seq (patch f.name.now ops None)) f.len) }
+    ensures seq { IfSome result (λ f. f.seq ≡ stated_seq bytes.now) }
+    ensures len { IfSome result (λ f. HasBody 12 bytes.now × (f.len ≡ 12 + stated_len bytes.now)) }
 {
     let Ok(seq) = seq_within(bytes) else {
         return None;

@@ -3,8 +3,8 @@ use Rattle.record_text.specs.Change.{patch}
 use Rattle.record_text.proofs.Frames.{begins}
 use Rattle.record_text.proofs.lent.patch_frame.Goals as goal
 
-pub returns : goal.returns
-returns c = λ ops is sound low.
+pub returns-clause-begins : goal.returns-clause-begins
+returns-clause-begins c = λ ops is sound low.
     let b = c.in-Ok-body_within.ensures in
     let fits : c.in-Ok.seq < 2 ^ 64 = search rules in
     let text = c.in_ok-name.ensures ops is sound low in
