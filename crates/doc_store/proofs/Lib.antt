@@ -7,4 +7,5 @@ mod Pumps
 mod Single
 pub mod Telling
 mod Timing
+mod Unlived
 pub use Rattle.store_commits.proofs.Running

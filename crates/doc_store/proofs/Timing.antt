@@ -93,17 +93,20 @@ module _ {D : Type 0} (disk : D → Disk) (start : StoreView D) (stop opening : 
     pub spent : ℕ
     pub timely : Begun → (final : ℕ) → faults_of x ≤ final → AreInTime stop (final - faults_of start) opening start.account es rs spent x.account hit
     pub has : Begun → x.account.broken ≡ false → HasSpent stop spent (disk x.device)
+    pub same : x.account.broken ≡ false → faults_of x ≡ faults_of start
 
   module _ (es : List Event) (rs : List Reply) (mid end : StoreView D) (e : Event) (r : Reply) (hit : Option Hit) (before : SoFar es rs mid hit) (answered : Answered mid.account e r end.account)
       (leaves : Leaves disk end (hit_with hit mid.account e r)) where
     after : faults_of mid ≤ faults_of end → (Begun → (final : ℕ) → faults_of end ≤ final → IsInTime stop (final - faults_of start) before.spent mid.account e r)
-        → (Begun → end.account.broken ≡ false → HasSpent stop (spent_with before.spent mid.account e r) (disk end.device)) → SoFar (es ++ e ∷ []) (rs ++ r ∷ []) end (hit_with hit mid.account e r)
-    after later in_time has = record {
+        → (Begun → end.account.broken ≡ false → HasSpent stop (spent_with before.spent mid.account e r) (disk end.device)) → (end.account.broken ≡ false → faults_of end ≡ faults_of start)
+        → SoFar (es ++ e ∷ []) (rs ++ r ∷ []) end (hit_with hit mid.account e r)
+    after later in_time has same = record {
       leaves = leaves;
       later = omega (arith, before.later, later);
       spent = spent_with before.spent mid.account e r;
       timely = λ begun final le. and_more es rs before.spent mid.account e r end.account hit (before.timely begun final (omega (arith, le, later))) answered (in_time begun final le);
       has = has;
+      same = same;
     }
 
     -- it was done
@@ -113,6 +116,7 @@ module _ {D : Type 0} (disk : D → Disk) (start : StoreView D) (stop opening : 
     after_done works made in_time spent =
         let has = λ (begun : Begun). spends stop before.spent (cost_of mid.account e) (disk mid.device) (disk end.device) (before.has begun works) made in
         after (omega (arith, made.own_failures)) (λ begun final le. in_time (final - faults_of start) (has begun).within) (λ begun still. subst (λ (n : ℕ). HasSpent stop n (disk end.device)) spent (has begun))
+        (λ still. made.own_failures ∙ before.same works)
 
     -- a fault hit it
     after_hit : mid.account.broken ≡ false → end.account.broken ≡ true → Failed (disk mid.device) (disk end.device) (cost_of mid.account e)
@@ -121,7 +125,7 @@ module _ {D : Type 0} (disk : D → Disk) (start : StoreView D) (stop opening : 
         after failed.later_faults
         (λ begun final le. in_time (final - faults_of start) (λ none. ⊎_elim (λ past. past) (λ more. omega (arith, none, more, le, before.later))
         (short stop before.spent (cost_of mid.account e) (disk mid.device) (disk end.device) (before.has begun works) failed)))
-        (λ begun still. (let contrary = sym broken ∙ still in absurd (cc contrary)))
+        (λ begun still. (let contrary = sym broken ∙ still in absurd (cc contrary))) (λ still. (let contrary = sym broken ∙ still in absurd (cc contrary)))
 
     -- it was refused, and the device was not called
     after_refused : end.device ≡ mid.device → (end.account.broken ≡ false → mid.account.broken ≡ false) → ((faults : ℕ) → IsInTime stop faults before.spent mid.account e r)
@@ -129,7 +133,7 @@ module _ {D : Type 0} (disk : D → Disk) (start : StoreView D) (stop opening : 
     after_refused same works in_time spent =
         let level = ap (λ (d : D). (disk d).own_failures) same in
         after (omega (arith, level)) (λ begun final le. in_time (final - faults_of start))
-        (λ begun still. subst (λ (n : ℕ). HasSpent stop n (disk end.device)) spent (subst (λ (d : D). HasSpent stop before.spent (disk d)) (sym same) (before.has begun (works still))))
+        (λ begun still. subst (λ (n : ℕ). HasSpent stop n (disk end.device)) spent (subst (λ (d : D). HasSpent stop before.spent (disk d)) (sym same) (before.has begun (works still)))) (λ still. level ∙ before.same (works still))
 
   after_one : (es : List Event) (rs : List Reply) (mid end : StoreView D) (e : Event) (r : Reply) (hit : Option Hit) → SoFar es rs mid hit → Answered mid.account e r end.account → IsCharged disk mid e r end
       → IsStandingAs (disk end.device) end.account → LeavesThen (disk end.device) mid.account e r end.account → SoFar (es ++ e ∷ []) (rs ++ r ∷ []) end (hit_with hit mid.account e r)
@@ -169,7 +173,7 @@ module _ {D : Type 0} (disk : D → Disk) (start : StoreView D) (stop opening : 
 
   module _ (works : start.account.broken ≡ false) (stands : IsStandingAs (disk start.device) start.account) where
     pub so_far : (es : List Event) (rs : List Reply) (x : StoreView D) (hit : Option Hit) → Asked disk start es rs x hit → SoFar es rs x hit
-    so_far _ _ _ _ none_asked = record { leaves = working disk start None stands works; later = omega arith; spent = opening; timely = λ begun final le. opened; has = λ begun works. begun }
+    so_far _ _ _ _ none_asked = record { leaves = working disk start None stands works; later = omega arith; spent = opening; timely = λ begun final le. opened; has = λ begun works. begun; same = λ works. refl }
     so_far _ _ _ _ (one_asked es rs mid e r end hit asked answered charged standing leaves) = after_one es rs mid end e r hit (so_far es rs mid hit asked) answered charged standing leaves
 
 -- an opening and events, through a fuse of so many calls
@@ -189,6 +193,7 @@ timely_from {D} disk given start end stop es rs hit works stands found sectors m
       spent = far.spent;
       hit = hit;
       timely = subst (λ (n : ℕ). AreInTime stop ((disk end.device).own_failures - n) opening start.account es rs far.spent end.account hit) made.own_failures (far.timely begun_is (disk end.device).own_failures (omega arith));
+      none = λ works. (let one = far.same works in let two = made.own_failures in omega (arith, one, two));
       leaves = far.leaves honest t.image is_left;
       settles = settles;
     }

@@ -5,6 +5,7 @@ pub mod Formats
 pub mod Found
 pub mod Leaving
 pub mod Lives
+pub mod LivesRefused
 pub mod Naming
 pub mod Opening
 pub mod Promise
@@ -20,7 +21,6 @@ pub use Rattle.store_commits.specs.Charged
 pub use Rattle.store_commits.specs.Committed
 pub use Rattle.store_commits.specs.Events
 pub use Rattle.store_commits.specs.Extents
-pub use Rattle.store_commits.specs.Faults
 pub use Rattle.store_commits.specs.Folds
 pub use Rattle.store_commits.specs.Pumping
 pub use Rattle.store_commits.specs.Room

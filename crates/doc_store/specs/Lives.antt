@@ -12,7 +12,6 @@ use Rattle.store_commits.specs.Run.{Event, IsRun}
 use Rattle.store_commits.specs.declared.event.Reply.{Reply}
 use Rattle.store_commits.specs.Images.{Stands}
 use Rattle.store_commits.specs.Events.{event_of}
-use Rattle.doc_store.specs.Opening.{OpenFailed}
 use Rattle.doc_store.specs.declared.life.Life.{Life}
 use Rattle.doc_store.specs.declared.life.Part.{Part}
 
@@ -83,14 +82,3 @@ AllStand disk s = (image : Image) → disk.left image → Stands s image
 -- the same of a disk in memory, by its history
 abbrev pub DiskStands : MemDisk → State → Type 0
 DiskStands disk s = (image : Image) → left_after disk.history image → Stands s image
-
--- The lives gave these parts and left a state, every image of the disk after them holds it, and one of the disk's own
--- calls failed when it was opened.
-pub record FailsAtLast (s : State) (lives : List Life) : Type 0 where
-  pub parts : List Part
-  pub state : State
-  pub lived : IsLives s lives parts state
-  pub before : MemDisk
-  pub after : MemDisk
-  pub stand : AllStand (mem_disk before) state
-  pub failed : OpenFailed (mem_disk before) (mem_disk after)

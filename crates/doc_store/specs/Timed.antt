@@ -1,5 +1,5 @@
 -- Lives by the clock of their device: each call counts one, and the fuse stops it after `stop` calls.
-use Rattle.std.specs.Prelude.{◌≡◌, ℕ, ◌+◌, ◌≤◌, ◌<◌, List, [], ◌∷◌, ◌++◌, length, Bool, true, Option, Some, None}
+use Rattle.std.specs.Prelude.{◌≡◌, ℕ, ◌+◌, ◌≤◌, ◌<◌, List, [], ◌∷◌, ◌++◌, length, Bool, true, false, Option, Some, None}
 use Rattle.sector_device.specs.Disk.{Disk, Image}
 use Rattle.store_journal.specs.Carries.{EitherCarried}
 use Rattle.doc_changes.specs.State.{State}
@@ -56,6 +56,8 @@ pub record IsTimely (l : Left) (stop faults : ℕ) (events : List Event) (replie
   pub spent : ℕ
   pub hit : Option Hit
   pub timely : AreInTime stop faults (opening_cost found.stands.carried first.state) first events replies spent last hit
+  -- if the store works at the end, the disk itself had no fault
+  pub none : last.broken ≡ false → faults ≡ 0
   pub leaves : IsLeftAs hit last t.image
   pub settles : t.settled ≡ true
 

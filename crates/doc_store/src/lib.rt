@@ -44,3 +44,4 @@ pub use status::Status;
 pub use store::Store;
 pub use store_commits::{CopyState, Event, Pump, Reply};
 pub use store_journal::OpenFault;
+pub use whole::LivesFault;

@@ -34,6 +34,7 @@ pub(crate) fn live(alloc: Global, disk: MemDisk, life: Life) -> Result<Ended<Mem
         × (began_or ended.part t.seq ≡ s.seq) × AllStand (mem_disk ended.device) t) }
     ensures alone { IfOk result (λ ended. HasOneImage (mem_disk ended.device)) }
     ensures fresh { IfOk result (λ ended. (mem_disk ended.device).failures_saturated → ⊥) }
+    ensures uncounted { IfOk result (λ ended. (mem_disk ended.device).failures ≡ 0) }
     ensures rooms { IfOk result (λ ended. MayLackRoom (mem_disk ended.device) → MayLackRoom (mem_disk disk)) }
     ensures err { IfErr result (λ refusal. (refusal ≡ plain MEMORY) ⊎ ((refusal ≡ plain NO_ROOM) × LacksRoom (mem_disk disk).seen)) }
 {

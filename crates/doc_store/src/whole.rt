@@ -6,7 +6,8 @@ ghost use Rattle.doc_changes.specs.Refusals.{plain};
 ghost use Rattle.doc_changes.specs.State.{State};
 ghost use Rattle.refusals.specs.declared.numbers.TheConstants.{DEVICE, MEMORY, NO_ROOM};
 ghost use Rattle.doc_store.specs.Ending.{MayLackRoom, TimedIf, all_with_kept};
-ghost use Rattle.doc_store.specs.Lives.{AllStand, DiskStands, FailsAtLast, IsLives};
+ghost use Rattle.doc_store.specs.Lives.{AllStand, DiskStands, IsLives};
+ghost use Rattle.doc_store.specs.LivesRefused.{AreRefused, failures_after, refusal_of_lives};
 ghost use Rattle.doc_store.specs.Opening.{IsOpenedFrom};
 ghost use Rattle.doc_store.specs.Promise.{LivesKeep};
 ghost use Rattle.doc_store.specs.Timed.{HasOneImage, Timed, left};
@@ -18,6 +19,40 @@ use crate::store::Store;
 use doc_machine::Refusal;
 use sector_device::MemDisk;
 use std::alloc::Global;
+use store_journal::OpenFault;
+
+/// Why lives were not done to their end.
+#[derive(Drop)]
+pub enum LivesFault {
+    /// An opening, or the part of a life, was refused memory (`MEMORY`); or an opening was refused as `NO_ROOM`, which only
+    /// a disk in format 1 is.
+    InALife(Refusal),
+    /// The last opening was refused. The disk comes back as it is then.
+    AtLast(OpenFault<MemDisk>),
+}
+
+impl LivesFault {
+    /// The refusal of it.
+    pub fn refusal(&self) -> Refusal
+        ensures { result ≡ refusal_of_lives self.now }
+    {
+        match self {
+            LivesFault::InALife(refusal) => *refusal,
+            LivesFault::AtLast(fault) => Refusal::plain(fault.number),
+        }
+    }
+}
+
+impl From<Refusal> for LivesFault {
+    ghost use Rattle.std.specs.Prelude.{◌≡◌};
+    ghost use Rattle.doc_store.specs.declared.whole.LivesFault.TheVariants.{InALife};
+
+    ghost from_gives = { λ refusal fault. fault ≡ InALife refusal };
+
+    fn from(refusal: Refusal) -> LivesFault {
+        LivesFault::InALife(refusal)
+    }
+}
 
 impl Store<MemDisk> {
     /// Lives of a disk, one after another: the part of each, and the store that opens at last. In each life the disk is
@@ -40,11 +75,31 @@ impl Store<MemDisk> {
         ensures stands { (s : State) → AllStand (mem_disk disk) s → IfOk result (λ told. AllStand (mem_disk told.1.device) told.1.account.state) }
         ensures err { (s : State) → AllStand (mem_disk disk) s → IfErr result (λ refusal. (refusal ≡ plain MEMORY) ⊎ (refusal ≡ plain DEVICE)
             ⊎ ((refusal ≡ plain NO_ROOM) × MayLackRoom (mem_disk disk))) }
-        ensures failed { (s : State) → AllStand (mem_disk disk) s → IfErr result (λ refusal. refusal.number ≡ DEVICE → FailsAtLast s lives.items) }
+    {
+        match Store::lives_or_disk(alloc, disk, lives) {
+            Ok(told) => Ok(told),
+            Err(fault) => Err(fault.refusal()),
+        }
+    }
+
+    /// The same. If the last opening is refused the disk comes back: it says whether the disk failed.
+    pub fn lives_or_disk(
+        alloc: Global,
+        disk: MemDisk,
+        lives: Vec<Life>,
+    ) -> Result<(Vec<Part>, Store<MemDisk>), LivesFault>
+        ensures lives { (s : State) → AllStand (mem_disk disk) s → IfOk result (λ told. IsLives s lives.items told.0.items told.1.account.state) }
+        ensures promise { (s : State) → DiskStands disk s → IfOk result (λ told. LivesKeep s lives.items told.0.items told.1.account.state) }
+        ensures timed { (s : State) (settled : Bool) → AllStand (mem_disk disk) s → (settled ≡ true → HasOneImage (mem_disk disk)) → ((mem_disk disk).failures_saturated → ⊥)
+            → IfOk result (λ told. (image : Image) × (now : Bool) × IsOpenedFrom image told.1.account
+            × Timed (left s (mem_disk disk).seen settled) lives.items told.0.items (left told.1.account.state image now)) }
+        ensures works { IfOk result (λ told. (told.1.account.broken ≡ false) × (told.1.account.copy ≡ None)) }
+        ensures stands { (s : State) → AllStand (mem_disk disk) s → IfOk result (λ told. AllStand (mem_disk told.1.device) told.1.account.state) }
+        ensures err { (s : State) → AllStand (mem_disk disk) s → IfErr result (AreRefused s lives.items disk) }
     {
         let (mut parts, disk) = live_all(alloc, disk, lives)?;
         let store = match Store::open(alloc, disk) {
-            Err(fault) => return Err(Refusal::plain(fault.number)),
+            Err(fault) => return Err(LivesFault::AtLast(fault)),
             Ok(store) => store,
         };
         tell_kept(&mut parts, store.status().seq);
@@ -58,6 +113,7 @@ fn live_all(alloc: Global, disk: MemDisk, lives: Vec<Life>) -> Result<(Vec<Part>
         × TimedIf ((mem_disk disk).failures_saturated → ⊥) (left s (mem_disk disk).seen settled) lives.items (all_with_kept lived.0.items t.seq) (left t (mem_disk lived.1).seen now)
         × AllStand (mem_disk lived.1) t) }
     ensures rooms { IfOk result (λ lived. MayLackRoom (mem_disk lived.1) → MayLackRoom (mem_disk disk)) }
+    ensures counts { IfOk result (λ lived. (mem_disk lived.1).failures ≡ failures_after lives.items (mem_disk disk).failures) }
     ensures err { IfErr result (λ refusal. (refusal ≡ plain MEMORY) ⊎ ((refusal ≡ plain NO_ROOM) × MayLackRoom (mem_disk disk))) }
 {
     let mut disk = disk;
