@@ -4,8 +4,8 @@
     definitions.py CRATE::FUNCTION [--clause NAME] [--own] [--count]
     definitions.py --index | --check
 
-A definition comes after those that it cites. They are taken from the folders specs/ of the crates: what the kit defines,
-and the types of the code, are left out. With --clause only what that clause of the contract rests on is shown. With --own what
+A definition comes after those that it cites. They are taken from the folders specs/ of the crates: what the kit defines is
+left out, and of the code the constants and fields come last. With --clause only what that clause of the contract rests on is shown. With --own what
 the file serve_lines `Apart` names is left out: the public standards, with all on which they rest, and which image holds which
 state. With --count only the number of lines of each file is shown, blank lines apart; the last line has the sum. FUNCTION is a
 function or a method, such as serve_lines::serve or doc_store::lives. With --index each file is shown with the line that it
@@ -87,7 +87,7 @@ def parts_of(block):
 
 def names_begun(line):
     """The name that a top-level line defines or goes on defining."""
-    words = [word for word in line.split() if word not in ("pub", "abbrev", "record", "data", "mutual", "rec")]
+    words = [word for word in line.split() if word not in ("pub", "abbrev", "unfoldable", "record", "data", "mutual", "rec")]
     return {words[0].strip("(")} if words else set()
 
 
@@ -127,8 +127,34 @@ def contract_of(crate, function):
 
 
 def clauses_of(contract, name):
-    """The text of the clauses of that name."""
-    return "\n".join(re.findall(rf"^ *ensures {re.escape(name)} \{{.*?(?=^ *(?:requires|ensures|//|\{{)|\Z)", contract, re.M | re.S))
+    """The text of the clauses of that name, with the comment before each."""
+    clause = rf"(?:^ *// .*\n)*^ *ensures {re.escape(name)} \{{.*?(?=^ *(?:requires|ensures|//|\{{)|\Z)"
+    return "\n".join(re.findall(clause, contract, re.M | re.S))
+
+
+def from_code(order):
+    """The constants and the fields in the code that definitions name."""
+    found = {}
+    for file, block in order:
+        for word in words_in("\n".join(block)) & file.imports.keys():
+            crate, place, name = file.imports[word]
+            if place.startswith("declared."):
+                found[crate, name] = shown_in_code(crate, name)
+    return [f"{crate}: {said}" for (crate, _), said in sorted(found.items()) if said]
+
+
+def shown_in_code(crate, name):
+    """A constant with its value, or a struct with its fields; nothing of anything else."""
+    for path in sorted((ROOT / "crates" / crate / "src").rglob("*.rt")):
+        text = path.read_text(encoding="utf-8")
+        constant = re.search(rf"^pub const {name}: \w+ = (.*);$", text, re.M)
+        if constant:
+            return f"{name} is {constant[1]}"
+        struct = re.search(rf"^pub struct {name}(?:<[^{{]*>)? \{{\n(.*?)^\}}", text, re.M | re.S)
+        if struct:
+            fields = re.findall(r"^    (?:pub )?(\w+: .*),$", struct[1], re.M)
+            return f"{name} has {', '.join(fields)}"
+    return None
 
 
 def words_in(text):
@@ -191,7 +217,7 @@ def contract_names(call, clause):
         return None, []
     contract, imports = found
     contract = clauses_of(contract, clause) if clause else contract
-    return contract, [imports[word] for word in sorted(words_in(contract)) if word in imports]
+    return contract, [imports[word] for word in sorted(words_in(re.sub("//.*", "", contract))) if word in imports]
 
 
 def faults_of_apart(everything):
@@ -269,6 +295,8 @@ def main():
         lines[file.crate, file.path.stem] += len(block)
         if not given.count:
             print(f"{file.crate} {file.path.stem}\n" + "\n".join(block) + "\n")
+    if not given.count:
+        print("In the code:\n" + "".join(f"{said}\n" for said in from_code(order)))
     for (name, stem), number in sorted(lines.items()):
         print(f"{name} {stem}: {number} lines")
     print(f"{sum(lines.values())} lines of {len(order)} definitions in {len(lines)} files")

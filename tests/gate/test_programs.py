@@ -161,7 +161,7 @@ def why_a_user_without_rights_makes_and_opens_no_file(jpstore):
     other, how = as_nobody(jpstore)
     os.chmod(jpstore.file, 0o600 if how else 0)
     new = os.path.join(jpstore.folder, "new")
-    for words in (["check"], ["serve", "--batch", "8", "--pump", "1", "--halt"], ["upgrade", "--format", "2"]):
+    for words in (["check"], ["serve", "--batch", "8", "--pump", "1"], ["upgrade", "--format", "2"]):
         other.fails(words[0], jpstore.file, *words[1:], "--why", errors="jpstore: file\n" + reason("denied", 13, jpstore.file), **how)
         other.fails(words[0], jpstore.file, *words[1:], errors="jpstore: file\n", **how)
     other.fails("copy", jpstore.file, new, *SIXTEEN, "--why", errors="jpstore: file\n" + reason("denied", 13, jpstore.file), **how)
@@ -475,20 +475,6 @@ def changes_of_a_batch_meet_one_failure(jpstore):
     jpstore.shows("serve", jpstore.file, "--batch", "8", given=given, output=DONE + '{"ok":true,"seq":2}\n{"names":["d","e"],"ok":true}\n')
 
 
-def a_session_halts_at_a_fault_where_it_is_asked_to(jpstore):
-    long = CREATE.replace('"d"', '"e"').replace('{"a":1}', '"' + "x" * 600 + '"')
-    lines = CREATE + long + CREATE.replace('"d"', '"f"') + '{"cmd":"list"}\n'
-    full, broken = '{"error":"full","number":60,"ok":false}\n', '{"error":"broken","number":62,"ok":false}\n'
-    for options in ([], ["--batch", "4"]):
-        jpstore.run("format", jpstore.file, "--sectors", "3")
-        jpstore.shows("serve", jpstore.file, "--halt", *options, given=lines, output=DONE + full + 2 * broken, errors="jpstore: halted\n", status=1)
-        jpstore.shows("serve", jpstore.file, "--halt", *options, given='{"cmd":"list"}\n', output='{"names":["d"],"ok":true}\n')
-        os.remove(jpstore.file)
-        jpstore.run("format", jpstore.file, "--sectors", "3")
-        jpstore.shows("serve", jpstore.file, *options, given=lines, output=DONE + full + '{"ok":true,"seq":2}\n{"names":["d","f"],"ok":true}\n')
-        os.remove(jpstore.file)
-
-
 def a_transaction_over_its_documents_is_refused_alone(jpstore):
     # The text of the document has 1,000,000 bytes: 33 of it are within the limit of 33,554,432, and 34 are not.
     create = CREATE.replace('{"a":1}', f'"{"x" * 999_998}"')
@@ -498,7 +484,7 @@ def a_transaction_over_its_documents_is_refused_alone(jpstore):
     ) + '{"cmd":"rev","name":"d"}\n'
     large = '{"error":"transaction-large","number":65,"ok":false}\n'
     output = DONE + large + '{"ok":true,"seq":2}\n{"ok":true,"seq":35}\n{"ok":true,"seq":36}\n{"ok":true,"rev":36}\n'
-    for options in ([], ["--batch", "8"], ["--halt"], ["--halt", "--batch", "8"]):
+    for options in ([], ["--batch", "8"]):
         for version in ("2", "3"):
             jpstore.run("format", jpstore.file, "--sectors", "5000", "--format", version)
             jpstore.shows("serve", jpstore.file, *options, given=lines, output=output)
@@ -540,12 +526,12 @@ def words_that_are_no_call_end_with_2(jpstore):
         "", "frob", "mem", "mem --sectors 2", "mem --sectors 1048577", "mem --sectors x", "mem --sectors 16 x",
         "format --sectors 16", "format f", "format f --sectors 2", "format f --sectors 4294967297",
         "format f g --sectors 16", "format f --sectors 16 --format 1", "format f --sectors 16 --format 4",
-        "format f --sectors 16 --sparse --sparse", "format f --sectors 16 --sparse=true", "format f --sectors 16 --halt",
+        "format f --sectors 16 --sparse --sparse", "format f --sectors 16 --sparse=true",
         "serve", "serve f g", "serve f --pump 0", "serve f --pump 1000001", "serve f --pump", "serve f --pump 1 --pump 1",
         "serve f --batch 0", "serve f --batch 1025", "serve f --batch", "serve f --batch 2 --batch 2", "serve f --batch 2 3", "serve --batch 2",
         "mem --sectors 16 --batch 2", "mem --sectors 16 --pump 2", "serve -f", "check", "check f g",
         "copy f --sectors 16", "copy f g", "copy f g h --sectors 16", "copy f g --sectors 2", "copy f g --sectors 16 --batch 2",
-        "serve f --halt --halt", "serve f --halt yes", "serve f --sparse", "check f --halt", "upgrade", "upgrade f g", "upgrade f --format 1",
+        "serve f --halt", "serve f --sparse", "upgrade", "upgrade f g", "upgrade f --format 1",
         "upgrade f --format 4", "upgrade f --format", "upgrade f --sectors 16",
         "mem --sectors 16 --why", "check f --why --why", "serve f --why=yes", "check f --mode 600", "copy f g --sectors 16 --mode 600",
         "format f --sectors 16 --mode", "format f --sectors 16 --mode 8", "format f --sectors 16 --mode 600 --mode 600",
@@ -565,7 +551,7 @@ def options_stand_where_they_like(jpstore):
         os.remove(jpstore.file)
     jpstore.shows("mem", "--sectors=16", given=CREATE, output=DONE)
     counted = '{"cmd":"list"}\n'
-    for words in (["--batch", "1024", "--pump", "1"], ["--pump=1000000", "--batch=1"], ["--batch", "2"], ["--pump", "2"], ["--halt"], ["--halt", "--pump=1"]):
+    for words in (["--batch", "1024", "--pump", "1"], ["--pump=1000000", "--batch=1"], ["--batch", "2"], ["--pump", "2"]):
         jpstore.run("format", jpstore.file, *SIXTEEN)
         jpstore.shows("serve", jpstore.file, *words, given=CREATE + counted, output=DONE + '{"names":["d"],"ok":true}\n')
         jpstore.shows("serve", *words, jpstore.file, given=counted, output='{"names":["d"],"ok":true}\n')
@@ -594,7 +580,6 @@ def help_ends_with_0(jpstore):
         (["serve", "--help"], "--pump <N>"),
         (["check", "--help"], "Usage: jpstore check [OPTIONS] <FILE>\n"),
         (["copy", "--help"], "Usage: jpstore copy [OPTIONS] --sectors <N> <FILE> <NEW>\n"),
-        (["serve", "--help"], "      --halt "),
         (["format", "--help"], "      --sparse "),
         (["format", "--help"], "--mode <MODE>"),
         (["check", "--help"], "      --why "),
@@ -662,7 +647,6 @@ TESTS = [
     input_that_cannot_be_read,
     a_device_that_fails_is_told_at_the_end,
     changes_of_a_batch_meet_one_failure,
-    a_session_halts_at_a_fault_where_it_is_asked_to,
     a_transaction_over_its_documents_is_refused_alone,
     a_copy_is_stepped_by_itself_where_an_option_asks_for_it,
     each_reply_comes_before_more_input_is_awaited,

@@ -19,8 +19,6 @@ is answered as the row says, or by 63; by 61 if the disk in memory was refused.
 - After a 61 changes are answered 62, and the disk opened again has the documents from before the step or from after it, or
   after the first of its lines.
 
-Rows with the word `!halting` are left out, since there the first 63 ends the session.
-
 In a row that takes over a twentieth of a second a step that was answered 63 is taken again over the same store, and state
 and writes are held once it is answered as the row says.
 
@@ -138,8 +136,6 @@ def rows_of(path):
     rows = []
     for text in re.split(r"^# ", path.read_text(encoding="utf-8"), flags=re.M)[1:]:
         name, *lines = (line for line in text.split("\n") if line)
-        if any(line.startswith("!halting ") for line in lines):
-            continue
         choices = [line[1:].split(" ") for line in lines if line.startswith("@")]
         for values in itertools.product(*(choice[1:] for choice in choices)):
             chosen = {"%" + choice[0] + "%": value for choice, value in zip(choices, values)}

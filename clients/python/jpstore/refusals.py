@@ -130,8 +130,8 @@ _ROWS = [
             "system is full; the next opening shows whether it is stored",
             _OPEN_AGAIN),
     Refusal(62, "broken",
-            "the device failed before, or `serve --halt` halted; nothing is written any more, and without `--halt` "
-            "questions are answered from the state after the last change that was answered as done",
+            "the device failed before; nothing is written any more, and questions are answered from the state after "
+            "the last change that was answered as done",
             _OPEN_AGAIN),
     Refusal(63, "memory",
             "the program ran out of memory for this line or its batch; nothing was changed",
@@ -181,10 +181,8 @@ COMPLAINTS: Dict[str, str] = {
     "file": "FILE, or NEW of `copy`, cannot be made or opened; `--why` tells the cause",
     "no-space": "the disk, a quota or a limit has no room for the new file; no file is left",
     "in-use": "another command uses FILE, under this name or another; no byte of it was read or changed",
-    "device": "the device failed during the session; later changes were answered 62 (after a halt all lines), and the "
-              "replies that were written are true",
-    "halted": "with `--halt`, a change was refused by 60 or 63, or a line by 63 as it was read; all later lines were "
-              "answered 62, and the replies that were written are true",
+    "device": "the device failed during the session; later changes were answered 62, and the replies that were written "
+              "are true",
     "reader": "standard input or output failed",
     "writer": "standard input or output failed",
     "memory": "the program ran out of memory for its own buffers",

@@ -290,148 +290,84 @@ format_read file sectors None None false false h s v m =
     record { rows = _; met = read.0; taken = read.1; holds = (refl, refl, refl, refl, refl, refl, refl) }
 
 -- what is found for the arguments of `serve`
-abbrev FoundServe : Text → Option Text → Option Text → Bool → Bool → List Row → Type 0
-FoundServe file batch pump halt why rows =
+abbrev FoundServe : Text → Option Text → Option Text → Bool → List Row → Type 0
+FoundServe file batch pump why rows =
     HoldsFile file rows × (one_of (codes "batch") rows ≡ batch) × (first_of (codes "batch") rows ≡ batch)
-    × (one_of (codes "pump") rows ≡ pump) × (first_of (codes "pump") rows ≡ pump) × HoldsFlag (codes "halt") halt rows × HoldsFlag (codes "why") why rows
+    × (one_of (codes "pump") rows ≡ pump) × (first_of (codes "pump") rows ≡ pump) × HoldsFlag (codes "why") why rows
 
-batch_first_read : (file : Text) (batch pump : Option Text) (halt why : Bool) → IsPlain file → IfSome batch (IsChecked 1 MAX_BATCH) → IfSome pump (IsChecked 1 MAX_PUMP)
-    → Read (codes "serve" ∷ file ∷ option_words (codes "--batch") batch ++ option_words (codes "--pump") pump ++ flag_words (codes "--halt") halt ++ flag_words (codes "--why") why)
-    (codes "serve") (FoundServe file batch pump halt why)
+batch_first_read : (file : Text) (batch pump : Option Text) (why : Bool) → IsPlain file → IfSome batch (IsChecked 1 MAX_BATCH) → IfSome pump (IsChecked 1 MAX_PUMP)
+    → Read (codes "serve" ∷ file ∷ option_words (codes "--batch") batch ++ option_words (codes "--pump") pump ++ flag_words (codes "--why") why)
+    (codes "serve") (FoundServe file batch pump why)
 unfolding clap_on_literals
-batch_first_read file (Some batch) (Some pump) true true h b p =
-    let walked = goes (plain_step serve_built None 1 file h refl) (goes (met serve_built (standing [] (Some (codes "file", file ∷ [])) idle 2) (codes "--batch") refl) (goes (value_step serve_built (given (codes "file") file ∷ []) (codes "batch") 2 batch b.0) (goes (met serve_built (standing (given (codes "file") file ∷ []) (Some (codes "batch", batch ∷ [])) idle 2) (codes "--pump") (simp b.1)) (goes (value_step serve_built (given (codes "file") file ∷ given (codes "batch") batch ∷ []) (codes "pump") 2 pump p.0) (goes (met serve_built (standing (given (codes "file") file ∷ given (codes "batch") batch ∷ []) (Some (codes "pump", pump ∷ [])) idle 2) (codes "--halt") (simp p.1)) (goes (met serve_built (standing (given (codes "file") file ∷ given (codes "batch") batch ∷ given (codes "pump") pump ∷ flag_row (codes "halt") true ∷ []) None idle 2) (codes "--why") refl) (gone serve_built (standing (given (codes "file") file ∷ given (codes "batch") batch ∷ given (codes "pump") pump ∷ flag_row (codes "halt") true ∷ flag_row (codes "why") true ∷ []) None idle 2)))))))) in
-    let read = read_by (file ∷ codes "--batch" ∷ batch ∷ codes "--pump" ∷ pump ∷ codes "--halt" ∷ codes "--why" ∷ []) (codes "serve") serve_built (standing (given (codes "file") file ∷ given (codes "batch") batch ∷ given (codes "pump") pump ∷ flag_row (codes "halt") true ∷ flag_row (codes "why") true ∷ []) None idle 2) refl refl refl walked refl refl refl in
-    record { rows = _; met = read.0; taken = read.1; holds = (refl, refl, refl, refl, refl, refl, refl) }
-batch_first_read file (Some batch) (Some pump) true false h b p =
-    let walked = goes (plain_step serve_built None 1 file h refl) (goes (met serve_built (standing [] (Some (codes "file", file ∷ [])) idle 2) (codes "--batch") refl) (goes (value_step serve_built (given (codes "file") file ∷ []) (codes "batch") 2 batch b.0) (goes (met serve_built (standing (given (codes "file") file ∷ []) (Some (codes "batch", batch ∷ [])) idle 2) (codes "--pump") (simp b.1)) (goes (value_step serve_built (given (codes "file") file ∷ given (codes "batch") batch ∷ []) (codes "pump") 2 pump p.0) (goes (met serve_built (standing (given (codes "file") file ∷ given (codes "batch") batch ∷ []) (Some (codes "pump", pump ∷ [])) idle 2) (codes "--halt") (simp p.1)) (gone serve_built (standing (given (codes "file") file ∷ given (codes "batch") batch ∷ given (codes "pump") pump ∷ flag_row (codes "halt") true ∷ []) None idle 2))))))) in
-    let read = read_by (file ∷ codes "--batch" ∷ batch ∷ codes "--pump" ∷ pump ∷ codes "--halt" ∷ []) (codes "serve") serve_built (standing (given (codes "file") file ∷ given (codes "batch") batch ∷ given (codes "pump") pump ∷ flag_row (codes "halt") true ∷ []) None idle 2) refl refl refl walked refl refl refl in
-    record { rows = _; met = read.0; taken = read.1; holds = (refl, refl, refl, refl, refl, refl, refl) }
-batch_first_read file (Some batch) (Some pump) false true h b p =
+batch_first_read file (Some batch) (Some pump) true h b p =
     let walked = goes (plain_step serve_built None 1 file h refl) (goes (met serve_built (standing [] (Some (codes "file", file ∷ [])) idle 2) (codes "--batch") refl) (goes (value_step serve_built (given (codes "file") file ∷ []) (codes "batch") 2 batch b.0) (goes (met serve_built (standing (given (codes "file") file ∷ []) (Some (codes "batch", batch ∷ [])) idle 2) (codes "--pump") (simp b.1)) (goes (value_step serve_built (given (codes "file") file ∷ given (codes "batch") batch ∷ []) (codes "pump") 2 pump p.0) (goes (met serve_built (standing (given (codes "file") file ∷ given (codes "batch") batch ∷ []) (Some (codes "pump", pump ∷ [])) idle 2) (codes "--why") (simp p.1)) (gone serve_built (standing (given (codes "file") file ∷ given (codes "batch") batch ∷ given (codes "pump") pump ∷ flag_row (codes "why") true ∷ []) None idle 2))))))) in
     let read = read_by (file ∷ codes "--batch" ∷ batch ∷ codes "--pump" ∷ pump ∷ codes "--why" ∷ []) (codes "serve") serve_built (standing (given (codes "file") file ∷ given (codes "batch") batch ∷ given (codes "pump") pump ∷ flag_row (codes "why") true ∷ []) None idle 2) refl refl refl walked refl refl refl in
-    record { rows = _; met = read.0; taken = read.1; holds = (refl, refl, refl, refl, refl, refl, refl) }
-batch_first_read file (Some batch) (Some pump) false false h b p =
+    record { rows = _; met = read.0; taken = read.1; holds = (refl, refl, refl, refl, refl, refl) }
+batch_first_read file (Some batch) (Some pump) false h b p =
     let walked = goes (plain_step serve_built None 1 file h refl) (goes (met serve_built (standing [] (Some (codes "file", file ∷ [])) idle 2) (codes "--batch") refl) (goes (value_step serve_built (given (codes "file") file ∷ []) (codes "batch") 2 batch b.0) (goes (met serve_built (standing (given (codes "file") file ∷ []) (Some (codes "batch", batch ∷ [])) idle 2) (codes "--pump") (simp b.1)) (goes (value_step serve_built (given (codes "file") file ∷ given (codes "batch") batch ∷ []) (codes "pump") 2 pump p.0) (gone serve_built (standing (given (codes "file") file ∷ given (codes "batch") batch ∷ []) (Some (codes "pump", pump ∷ [])) idle 2)))))) in
     let read = read_by (file ∷ codes "--batch" ∷ batch ∷ codes "--pump" ∷ pump ∷ []) (codes "serve") serve_built (standing (given (codes "file") file ∷ given (codes "batch") batch ∷ []) (Some (codes "pump", pump ∷ [])) idle 2) refl refl refl walked (simp p.1) refl refl in
-    record { rows = _; met = read.0; taken = read.1; holds = (refl, refl, refl, refl, refl, refl, refl) }
-batch_first_read file (Some batch) None true true h b p =
-    let walked = goes (plain_step serve_built None 1 file h refl) (goes (met serve_built (standing [] (Some (codes "file", file ∷ [])) idle 2) (codes "--batch") refl) (goes (value_step serve_built (given (codes "file") file ∷ []) (codes "batch") 2 batch b.0) (goes (met serve_built (standing (given (codes "file") file ∷ []) (Some (codes "batch", batch ∷ [])) idle 2) (codes "--halt") (simp b.1)) (goes (met serve_built (standing (given (codes "file") file ∷ given (codes "batch") batch ∷ flag_row (codes "halt") true ∷ []) None idle 2) (codes "--why") refl) (gone serve_built (standing (given (codes "file") file ∷ given (codes "batch") batch ∷ flag_row (codes "halt") true ∷ flag_row (codes "why") true ∷ []) None idle 2)))))) in
-    let read = read_by (file ∷ codes "--batch" ∷ batch ∷ codes "--halt" ∷ codes "--why" ∷ []) (codes "serve") serve_built (standing (given (codes "file") file ∷ given (codes "batch") batch ∷ flag_row (codes "halt") true ∷ flag_row (codes "why") true ∷ []) None idle 2) refl refl refl walked refl refl refl in
-    record { rows = _; met = read.0; taken = read.1; holds = (refl, refl, refl, refl, refl, refl, refl) }
-batch_first_read file (Some batch) None true false h b p =
-    let walked = goes (plain_step serve_built None 1 file h refl) (goes (met serve_built (standing [] (Some (codes "file", file ∷ [])) idle 2) (codes "--batch") refl) (goes (value_step serve_built (given (codes "file") file ∷ []) (codes "batch") 2 batch b.0) (goes (met serve_built (standing (given (codes "file") file ∷ []) (Some (codes "batch", batch ∷ [])) idle 2) (codes "--halt") (simp b.1)) (gone serve_built (standing (given (codes "file") file ∷ given (codes "batch") batch ∷ flag_row (codes "halt") true ∷ []) None idle 2))))) in
-    let read = read_by (file ∷ codes "--batch" ∷ batch ∷ codes "--halt" ∷ []) (codes "serve") serve_built (standing (given (codes "file") file ∷ given (codes "batch") batch ∷ flag_row (codes "halt") true ∷ []) None idle 2) refl refl refl walked refl refl refl in
-    record { rows = _; met = read.0; taken = read.1; holds = (refl, refl, refl, refl, refl, refl, refl) }
-batch_first_read file (Some batch) None false true h b p =
+    record { rows = _; met = read.0; taken = read.1; holds = (refl, refl, refl, refl, refl, refl) }
+batch_first_read file (Some batch) None true h b p =
     let walked = goes (plain_step serve_built None 1 file h refl) (goes (met serve_built (standing [] (Some (codes "file", file ∷ [])) idle 2) (codes "--batch") refl) (goes (value_step serve_built (given (codes "file") file ∷ []) (codes "batch") 2 batch b.0) (goes (met serve_built (standing (given (codes "file") file ∷ []) (Some (codes "batch", batch ∷ [])) idle 2) (codes "--why") (simp b.1)) (gone serve_built (standing (given (codes "file") file ∷ given (codes "batch") batch ∷ flag_row (codes "why") true ∷ []) None idle 2))))) in
     let read = read_by (file ∷ codes "--batch" ∷ batch ∷ codes "--why" ∷ []) (codes "serve") serve_built (standing (given (codes "file") file ∷ given (codes "batch") batch ∷ flag_row (codes "why") true ∷ []) None idle 2) refl refl refl walked refl refl refl in
-    record { rows = _; met = read.0; taken = read.1; holds = (refl, refl, refl, refl, refl, refl, refl) }
-batch_first_read file (Some batch) None false false h b p =
+    record { rows = _; met = read.0; taken = read.1; holds = (refl, refl, refl, refl, refl, refl) }
+batch_first_read file (Some batch) None false h b p =
     let walked = goes (plain_step serve_built None 1 file h refl) (goes (met serve_built (standing [] (Some (codes "file", file ∷ [])) idle 2) (codes "--batch") refl) (goes (value_step serve_built (given (codes "file") file ∷ []) (codes "batch") 2 batch b.0) (gone serve_built (standing (given (codes "file") file ∷ []) (Some (codes "batch", batch ∷ [])) idle 2)))) in
     let read = read_by (file ∷ codes "--batch" ∷ batch ∷ []) (codes "serve") serve_built (standing (given (codes "file") file ∷ []) (Some (codes "batch", batch ∷ [])) idle 2) refl refl refl walked (simp b.1) refl refl in
-    record { rows = _; met = read.0; taken = read.1; holds = (refl, refl, refl, refl, refl, refl, refl) }
-batch_first_read file None (Some pump) true true h b p =
-    let walked = goes (plain_step serve_built None 1 file h refl) (goes (met serve_built (standing [] (Some (codes "file", file ∷ [])) idle 2) (codes "--pump") refl) (goes (value_step serve_built (given (codes "file") file ∷ []) (codes "pump") 2 pump p.0) (goes (met serve_built (standing (given (codes "file") file ∷ []) (Some (codes "pump", pump ∷ [])) idle 2) (codes "--halt") (simp p.1)) (goes (met serve_built (standing (given (codes "file") file ∷ given (codes "pump") pump ∷ flag_row (codes "halt") true ∷ []) None idle 2) (codes "--why") refl) (gone serve_built (standing (given (codes "file") file ∷ given (codes "pump") pump ∷ flag_row (codes "halt") true ∷ flag_row (codes "why") true ∷ []) None idle 2)))))) in
-    let read = read_by (file ∷ codes "--pump" ∷ pump ∷ codes "--halt" ∷ codes "--why" ∷ []) (codes "serve") serve_built (standing (given (codes "file") file ∷ given (codes "pump") pump ∷ flag_row (codes "halt") true ∷ flag_row (codes "why") true ∷ []) None idle 2) refl refl refl walked refl refl refl in
-    record { rows = _; met = read.0; taken = read.1; holds = (refl, refl, refl, refl, refl, refl, refl) }
-batch_first_read file None (Some pump) true false h b p =
-    let walked = goes (plain_step serve_built None 1 file h refl) (goes (met serve_built (standing [] (Some (codes "file", file ∷ [])) idle 2) (codes "--pump") refl) (goes (value_step serve_built (given (codes "file") file ∷ []) (codes "pump") 2 pump p.0) (goes (met serve_built (standing (given (codes "file") file ∷ []) (Some (codes "pump", pump ∷ [])) idle 2) (codes "--halt") (simp p.1)) (gone serve_built (standing (given (codes "file") file ∷ given (codes "pump") pump ∷ flag_row (codes "halt") true ∷ []) None idle 2))))) in
-    let read = read_by (file ∷ codes "--pump" ∷ pump ∷ codes "--halt" ∷ []) (codes "serve") serve_built (standing (given (codes "file") file ∷ given (codes "pump") pump ∷ flag_row (codes "halt") true ∷ []) None idle 2) refl refl refl walked refl refl refl in
-    record { rows = _; met = read.0; taken = read.1; holds = (refl, refl, refl, refl, refl, refl, refl) }
-batch_first_read file None (Some pump) false true h b p =
+    record { rows = _; met = read.0; taken = read.1; holds = (refl, refl, refl, refl, refl, refl) }
+batch_first_read file None (Some pump) true h b p =
     let walked = goes (plain_step serve_built None 1 file h refl) (goes (met serve_built (standing [] (Some (codes "file", file ∷ [])) idle 2) (codes "--pump") refl) (goes (value_step serve_built (given (codes "file") file ∷ []) (codes "pump") 2 pump p.0) (goes (met serve_built (standing (given (codes "file") file ∷ []) (Some (codes "pump", pump ∷ [])) idle 2) (codes "--why") (simp p.1)) (gone serve_built (standing (given (codes "file") file ∷ given (codes "pump") pump ∷ flag_row (codes "why") true ∷ []) None idle 2))))) in
     let read = read_by (file ∷ codes "--pump" ∷ pump ∷ codes "--why" ∷ []) (codes "serve") serve_built (standing (given (codes "file") file ∷ given (codes "pump") pump ∷ flag_row (codes "why") true ∷ []) None idle 2) refl refl refl walked refl refl refl in
-    record { rows = _; met = read.0; taken = read.1; holds = (refl, refl, refl, refl, refl, refl, refl) }
-batch_first_read file None (Some pump) false false h b p =
+    record { rows = _; met = read.0; taken = read.1; holds = (refl, refl, refl, refl, refl, refl) }
+batch_first_read file None (Some pump) false h b p =
     let walked = goes (plain_step serve_built None 1 file h refl) (goes (met serve_built (standing [] (Some (codes "file", file ∷ [])) idle 2) (codes "--pump") refl) (goes (value_step serve_built (given (codes "file") file ∷ []) (codes "pump") 2 pump p.0) (gone serve_built (standing (given (codes "file") file ∷ []) (Some (codes "pump", pump ∷ [])) idle 2)))) in
     let read = read_by (file ∷ codes "--pump" ∷ pump ∷ []) (codes "serve") serve_built (standing (given (codes "file") file ∷ []) (Some (codes "pump", pump ∷ [])) idle 2) refl refl refl walked (simp p.1) refl refl in
-    record { rows = _; met = read.0; taken = read.1; holds = (refl, refl, refl, refl, refl, refl, refl) }
-batch_first_read file None None true true h b p =
-    let walked = goes (plain_step serve_built None 1 file h refl) (goes (met serve_built (standing [] (Some (codes "file", file ∷ [])) idle 2) (codes "--halt") refl) (goes (met serve_built (standing (given (codes "file") file ∷ flag_row (codes "halt") true ∷ []) None idle 2) (codes "--why") refl) (gone serve_built (standing (given (codes "file") file ∷ flag_row (codes "halt") true ∷ flag_row (codes "why") true ∷ []) None idle 2)))) in
-    let read = read_by (file ∷ codes "--halt" ∷ codes "--why" ∷ []) (codes "serve") serve_built (standing (given (codes "file") file ∷ flag_row (codes "halt") true ∷ flag_row (codes "why") true ∷ []) None idle 2) refl refl refl walked refl refl refl in
-    record { rows = _; met = read.0; taken = read.1; holds = (refl, refl, refl, refl, refl, refl, refl) }
-batch_first_read file None None true false h b p =
-    let walked = goes (plain_step serve_built None 1 file h refl) (goes (met serve_built (standing [] (Some (codes "file", file ∷ [])) idle 2) (codes "--halt") refl) (gone serve_built (standing (given (codes "file") file ∷ flag_row (codes "halt") true ∷ []) None idle 2))) in
-    let read = read_by (file ∷ codes "--halt" ∷ []) (codes "serve") serve_built (standing (given (codes "file") file ∷ flag_row (codes "halt") true ∷ []) None idle 2) refl refl refl walked refl refl refl in
-    record { rows = _; met = read.0; taken = read.1; holds = (refl, refl, refl, refl, refl, refl, refl) }
-batch_first_read file None None false true h b p =
+    record { rows = _; met = read.0; taken = read.1; holds = (refl, refl, refl, refl, refl, refl) }
+batch_first_read file None None true h b p =
     let walked = goes (plain_step serve_built None 1 file h refl) (goes (met serve_built (standing [] (Some (codes "file", file ∷ [])) idle 2) (codes "--why") refl) (gone serve_built (standing (given (codes "file") file ∷ flag_row (codes "why") true ∷ []) None idle 2))) in
     let read = read_by (file ∷ codes "--why" ∷ []) (codes "serve") serve_built (standing (given (codes "file") file ∷ flag_row (codes "why") true ∷ []) None idle 2) refl refl refl walked refl refl refl in
-    record { rows = _; met = read.0; taken = read.1; holds = (refl, refl, refl, refl, refl, refl, refl) }
-batch_first_read file None None false false h b p =
+    record { rows = _; met = read.0; taken = read.1; holds = (refl, refl, refl, refl, refl, refl) }
+batch_first_read file None None false h b p =
     let walked = goes (plain_step serve_built None 1 file h refl) (gone serve_built (standing [] (Some (codes "file", file ∷ [])) idle 2)) in
     let read = read_by (file ∷ []) (codes "serve") serve_built (standing [] (Some (codes "file", file ∷ [])) idle 2) refl refl refl walked refl refl refl in
-    record { rows = _; met = read.0; taken = read.1; holds = (refl, refl, refl, refl, refl, refl, refl) }
+    record { rows = _; met = read.0; taken = read.1; holds = (refl, refl, refl, refl, refl, refl) }
 
-pump_first_read : (file : Text) (batch pump : Option Text) (halt why : Bool) → IsPlain file → IfSome batch (IsChecked 1 MAX_BATCH) → IfSome pump (IsChecked 1 MAX_PUMP)
-    → Read (codes "serve" ∷ file ∷ option_words (codes "--pump") pump ++ option_words (codes "--batch") batch ++ flag_words (codes "--halt") halt ++ flag_words (codes "--why") why)
-    (codes "serve") (FoundServe file batch pump halt why)
+pump_first_read : (file : Text) (batch pump : Option Text) (why : Bool) → IsPlain file → IfSome batch (IsChecked 1 MAX_BATCH) → IfSome pump (IsChecked 1 MAX_PUMP)
+    → Read (codes "serve" ∷ file ∷ option_words (codes "--pump") pump ++ option_words (codes "--batch") batch ++ flag_words (codes "--why") why)
+    (codes "serve") (FoundServe file batch pump why)
 unfolding clap_on_literals
-pump_first_read file (Some batch) (Some pump) true true h b p =
-    let walked = goes (plain_step serve_built None 1 file h refl) (goes (met serve_built (standing [] (Some (codes "file", file ∷ [])) idle 2) (codes "--pump") refl) (goes (value_step serve_built (given (codes "file") file ∷ []) (codes "pump") 2 pump p.0) (goes (met serve_built (standing (given (codes "file") file ∷ []) (Some (codes "pump", pump ∷ [])) idle 2) (codes "--batch") (simp p.1)) (goes (value_step serve_built (given (codes "file") file ∷ given (codes "pump") pump ∷ []) (codes "batch") 2 batch b.0) (goes (met serve_built (standing (given (codes "file") file ∷ given (codes "pump") pump ∷ []) (Some (codes "batch", batch ∷ [])) idle 2) (codes "--halt") (simp b.1)) (goes (met serve_built (standing (given (codes "file") file ∷ given (codes "pump") pump ∷ given (codes "batch") batch ∷ flag_row (codes "halt") true ∷ []) None idle 2) (codes "--why") refl) (gone serve_built (standing (given (codes "file") file ∷ given (codes "pump") pump ∷ given (codes "batch") batch ∷ flag_row (codes "halt") true ∷ flag_row (codes "why") true ∷ []) None idle 2)))))))) in
-    let read = read_by (file ∷ codes "--pump" ∷ pump ∷ codes "--batch" ∷ batch ∷ codes "--halt" ∷ codes "--why" ∷ []) (codes "serve") serve_built (standing (given (codes "file") file ∷ given (codes "pump") pump ∷ given (codes "batch") batch ∷ flag_row (codes "halt") true ∷ flag_row (codes "why") true ∷ []) None idle 2) refl refl refl walked refl refl refl in
-    record { rows = _; met = read.0; taken = read.1; holds = (refl, refl, refl, refl, refl, refl, refl) }
-pump_first_read file (Some batch) (Some pump) true false h b p =
-    let walked = goes (plain_step serve_built None 1 file h refl) (goes (met serve_built (standing [] (Some (codes "file", file ∷ [])) idle 2) (codes "--pump") refl) (goes (value_step serve_built (given (codes "file") file ∷ []) (codes "pump") 2 pump p.0) (goes (met serve_built (standing (given (codes "file") file ∷ []) (Some (codes "pump", pump ∷ [])) idle 2) (codes "--batch") (simp p.1)) (goes (value_step serve_built (given (codes "file") file ∷ given (codes "pump") pump ∷ []) (codes "batch") 2 batch b.0) (goes (met serve_built (standing (given (codes "file") file ∷ given (codes "pump") pump ∷ []) (Some (codes "batch", batch ∷ [])) idle 2) (codes "--halt") (simp b.1)) (gone serve_built (standing (given (codes "file") file ∷ given (codes "pump") pump ∷ given (codes "batch") batch ∷ flag_row (codes "halt") true ∷ []) None idle 2))))))) in
-    let read = read_by (file ∷ codes "--pump" ∷ pump ∷ codes "--batch" ∷ batch ∷ codes "--halt" ∷ []) (codes "serve") serve_built (standing (given (codes "file") file ∷ given (codes "pump") pump ∷ given (codes "batch") batch ∷ flag_row (codes "halt") true ∷ []) None idle 2) refl refl refl walked refl refl refl in
-    record { rows = _; met = read.0; taken = read.1; holds = (refl, refl, refl, refl, refl, refl, refl) }
-pump_first_read file (Some batch) (Some pump) false true h b p =
+pump_first_read file (Some batch) (Some pump) true h b p =
     let walked = goes (plain_step serve_built None 1 file h refl) (goes (met serve_built (standing [] (Some (codes "file", file ∷ [])) idle 2) (codes "--pump") refl) (goes (value_step serve_built (given (codes "file") file ∷ []) (codes "pump") 2 pump p.0) (goes (met serve_built (standing (given (codes "file") file ∷ []) (Some (codes "pump", pump ∷ [])) idle 2) (codes "--batch") (simp p.1)) (goes (value_step serve_built (given (codes "file") file ∷ given (codes "pump") pump ∷ []) (codes "batch") 2 batch b.0) (goes (met serve_built (standing (given (codes "file") file ∷ given (codes "pump") pump ∷ []) (Some (codes "batch", batch ∷ [])) idle 2) (codes "--why") (simp b.1)) (gone serve_built (standing (given (codes "file") file ∷ given (codes "pump") pump ∷ given (codes "batch") batch ∷ flag_row (codes "why") true ∷ []) None idle 2))))))) in
     let read = read_by (file ∷ codes "--pump" ∷ pump ∷ codes "--batch" ∷ batch ∷ codes "--why" ∷ []) (codes "serve") serve_built (standing (given (codes "file") file ∷ given (codes "pump") pump ∷ given (codes "batch") batch ∷ flag_row (codes "why") true ∷ []) None idle 2) refl refl refl walked refl refl refl in
-    record { rows = _; met = read.0; taken = read.1; holds = (refl, refl, refl, refl, refl, refl, refl) }
-pump_first_read file (Some batch) (Some pump) false false h b p =
+    record { rows = _; met = read.0; taken = read.1; holds = (refl, refl, refl, refl, refl, refl) }
+pump_first_read file (Some batch) (Some pump) false h b p =
     let walked = goes (plain_step serve_built None 1 file h refl) (goes (met serve_built (standing [] (Some (codes "file", file ∷ [])) idle 2) (codes "--pump") refl) (goes (value_step serve_built (given (codes "file") file ∷ []) (codes "pump") 2 pump p.0) (goes (met serve_built (standing (given (codes "file") file ∷ []) (Some (codes "pump", pump ∷ [])) idle 2) (codes "--batch") (simp p.1)) (goes (value_step serve_built (given (codes "file") file ∷ given (codes "pump") pump ∷ []) (codes "batch") 2 batch b.0) (gone serve_built (standing (given (codes "file") file ∷ given (codes "pump") pump ∷ []) (Some (codes "batch", batch ∷ [])) idle 2)))))) in
     let read = read_by (file ∷ codes "--pump" ∷ pump ∷ codes "--batch" ∷ batch ∷ []) (codes "serve") serve_built (standing (given (codes "file") file ∷ given (codes "pump") pump ∷ []) (Some (codes "batch", batch ∷ [])) idle 2) refl refl refl walked (simp b.1) refl refl in
-    record { rows = _; met = read.0; taken = read.1; holds = (refl, refl, refl, refl, refl, refl, refl) }
-pump_first_read file None (Some pump) true true h b p =
-    let walked = goes (plain_step serve_built None 1 file h refl) (goes (met serve_built (standing [] (Some (codes "file", file ∷ [])) idle 2) (codes "--pump") refl) (goes (value_step serve_built (given (codes "file") file ∷ []) (codes "pump") 2 pump p.0) (goes (met serve_built (standing (given (codes "file") file ∷ []) (Some (codes "pump", pump ∷ [])) idle 2) (codes "--halt") (simp p.1)) (goes (met serve_built (standing (given (codes "file") file ∷ given (codes "pump") pump ∷ flag_row (codes "halt") true ∷ []) None idle 2) (codes "--why") refl) (gone serve_built (standing (given (codes "file") file ∷ given (codes "pump") pump ∷ flag_row (codes "halt") true ∷ flag_row (codes "why") true ∷ []) None idle 2)))))) in
-    let read = read_by (file ∷ codes "--pump" ∷ pump ∷ codes "--halt" ∷ codes "--why" ∷ []) (codes "serve") serve_built (standing (given (codes "file") file ∷ given (codes "pump") pump ∷ flag_row (codes "halt") true ∷ flag_row (codes "why") true ∷ []) None idle 2) refl refl refl walked refl refl refl in
-    record { rows = _; met = read.0; taken = read.1; holds = (refl, refl, refl, refl, refl, refl, refl) }
-pump_first_read file None (Some pump) true false h b p =
-    let walked = goes (plain_step serve_built None 1 file h refl) (goes (met serve_built (standing [] (Some (codes "file", file ∷ [])) idle 2) (codes "--pump") refl) (goes (value_step serve_built (given (codes "file") file ∷ []) (codes "pump") 2 pump p.0) (goes (met serve_built (standing (given (codes "file") file ∷ []) (Some (codes "pump", pump ∷ [])) idle 2) (codes "--halt") (simp p.1)) (gone serve_built (standing (given (codes "file") file ∷ given (codes "pump") pump ∷ flag_row (codes "halt") true ∷ []) None idle 2))))) in
-    let read = read_by (file ∷ codes "--pump" ∷ pump ∷ codes "--halt" ∷ []) (codes "serve") serve_built (standing (given (codes "file") file ∷ given (codes "pump") pump ∷ flag_row (codes "halt") true ∷ []) None idle 2) refl refl refl walked refl refl refl in
-    record { rows = _; met = read.0; taken = read.1; holds = (refl, refl, refl, refl, refl, refl, refl) }
-pump_first_read file None (Some pump) false true h b p =
+    record { rows = _; met = read.0; taken = read.1; holds = (refl, refl, refl, refl, refl, refl) }
+pump_first_read file None (Some pump) true h b p =
     let walked = goes (plain_step serve_built None 1 file h refl) (goes (met serve_built (standing [] (Some (codes "file", file ∷ [])) idle 2) (codes "--pump") refl) (goes (value_step serve_built (given (codes "file") file ∷ []) (codes "pump") 2 pump p.0) (goes (met serve_built (standing (given (codes "file") file ∷ []) (Some (codes "pump", pump ∷ [])) idle 2) (codes "--why") (simp p.1)) (gone serve_built (standing (given (codes "file") file ∷ given (codes "pump") pump ∷ flag_row (codes "why") true ∷ []) None idle 2))))) in
     let read = read_by (file ∷ codes "--pump" ∷ pump ∷ codes "--why" ∷ []) (codes "serve") serve_built (standing (given (codes "file") file ∷ given (codes "pump") pump ∷ flag_row (codes "why") true ∷ []) None idle 2) refl refl refl walked refl refl refl in
-    record { rows = _; met = read.0; taken = read.1; holds = (refl, refl, refl, refl, refl, refl, refl) }
-pump_first_read file None (Some pump) false false h b p =
+    record { rows = _; met = read.0; taken = read.1; holds = (refl, refl, refl, refl, refl, refl) }
+pump_first_read file None (Some pump) false h b p =
     let walked = goes (plain_step serve_built None 1 file h refl) (goes (met serve_built (standing [] (Some (codes "file", file ∷ [])) idle 2) (codes "--pump") refl) (goes (value_step serve_built (given (codes "file") file ∷ []) (codes "pump") 2 pump p.0) (gone serve_built (standing (given (codes "file") file ∷ []) (Some (codes "pump", pump ∷ [])) idle 2)))) in
     let read = read_by (file ∷ codes "--pump" ∷ pump ∷ []) (codes "serve") serve_built (standing (given (codes "file") file ∷ []) (Some (codes "pump", pump ∷ [])) idle 2) refl refl refl walked (simp p.1) refl refl in
-    record { rows = _; met = read.0; taken = read.1; holds = (refl, refl, refl, refl, refl, refl, refl) }
-pump_first_read file (Some batch) None true true h b p =
-    let walked = goes (plain_step serve_built None 1 file h refl) (goes (met serve_built (standing [] (Some (codes "file", file ∷ [])) idle 2) (codes "--batch") refl) (goes (value_step serve_built (given (codes "file") file ∷ []) (codes "batch") 2 batch b.0) (goes (met serve_built (standing (given (codes "file") file ∷ []) (Some (codes "batch", batch ∷ [])) idle 2) (codes "--halt") (simp b.1)) (goes (met serve_built (standing (given (codes "file") file ∷ given (codes "batch") batch ∷ flag_row (codes "halt") true ∷ []) None idle 2) (codes "--why") refl) (gone serve_built (standing (given (codes "file") file ∷ given (codes "batch") batch ∷ flag_row (codes "halt") true ∷ flag_row (codes "why") true ∷ []) None idle 2)))))) in
-    let read = read_by (file ∷ codes "--batch" ∷ batch ∷ codes "--halt" ∷ codes "--why" ∷ []) (codes "serve") serve_built (standing (given (codes "file") file ∷ given (codes "batch") batch ∷ flag_row (codes "halt") true ∷ flag_row (codes "why") true ∷ []) None idle 2) refl refl refl walked refl refl refl in
-    record { rows = _; met = read.0; taken = read.1; holds = (refl, refl, refl, refl, refl, refl, refl) }
-pump_first_read file (Some batch) None true false h b p =
-    let walked = goes (plain_step serve_built None 1 file h refl) (goes (met serve_built (standing [] (Some (codes "file", file ∷ [])) idle 2) (codes "--batch") refl) (goes (value_step serve_built (given (codes "file") file ∷ []) (codes "batch") 2 batch b.0) (goes (met serve_built (standing (given (codes "file") file ∷ []) (Some (codes "batch", batch ∷ [])) idle 2) (codes "--halt") (simp b.1)) (gone serve_built (standing (given (codes "file") file ∷ given (codes "batch") batch ∷ flag_row (codes "halt") true ∷ []) None idle 2))))) in
-    let read = read_by (file ∷ codes "--batch" ∷ batch ∷ codes "--halt" ∷ []) (codes "serve") serve_built (standing (given (codes "file") file ∷ given (codes "batch") batch ∷ flag_row (codes "halt") true ∷ []) None idle 2) refl refl refl walked refl refl refl in
-    record { rows = _; met = read.0; taken = read.1; holds = (refl, refl, refl, refl, refl, refl, refl) }
-pump_first_read file (Some batch) None false true h b p =
+    record { rows = _; met = read.0; taken = read.1; holds = (refl, refl, refl, refl, refl, refl) }
+pump_first_read file (Some batch) None true h b p =
     let walked = goes (plain_step serve_built None 1 file h refl) (goes (met serve_built (standing [] (Some (codes "file", file ∷ [])) idle 2) (codes "--batch") refl) (goes (value_step serve_built (given (codes "file") file ∷ []) (codes "batch") 2 batch b.0) (goes (met serve_built (standing (given (codes "file") file ∷ []) (Some (codes "batch", batch ∷ [])) idle 2) (codes "--why") (simp b.1)) (gone serve_built (standing (given (codes "file") file ∷ given (codes "batch") batch ∷ flag_row (codes "why") true ∷ []) None idle 2))))) in
     let read = read_by (file ∷ codes "--batch" ∷ batch ∷ codes "--why" ∷ []) (codes "serve") serve_built (standing (given (codes "file") file ∷ given (codes "batch") batch ∷ flag_row (codes "why") true ∷ []) None idle 2) refl refl refl walked refl refl refl in
-    record { rows = _; met = read.0; taken = read.1; holds = (refl, refl, refl, refl, refl, refl, refl) }
-pump_first_read file (Some batch) None false false h b p =
+    record { rows = _; met = read.0; taken = read.1; holds = (refl, refl, refl, refl, refl, refl) }
+pump_first_read file (Some batch) None false h b p =
     let walked = goes (plain_step serve_built None 1 file h refl) (goes (met serve_built (standing [] (Some (codes "file", file ∷ [])) idle 2) (codes "--batch") refl) (goes (value_step serve_built (given (codes "file") file ∷ []) (codes "batch") 2 batch b.0) (gone serve_built (standing (given (codes "file") file ∷ []) (Some (codes "batch", batch ∷ [])) idle 2)))) in
     let read = read_by (file ∷ codes "--batch" ∷ batch ∷ []) (codes "serve") serve_built (standing (given (codes "file") file ∷ []) (Some (codes "batch", batch ∷ [])) idle 2) refl refl refl walked (simp b.1) refl refl in
-    record { rows = _; met = read.0; taken = read.1; holds = (refl, refl, refl, refl, refl, refl, refl) }
-pump_first_read file None None true true h b p =
-    let walked = goes (plain_step serve_built None 1 file h refl) (goes (met serve_built (standing [] (Some (codes "file", file ∷ [])) idle 2) (codes "--halt") refl) (goes (met serve_built (standing (given (codes "file") file ∷ flag_row (codes "halt") true ∷ []) None idle 2) (codes "--why") refl) (gone serve_built (standing (given (codes "file") file ∷ flag_row (codes "halt") true ∷ flag_row (codes "why") true ∷ []) None idle 2)))) in
-    let read = read_by (file ∷ codes "--halt" ∷ codes "--why" ∷ []) (codes "serve") serve_built (standing (given (codes "file") file ∷ flag_row (codes "halt") true ∷ flag_row (codes "why") true ∷ []) None idle 2) refl refl refl walked refl refl refl in
-    record { rows = _; met = read.0; taken = read.1; holds = (refl, refl, refl, refl, refl, refl, refl) }
-pump_first_read file None None true false h b p =
-    let walked = goes (plain_step serve_built None 1 file h refl) (goes (met serve_built (standing [] (Some (codes "file", file ∷ [])) idle 2) (codes "--halt") refl) (gone serve_built (standing (given (codes "file") file ∷ flag_row (codes "halt") true ∷ []) None idle 2))) in
-    let read = read_by (file ∷ codes "--halt" ∷ []) (codes "serve") serve_built (standing (given (codes "file") file ∷ flag_row (codes "halt") true ∷ []) None idle 2) refl refl refl walked refl refl refl in
-    record { rows = _; met = read.0; taken = read.1; holds = (refl, refl, refl, refl, refl, refl, refl) }
-pump_first_read file None None false true h b p =
+    record { rows = _; met = read.0; taken = read.1; holds = (refl, refl, refl, refl, refl, refl) }
+pump_first_read file None None true h b p =
     let walked = goes (plain_step serve_built None 1 file h refl) (goes (met serve_built (standing [] (Some (codes "file", file ∷ [])) idle 2) (codes "--why") refl) (gone serve_built (standing (given (codes "file") file ∷ flag_row (codes "why") true ∷ []) None idle 2))) in
     let read = read_by (file ∷ codes "--why" ∷ []) (codes "serve") serve_built (standing (given (codes "file") file ∷ flag_row (codes "why") true ∷ []) None idle 2) refl refl refl walked refl refl refl in
-    record { rows = _; met = read.0; taken = read.1; holds = (refl, refl, refl, refl, refl, refl, refl) }
-pump_first_read file None None false false h b p =
+    record { rows = _; met = read.0; taken = read.1; holds = (refl, refl, refl, refl, refl, refl) }
+pump_first_read file None None false h b p =
     let walked = goes (plain_step serve_built None 1 file h refl) (gone serve_built (standing [] (Some (codes "file", file ∷ [])) idle 2)) in
     let read = read_by (file ∷ []) (codes "serve") serve_built (standing [] (Some (codes "file", file ∷ [])) idle 2) refl refl refl walked refl refl refl in
-    record { rows = _; met = read.0; taken = read.1; holds = (refl, refl, refl, refl, refl, refl, refl) }
+    record { rows = _; met = read.0; taken = read.1; holds = (refl, refl, refl, refl, refl, refl) }
 
 -- ---- all rows
 
@@ -487,19 +423,19 @@ mode_found mode words (inr absent) = record {
   held = λ rows first. inr (absent.0, first);
 }
 
-served : (file : Text) (batch pump : ℕ) (halt why : Bool) (words batches pumps : List Text) → IsPlain file → InRange (serve file batch pump halt)
+served : (file : Text) (batch pump : ℕ) (why : Bool) (words batches pumps : List Text) → IsPlain file → InRange (serve file batch pump)
     → IsOptional (codes "--batch") (codes "batch") 1 1 MAX_BATCH batch batches → IsOptional (codes "--pump") (codes "pump") 0 1 MAX_PUMP pump pumps
-    → IsReadAs (codes "serve" ∷ file ∷ batches ++ pumps ++ flag_words (codes "--halt") halt ++ flag_words (codes "--why") why) (serve file batch pump halt) why
-    × IsReadAs (codes "serve" ∷ file ∷ pumps ++ batches ++ flag_words (codes "--halt") halt ++ flag_words (codes "--why") why) (serve file batch pump halt) why
-served file batch pump halt why words batches pumps h range b p =
-    let one = batch_first_read file b.text p.text halt why h b.fits p.fits in
-    let other = pump_first_read file b.text p.text halt why h b.fits p.fits in
+    → IsReadAs (codes "serve" ∷ file ∷ batches ++ pumps ++ flag_words (codes "--why") why) (serve file batch pump) why
+    × IsReadAs (codes "serve" ∷ file ∷ pumps ++ batches ++ flag_words (codes "--why") why) (serve file batch pump) why
+served file batch pump why words batches pumps h range b p =
+    let one = batch_first_read file b.text p.text why h b.fits p.fits in
+    let other = pump_first_read file b.text p.text why h b.fits p.fits in
     let held = one.holds in
     let turned = other.holds in
-    let first : IsReadAs (codes "serve" ∷ file ∷ option_words (codes "--batch") b.text ++ option_words (codes "--pump") p.text ++ flag_words (codes "--halt") halt ++ flag_words (codes "--why") why) (serve file batch pump halt) why =
-    (((one.rows, one.met, (held.0, b.held one.rows held.1 held.2, p.held one.rows held.3 held.4, held.5)), (one.rows, one.met, held.6)), one.taken) in
-    let second : IsReadAs (codes "serve" ∷ file ∷ option_words (codes "--pump") p.text ++ option_words (codes "--batch") b.text ++ flag_words (codes "--halt") halt ++ flag_words (codes "--why") why) (serve file batch pump halt) why =
-    (((other.rows, other.met, (turned.0, b.held other.rows turned.1 turned.2, p.held other.rows turned.3 turned.4, turned.5)), (other.rows, other.met, turned.6)), other.taken) in
+    let first : IsReadAs (codes "serve" ∷ file ∷ option_words (codes "--batch") b.text ++ option_words (codes "--pump") p.text ++ flag_words (codes "--why") why) (serve file batch pump) why =
+    (((one.rows, one.met, (held.0, b.held one.rows held.1 held.2, p.held one.rows held.3 held.4)), (one.rows, one.met, held.5)), one.taken) in
+    let second : IsReadAs (codes "serve" ∷ file ∷ option_words (codes "--pump") p.text ++ option_words (codes "--batch") b.text ++ flag_words (codes "--why") why) (serve file batch pump) why =
+    (((other.rows, other.met, (turned.0, b.held other.rows turned.1 turned.2, p.held other.rows turned.3 turned.4)), (other.rows, other.met, turned.5)), other.taken) in
     rw b.is (rw p.is (first, second))
 
 -- words that are a call's row are taken and mean that call
@@ -513,10 +449,10 @@ read_as_row (format file n version mode sparse) why words range (h, formats, mod
     let meant : IsReadAs (codes "format" ∷ file ∷ codes "--sectors" ∷ decimal n ∷ option_words (codes "--format") chosen.text ++ option_words (codes "--mode") moded.text ++ flag_words (codes "--sparse") sparse ++ flag_words (codes "--why") why) (format file n version mode sparse) why =
     (((read.rows, read.met, (held.0, (decimal n, held.1, sectors.spells), chosen.held read.rows held.2 held.3, moded.held read.rows held.4, held.5)), (read.rows, read.met, held.6)), read.taken) in
     rw row (rw chosen.is (rw moded.is meant))
-read_as_row (serve file batch pump halt) why words range (h, batches, pumps, options, b, p, order, row) =
+read_as_row (serve file batch pump) why words range (h, batches, pumps, options, b, p, order, row) =
     let first = optional (codes "--batch") (codes "batch") 1 1 MAX_BATCH batch batches (λ one. one) range.0.1 (omega arith) b in
     let second = optional (codes "--pump") (codes "pump") 0 1 MAX_PUMP pump pumps (λ one. one) range.1 (omega arith) p in
-    let both = served file batch pump halt why words batches pumps (plain file h) range first second in
+    let both = served file batch pump why words batches pumps (plain file h) range first second in
     elim order [ inl same ↦ rw row (rw same both.0) | inr same ↦ rw row (rw same both.1) ]
 read_as_row (check file) why words range row =
     let read = check_read file why (plain file row.0) in

@@ -6,11 +6,11 @@ use Rattle.command_line.specs.declared.call.Call.TheVariants.{Format, Serve, Che
 use Rattle.command_line.specs.declared.limits.TheConstants.{MIN_SECTORS, MAX_SECTORS, MAX_MEMORY_SECTORS, MIN_FORMAT, MAX_FORMAT, MAX_BATCH, MAX_PUMP, MAX_MODE, OWNER_ALONE}
 
 -- A call, with the names of its files as texts. Making a file, with its sectors, its format and its mode, and whether its blocks are left to be allocated as
--- they are written. Serving, with the most changes of one commit, the sectors that a step of a copy writes after a change, of which 0 are none, and whether changes
--- stop at the first that is refused for the disk, room or memory. Bringing a file to a format.
+-- they are written. Serving, with the most changes of one commit, and the sectors that a step of a copy writes after a change, of which 0 are none. Bringing a file to a
+-- format.
 pub data Asked : Type 0 where
   format : List ℕ → ℕ → ℕ → ℕ → Bool → Asked
-  serve : List ℕ → ℕ → ℕ → Bool → Asked
+  serve : List ℕ → ℕ → ℕ → Asked
   check : List ℕ → Asked
   copy : List ℕ → List ℕ → ℕ → Asked
   upgrade : List ℕ → ℕ → Asked
@@ -18,7 +18,7 @@ pub data Asked : Type 0 where
 
 abbrev pub asked_of : Call → Asked
 asked_of (Format file sectors version mode sparse) = format file.now sectors version mode sparse
-asked_of (Serve file batch pump halt) = serve file.now batch pump halt
+asked_of (Serve file batch pump) = serve file.now batch pump
 asked_of (Check file) = check file.now
 asked_of (Copy file new sectors) = copy file.now new.now sectors
 asked_of (Upgrade file version) = upgrade file.now version
@@ -28,7 +28,7 @@ asked_of (Mem sectors) = mem sectors
 abbrev pub InRange : Asked → Type 0
 InRange (format file sectors version mode sparse) =
     ((MIN_SECTORS ≤ sectors) × (sectors ≤ MAX_SECTORS)) × ((MIN_FORMAT ≤ version) × (version ≤ MAX_FORMAT)) × (mode ≤ MAX_MODE)
-InRange (serve file batch pump halt) = ((1 ≤ batch) × (batch ≤ MAX_BATCH)) × (pump ≤ MAX_PUMP)
+InRange (serve file batch pump) = ((1 ≤ batch) × (batch ≤ MAX_BATCH)) × (pump ≤ MAX_PUMP)
 InRange (check file) = Unit {0}
 InRange (copy file new sectors) = (MIN_SECTORS ≤ sectors) × (sectors ≤ MAX_SECTORS)
 InRange (upgrade file version) = (MIN_FORMAT ≤ version) × (version ≤ MAX_FORMAT)
@@ -65,10 +65,10 @@ abbrev pub IsRowOf : List (List ℕ) → Asked → Bool → Type 0
 IsRowOf words (format file sectors version mode sparse) why =
     IsNoOption file × (formats modes : List (List ℕ)) × IsGiven (codes "--format") 2 version formats × IsModeGiven mode modes
     × (words ≡ codes "format" ∷ file ∷ codes "--sectors" ∷ decimal sectors ∷ formats ++ modes ++ flag_words (codes "--sparse") sparse ++ flag_words (codes "--why") why)
-IsRowOf words (serve file batch pump halt) why =
+IsRowOf words (serve file batch pump) why =
     IsNoOption file × (batches pumps options : List (List ℕ)) × IsGiven (codes "--batch") 1 batch batches
     × IsGiven (codes "--pump") 0 pump pumps × InEitherOrder batches pumps options
-    × (words ≡ codes "serve" ∷ file ∷ options ++ flag_words (codes "--halt") halt ++ flag_words (codes "--why") why)
+    × (words ≡ codes "serve" ∷ file ∷ options ++ flag_words (codes "--why") why)
 IsRowOf words (check file) why = IsNoOption file × (words ≡ codes "check" ∷ file ∷ flag_words (codes "--why") why)
 IsRowOf words (copy file new sectors) why =
     IsNoOption file × IsNoOption new × (words ≡ codes "copy" ∷ file ∷ new ∷ codes "--sectors" ∷ decimal sectors ∷ flag_words (codes "--why") why)

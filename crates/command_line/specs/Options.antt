@@ -61,7 +61,7 @@ format_shape =
 abbrev pub serve_shape : Shape
 serve_shape =
     let with_numbers = with_rule (with_rule (with_rule (new_app (codes "serve")) file_rule) batch_rule) pump_rule in
-    (with_rule (with_rule with_numbers (flag_rule (codes "halt"))) why_rule).top
+    (with_rule with_numbers why_rule).top
 
 abbrev pub check_shape : Shape
 check_shape = (with_rule (with_rule (new_app (codes "check")) file_rule) why_rule).top
@@ -127,8 +127,8 @@ abbrev pub Holds : Asked → List Row → Type 0
 Holds (format file sectors version mode sparse) options =
     HoldsFile file options × HoldsNumber (codes "sectors") sectors options × MayHold (codes "format") 2 version options
     × HoldsMode mode options × HoldsFlag (codes "sparse") sparse options
-Holds (serve file batch pump halt) options =
-    HoldsFile file options × MayHold (codes "batch") 1 batch options × MayHold (codes "pump") 0 pump options × HoldsFlag (codes "halt") halt options
+Holds (serve file batch pump) options =
+    HoldsFile file options × MayHold (codes "batch") 1 batch options × MayHold (codes "pump") 0 pump options
 Holds (check file) options = HoldsFile file options
 Holds (copy file new sectors) options = HoldsFile file options × HoldsNew new options × HoldsNumber (codes "sectors") sectors options
 Holds (upgrade file version) options = HoldsFile file options × MayHold (codes "format") 3 version options
@@ -137,7 +137,7 @@ Holds (mem sectors) options = HoldsNumber (codes "sectors") sectors options
 -- the command of a call
 abbrev pub name_of : Asked → Text
 name_of (format file sectors version mode sparse) = codes "format"
-name_of (serve file batch pump halt) = codes "serve"
+name_of (serve file batch pump) = codes "serve"
 name_of (check file) = codes "check"
 name_of (copy file new sectors) = codes "copy"
 name_of (upgrade file version) = codes "upgrade"
@@ -155,7 +155,7 @@ Means met asked = (options : List Row) × (met ≡ Some (name_of asked, options)
 abbrev pub HoldsWhy : Asked → Bool → List Row → Type 0
 HoldsWhy (mem sectors) why options = why ≡ false
 HoldsWhy (format file sectors version mode sparse) why options = HoldsFlag (codes "why") why options
-HoldsWhy (serve file batch pump halt) why options = HoldsFlag (codes "why") why options
+HoldsWhy (serve file batch pump) why options = HoldsFlag (codes "why") why options
 HoldsWhy (check file) why options = HoldsFlag (codes "why") why options
 HoldsWhy (copy file new sectors) why options = HoldsFlag (codes "why") why options
 HoldsWhy (upgrade file version) why options = HoldsFlag (codes "why") why options

@@ -28,13 +28,11 @@ pub enum Call<'a> {
         sparse: bool,
     },
     /// Serve lines over the store in a file. One commit takes up to `batch` changes, 1 for each by itself; after a
-    /// change or a batch a step of a copy writes up to `pump` sectors, 0 for none. With `halt` the first change that is
-    /// refused for the disk, room or memory is the last that is tried.
+    /// change or a batch a step of a copy writes up to `pump` sectors, 0 for none.
     Serve {
         file: &'a str,
         batch: u64,
         pump: u64,
-        halt: bool,
     },
     /// Show the status of the store in a file.
     Check {
@@ -176,19 +174,13 @@ fn format_in<'a>(options: &ArgMatches<'a>) -> Option<Call<'a>>
 fn serve_in<'a>(options: &ArgMatches<'a>) -> Option<Call<'a>>
     ensures in_range { IfSome result (λ call. InRange (asked_of call)) }
     ensures sound { IfSome result (λ call. IsMet (codes "serve") (rows_of (found_of options.now)) (asked_of call)) }
-    ensures meant { (file : List ℕ) (batch pump : ℕ) (halt : Bool) → InRange (serve file batch pump halt)
-        → Holds (serve file batch pump halt) (rows_of (found_of options.now)) → option_map asked_of result ≡ Some (serve file batch pump halt) }
+    ensures meant { (file : List ℕ) (batch pump : ℕ) → InRange (serve file batch pump)
+        → Holds (serve file batch pump) (rows_of (found_of options.now)) → option_map asked_of result ≡ Some (serve file batch pump) }
 {
     let file = file_in(options)?;
     let batch = number_or(options, "batch", 1, MAX_BATCH)?;
     let pump = number_or(options, "pump", 0, MAX_PUMP)?;
-    let halt = flag_in(options, "halt")?;
-    Some(Call::Serve {
-        file,
-        batch,
-        pump,
-        halt,
-    })
+    Some(Call::Serve { file, batch, pump })
 }
 
 fn check_in<'a>(options: &ArgMatches<'a>) -> Option<Call<'a>>

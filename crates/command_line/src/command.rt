@@ -144,17 +144,6 @@ fn sparse_flag<'a>(alloc: Global) -> Arg<'a>
     )
 }
 
-fn halt_flag<'a>(alloc: Global) -> Arg<'a>
-    ensures rule { rule_of result ≡ flag_rule (codes "halt") }
-    ensures local { result.global ≡ false }
-{
-    flag(
-        alloc,
-        "halt",
-        "Stop making changes after the first that is refused for the disk, room or memory (60 to 63): all later lines are answered 62, and the exit status is 1",
-    )
-}
-
 fn why_flag<'a>(alloc: Global) -> Arg<'a>
     ensures rule { rule_of result ≡ why_rule }
     ensures local { result.global ≡ false }
@@ -195,7 +184,6 @@ fn serve_command<'a>(alloc: Global) -> Result<Command<'a>, Error>
         .arg(file_argument(alloc, "The file of the store"))?
         .arg(batch_option(alloc))?
         .arg(pump_option(alloc))?
-        .arg(halt_flag(alloc))?
         .arg(why_flag(alloc))?;
     Ok(serve)
 }

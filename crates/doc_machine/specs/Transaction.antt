@@ -65,7 +65,7 @@ large_refusal kept = refused_if (nat_lt 33_554_432 kept) TRANSACTION_LARGE
 
 -- ---- transactions
 
--- one change, which is refused as it is by itself, or several, of which a refusal names the one that was refused
+-- one change, or a list of changes, whose refusal says which of them is at fault
 pub data Transaction : Type 0 where
   single : Change → Transaction
   several : List Change → Transaction
@@ -93,8 +93,7 @@ abbrev pub refused_or : ℕ → Option Refusal → Option Refusal → Option Ref
 refused_or place None later = later
 refused_or place (Some r) later = Some (refused_at place r)
 
--- Why changes are refused. The first of them has the place `place`, and those before it keep `kept` bytes. Each is
--- judged after those before it, first whether it and they keep too many, and then by itself. The first reason counts.
+-- Why changes are refused: the first has the place `place`, and those before it keep `kept` bytes. Each is judged after those before it, first whether it and they keep too many, and then by itself. The first reason counts.
 abbrev pub first_refused : ℕ → ℕ → State → List Change → Option Refusal
 first_refused place kept s [] = None
 first_refused place kept s (c ∷ cs) =

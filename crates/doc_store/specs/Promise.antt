@@ -12,8 +12,7 @@ use Rattle.doc_store.specs.Lives.{events_of, replies_of}
 use Rattle.doc_store.specs.declared.life.Life.{Life}
 use Rattle.doc_store.specs.declared.life.Part.{Part}
 
--- The transactions that were accepted and count, the oldest first, and the state before them. The first `lasting` of
--- them last: no crash loses these.
+-- The accepted transactions that count, the oldest first, and the state before them. The first `lasting` of them last: no crash loses these.
 pub record Ledger : Type 0 where
   pub begins : State
   pub counted : List Transaction

@@ -1,12 +1,11 @@
 //! Transactions that are committed together.
-ghost use Rattle.std.specs.Prelude.{◌≡◌, IfOk, IfErr, OnErr, map, true, false};
+ghost use Rattle.std.specs.Prelude.{◌≡◌, IfOk, IfErr, OnErr, map};
 ghost use Rattle.record_text.specs.Change.{change_of};
 ghost use Rattle.doc_machine.specs.Transaction.{single, transaction_of};
 ghost use Rattle.refusals.specs.declared.numbers.TheConstants.{MEMORY};
 ghost use Rattle.doc_changes.specs.Refusals.{plain};
 ghost use Rattle.doc_changes.specs.State.{Good};
 ghost use Rattle.store_commits.specs.Account.{IsStanding};
-ghost use Rattle.store_commits.specs.Faults.{BatchedUntilFull};
 ghost use Rattle.store_commits.specs.Run.{Batched};
 
 use crate::alone::singles;
@@ -33,32 +32,12 @@ impl<D: SectorDevice> Store<D> {
         ensures standing { IsStanding (D.disk self.new.device) self.new.account }
         ensures good { Good self.new.account.state }
     {
-        Ok(self.make(transactions, false)?)
+        Ok(self.make(transactions)?)
     }
 
-    /// The same, but no further than the first transaction that is refused as `FULL`: those after it aren't judged, and
-    /// get no reply. If the device failed before that one was answered, it is answered `BROKEN`, and they get none
-    /// either.
-    pub fn transact_until_full(
-        &mut self,
-        transactions: Vec<Transaction>,
-    ) -> Result<Vec<Reply>, Refusal>
-        ensures batched { IfOk result (λ replies. BatchedUntilFull D.disk self.old self.new (map transaction_of transactions.items) replies.items) }
-        ensures memory { IfErr result (λ refusal. (refusal ≡ plain MEMORY) × (self.new ≡ self.old)) }
-        ensures standing { IsStanding (D.disk self.new.device) self.new.account }
-        ensures good { Good self.new.account.state }
-    {
-        Ok(self.make(transactions, true)?)
-    }
-
-    // Makes transactions, all of them or through the first that is refused as `FULL`.
-    fn make(
-        &mut self,
-        transactions: Vec<Transaction>,
-        until_full: bool,
-    ) -> Result<Vec<Reply>, AllocError>
-        ensures whole { until_full ≡ false → IfOk result (λ replies. Batched D.disk self.old self.new (map transaction_of transactions.items) replies.items) }
-        ensures first { until_full ≡ true → IfOk result (λ replies. BatchedUntilFull D.disk self.old self.new (map transaction_of transactions.items) replies.items) }
+    // Makes transactions.
+    fn make(&mut self, transactions: Vec<Transaction>) -> Result<Vec<Reply>, AllocError>
+        ensures batched { IfOk result (λ replies. Batched D.disk self.old self.new (map transaction_of transactions.items) replies.items) }
         ensures memory { OnErr result (self.new ≡ self.old) }
         ensures standing { IsStanding (D.disk self.new.device) self.new.account }
         ensures good { Good self.new.account.state }
@@ -69,7 +48,6 @@ impl<D: SectorDevice> Store<D> {
             &mut self.machine,
             &mut self.copy,
             transactions,
-            until_full,
         )
     }
 

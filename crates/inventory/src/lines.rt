@@ -18,7 +18,6 @@ pub fn answer<D: SectorDevice, W: Write>(
         batch: 1,
         pump: 0,
         turns: u64::MAX,
-        halt: false,
     };
     let mut session = Session::new(alloc, &options)?;
     let mut room = ReplyRoom::new(alloc)?;

@@ -1,5 +1,5 @@
 -- A store in a file that is brought to another format.
-use Rattle.std.proofs.Common.{◌≡◌, inl, inr, ⊎_elim, arith, false}
+use Rattle.std.proofs.Common.{inl, inr, ⊎_elim, arith}
 use Rattle.std.specs.declared.snapshot.Snapshot.{Snapshot}
 use Rattle.sector_device.specs.Disk.{LeavesOnly}
 use Rattle.sector_device.specs.declared.history.Held.{Held}

@@ -1,5 +1,5 @@
 -- The work of a program for a call, by what it kept.
-use Rattle.std.specs.Prelude.{◌≡◌, ℕ, List, Bool, Option, Result, Ok, Err, IfOk, MatchResult, false, pos, true, codes}
+use Rattle.std.specs.Prelude.{◌≡◌, ℕ, List, Option, Result, Ok, Err, IfOk, MatchResult, false, pos, true, codes}
 use Rattle.std.specs.declared.snapshot.Snapshot.{Snapshot}
 use Rattle.command_line.specs.Call.{Asked, format, serve, check, copy, upgrade, mem}
 use Rattle.store_journal.specs.Layout.{capacity_of}
@@ -52,8 +52,8 @@ end_of (InMemory (Err fault)) = Err fault
 
 -- The store in a file that held this was served. If all that there was to read was served, it was served so; the end says whether the device failed; and
 -- however it ended, the store went by one run from what was opened.
-pub record IsServing (held : Snapshot Held) (batch pump : ℕ) (halt : Bool) (closed : Closed) (left left_new before after : Option (List ℕ)) : Type 0 where
-  pub served : WentToTheEnd closed.ended → IsServedIn held batch pump halt closed.ended left left_new before after closed.store
+pub record IsServing (held : Snapshot Held) (batch pump : ℕ) (closed : Closed) (left left_new before after : Option (List ℕ)) : Type 0 where
+  pub served : WentToTheEnd closed.ended → IsServedIn held batch pump left left_new before after closed.store
   pub works : closed.ended ≡ Ok tt → closed.store.account.broken ≡ false
   pub broke : closed.ended ≡ Err (fault_of DEVICE) → closed.store.account.broken ≡ true
   pub closed_in : IsClosedIn held closed.store
@@ -75,8 +75,8 @@ IsRefused held unopened before after = IsUnopenedIn held unopened × (after ≡ 
 abbrev pub Does : Snapshot Held → Asked → Kept → Option (List ℕ) → Option (List ℕ) → Option (List ℕ) → Option (List ℕ) → Type 0
 Does held (format file sectors version mode sparse) (Formatted made) left left_new before after =
     IfOk made (IsFormattedFile sectors version) × Shows made (line_of (format_reply (capacity_of sectors) sectors)) before after × (left_new ≡ left)
-Does held (serve file batch pump halt) (Served served) left left_new before after =
-    MatchResult served (λ closed. IsServing held batch pump halt closed left left_new before after) (λ unopened. IsRefused held unopened before after × (left_new ≡ left))
+Does held (serve file batch pump) (Served served) left left_new before after =
+    MatchResult served (λ closed. IsServing held batch pump closed left left_new before after) (λ unopened. IsRefused held unopened before after × (left_new ≡ left))
 Does held (check file) (Checked checked) left left_new before after =
     MatchResult checked (λ closed. IsOpenedIn held closed.store × Shows closed.ended (line_of (status_reply (status_of closed.store.account))) before after)
     (λ unopened. IsRefused held unopened before after)

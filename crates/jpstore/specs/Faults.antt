@@ -29,9 +29,9 @@ abbrev pub told_of_unopened : Unopened → Fault
 told_of_unopened (NoFile fault) = told_of_file fault
 told_of_unopened (NoStore fault) = fault_of fault.number
 
--- of a session's end: the session's own fault, or that the device failed, or that it halted
+-- of a session's end: the session's own fault, or that the device failed
 abbrev pub told_of : Result Served ServeFault → Result (Unit {0}) Fault
-told_of (Ok served) = if served.broken then Err (fault_of DEVICE) else (if served.halted then Err told.Halted else Ok tt)
+told_of (Ok served) = if served.broken then Err (fault_of DEVICE) else Ok tt
 told_of (Err fault) = Err (told.Session fault)
 
 -- the words of a session's fault, and of each
@@ -49,7 +49,6 @@ words_of told.NoSpace = codes "no-space"
 words_of told.Memory = codes "memory"
 words_of (told.Refused refusal) = name_of refusal.number ++ codes " (" ++ decimal refusal.number ++ codes ")"
 words_of told.Writer = codes "writer"
-words_of told.Halted = codes "halted"
 words_of (told.Session fault) = words_of_session fault
 
 -- its line on standard error

@@ -1,5 +1,5 @@
 -- The programs over a store in a file.
-use Rattle.std.specs.Prelude.{◌≡◌, ◌≢◌, ◌⊎◌, ℕ, Bool, List, ◌++◌, Option, Result, Ok, Err, true, false, nat_eq, if◌then◌else◌}
+use Rattle.std.specs.Prelude.{◌≡◌, ◌≢◌, ◌⊎◌, ℕ, List, ◌++◌, Option, Result, Ok, Err, false, nat_eq, if◌then◌else◌}
 use Rattle.std.specs.declared.snapshot.Snapshot.{Snapshot}
 use Rattle.std.specs.Io.KnownBytes.{Consumes, IsAtEnd}
 use Rattle.sector_device.specs.Disk.{Disk, Image}
@@ -20,7 +20,7 @@ use Rattle.doc_changes.specs.State.{State}
 use Rattle.doc_changes.specs.Refusals.{plain}
 use Rattle.refusals.specs.declared.numbers.TheConstants.{DEVICE, MEMORY, NO_ROOM}
 use Rattle.jpstore.specs.declared.fault.Fault.{Fault}
-use Rattle.jpstore.specs.declared.fault.Fault.TheVariants.{Halted, Memory, Refused}
+use Rattle.jpstore.specs.declared.fault.Fault.TheVariants.{Memory, Refused}
 use Rattle.jpstore.specs.declared.opening.Unopened.{Unopened}
 use Rattle.jpstore.specs.declared.opening.Unopened.TheVariants.{NoFile, NoStore}
 use Rattle.protocol.specs.Lines.{lines_of}
@@ -38,9 +38,9 @@ pub record RanSomeEvents {D : Type 0} (disk : D → Disk) (old new : StoreView D
   pub replies : List Reply
   pub ran : RanInBatches disk old new events replies
 
--- all that there was to read was served, though the device may have failed meanwhile, or the session halted
+-- all that there was to read was served, though the device may have failed meanwhile
 abbrev pub WentToTheEnd : Result (Unit {0}) Fault → Type 0
-WentToTheEnd ended = (ended ≡ Ok tt) ⊎ (ended ≡ Err (fault_of DEVICE)) ⊎ (ended ≡ Err Halted)
+WentToTheEnd ended = (ended ≡ Ok tt) ⊎ (ended ≡ Err (fault_of DEVICE))
 
 -- A store was opened in a file that held this. If all reads gave what the file held, it is the state of the file,
 -- opened one time more, for which a half had room if it was in format 1; and what a crash might have left at any moment
@@ -87,22 +87,19 @@ pub record RanIn (held : Snapshot Held) (opened closed : StoreView FileDevice) (
   pub standing : IsStanding (file_disk closed.device) closed.account
 
 -- the options of a session that ends by its input alone, with batches of at most `batch` changes and steps of at most
--- `pump` sectors after them, and whether it halts at the first change that meets a fault
-abbrev pub options_of : ℕ → ℕ → Bool → Options
-options_of batch pump halt = record { batch = batch; pump = pump; turns = TURNS; halt = halt }
+-- `pump` sectors after them
+abbrev pub options_of : ℕ → ℕ → Options
+options_of batch pump = record { batch = batch; pump = pump; turns = TURNS }
 
 -- It was served to the end: all that was read is all there was, and what was written is the reply lines of a session over its lines, whose events were
--- that run. How it ended says whether it halted, unless the device failed.
-pub record IsServedIn (held : Snapshot Held) (batch pump : ℕ) (halt : Bool) (ended : Result (Unit {0}) Fault) (left left_new : Option (List ℕ)) (before after : Option (List ℕ)) (closed : StoreView FileDevice) : Type 0 where
+-- that run.
+pub record IsServedIn (held : Snapshot Held) (batch pump : ℕ) (left left_new : Option (List ℕ)) (before after : Option (List ℕ)) (closed : StoreView FileDevice) : Type 0 where
   pub opened : StoreView FileDevice
   pub read : List ℕ
   pub consumed : Consumes left left_new read
   pub at_end : IsAtEnd left_new
   pub count : ℕ
-  pub halted : Bool
-  pub went_on : ended ≡ Ok tt → halted ≡ false
-  pub stopped : ended ≡ Err Halted → halted ≡ true
-  pub served : Serves file_disk (options_of batch pump halt) opened (lines_of read) before closed after count halted
+  pub served : Serves file_disk (options_of batch pump) opened (lines_of read) before closed after count
   pub went : RanIn held opened closed served.told.session.events served.told.session.said
 
 -- It was served until something failed, or to the end.

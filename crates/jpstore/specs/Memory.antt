@@ -24,4 +24,4 @@ pub record IsServedInMemory (sectors : ℕ) (left left_new : Option (List ℕ)) 
   pub consumed : Consumes left left_new read
   pub at_end : IsAtEnd left_new
   pub count : ℕ
-  pub served : Serves mem_disk (options_of 1 0 false) opened (lines_of read) before closed after count false
+  pub served : Serves mem_disk (options_of 1 0) opened (lines_of read) before closed after count

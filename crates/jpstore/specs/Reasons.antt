@@ -11,7 +11,7 @@ use Rattle.jpstore.specs.declared.fault.Fault.TheVariants as told
 -- FILE of a call
 abbrev pub file_of : Asked → Option (List ℕ)
 file_of (format file sectors version mode sparse) = Some file
-file_of (serve file batch pump halt) = Some file
+file_of (serve file batch pump) = Some file
 file_of (check file) = Some file
 file_of (copy file new sectors) = Some file
 file_of (upgrade file version) = Some file
@@ -21,7 +21,7 @@ file_of (mem sectors) = None
 abbrev pub new_of : Asked → Option (List ℕ)
 new_of (copy file new sectors) = Some new
 new_of (format file sectors version mode sparse) = None
-new_of (serve file batch pump halt) = None
+new_of (serve file batch pump) = None
 new_of (check file) = None
 new_of (upgrade file version) = None
 new_of (mem sectors) = None

@@ -9,9 +9,7 @@ use Rattle.doc_machine.specs.Transaction.{Transaction, several, single}
 use Rattle.refusals.specs.declared.numbers.TheConstants.{NOT_JSON, NUMBER, LINE_TOO_LONG, COMMAND}
 use Rattle.protocol.specs.declared.limits.TheConstants.{LINE_BYTES, PUMP_SECTORS}
 
--- a transaction, or a snapshot or a step of one that is copied, which change no document, or a question, which changes
--- nothing: for the value at a pointer's place in a document, for a document's schema or its revision, for what a query
--- selects in a document, for all names, for the store's status
+-- a transaction; a snapshot, or a step of one that is copied, which change no document; or a question, which changes nothing: the value at a pointer's place, a schema, a revision, the nodes of a query, all names, the status
 pub data Request : Type 0 where
   change : Transaction → Request
   get : (name path : List ℕ) → Request

@@ -2,7 +2,7 @@
 use Rattle.std.proofs.Common.{◌≡◌, ◌≢◌, ◌⊎◌, ◌≤◌, inl, inr, ⊎_elim, ℕ, Bool, true, false, List, [], ◌∷◌, map, length, arith, chars, codes, pos, nat_le, if◌then◌else◌, refl, sym, ◌∙◌, ap, subst, Option, None, Some, option_and_then, Result, Ok, Err}
 use Rattle.std.proofs.lemmas.Bool.{leb-true, le-leb}
 use Rattle.doc_tree.specs.Doc as docs
-use Rattle.doc_tree.specs.Doc.{Doc, Members, boolean, get_member, int, member, text}
+use Rattle.doc_tree.specs.Doc.{Doc, Members, boolean, get_member, int, member, no_members, text}
 use Rattle.doc_tree.specs.Read.{Reading, document, not_json, not_whole, read_of}
 use Rattle.doc_tree.specs.Text.{text_of}
 use Rattle.doc_tree.specs.TreeView.{elements_of}
@@ -28,9 +28,11 @@ use Rattle.protocol.specs.declared.limits.TheConstants.{REPLY_BYTES}
 use Rattle.protocol.specs.Read.{IsNoChange}
 use Rattle.protocol.specs.Request.{Request, Asks, IsAskedBy, IsInRange, change, get, get_schema, rev, query, list, status, snapshot, pump, object_of}
 use Rattle.protocol.specs.Reply.{change_reply, names_reply, node_object, nodes_reply, refusal_reply, revision_reply, texts, told_by, value_reply, with_number}
-use Rattle.serve_lines.specs.Kept.{AsksFor, Has, IsRefusal, LineTells, Refuses, Shows, Tells}
+use Rattle.serve_lines.specs.Kept.{AsksFor, Has, HaveOwnNames, IsRefusal, LineTells, Refuses, Shows, Tells}
 use Rattle.serve_lines.specs.Session.{AnswersOther, Finds, Replies, Selects, found_reply, reply_to_rev, selected_reply}
-use Rattle.serve_lines.proofs.Batching.{true_false}
+
+true_false : true ≡ false → ⊥
+true_false h = cc h
 
 -- ---- refusals
 
@@ -44,12 +46,24 @@ number_behind : (place : Option ℕ) (name number : Doc) (rest : Members)
 number_behind None name number rest = refl
 number_behind (Some n) name number rest = refl
 
+-- no two members of a refusal have one name
+own_names : (name number : Doc) (c o r : Option ℕ)
+    → HaveOwnNames (with_number (codes "change") c (member (codes "error") name (member (codes "number") number (member (codes "ok") (boolean false) (with_number (codes "op") o (with_number (codes "rev") r no_members))))))
+own_names name number None None None = (refl, (refl, (refl, tt)))
+own_names name number None None (Some r) = (refl, (refl, (refl, (refl, tt))))
+own_names name number None (Some o) None = (refl, (refl, (refl, (refl, tt))))
+own_names name number None (Some o) (Some r) = (refl, (refl, (refl, (refl, (refl, tt)))))
+own_names name number (Some c) None None = (refl, (refl, (refl, (refl, tt))))
+own_names name number (Some c) None (Some r) = (refl, (refl, (refl, (refl, (refl, tt)))))
+own_names name number (Some c) (Some o) None = (refl, (refl, (refl, (refl, (refl, tt)))))
+own_names name number (Some c) (Some o) (Some r) = (refl, (refl, (refl, (refl, (refl, (refl, tt))))))
+
 -- the reply of a refusal refuses, by its number
 pub refuses : (r : Refusal) → Refuses (refusal_reply r) r.number
 refuses r =
     let name = text (name_of r.number) in
     let number = int (pos r.number) in
-    (ap (option_and_then (resolve [])) (ok_behind r.change name number (told_by r)), ap (option_and_then (resolve [])) (number_behind r.change name number (told_by r)))
+    (with_number (codes "change") r.change (member (codes "error") name (member (codes "number") number (member (codes "ok") (boolean false) (told_by r)))), refl, own_names name number r.change r.op r.rev, ok_behind r.change name number (told_by r), number_behind r.change name number (told_by r))
 
 pub refuses_by : (reply : Doc) (r : Refusal) → reply ≡ refusal_reply r → Refuses reply r.number
 refuses_by reply r is = subst (λ (d : Doc). Refuses d r.number) (sym is) (refuses r)
@@ -57,13 +71,12 @@ refuses_by reply r is = subst (λ (d : Doc). Refuses d r.number) (sym is) (refus
 is_refusal : (reply : Doc) (r : Refusal) → reply ≡ refusal_reply r → IsRefusal reply
 is_refusal reply r is = (r.number, refuses_by reply r is)
 
--- one that has no seq doesn't say that a transaction was done
-no_seq : (reply : Doc) → resolve (codes "seq" ∷ []) reply ≡ None → (seq : ℕ) → reply ≢ change_reply seq
-no_seq reply none seq is = let both = sym none ∙ ap (resolve (codes "seq" ∷ [])) is in absurd (cc both)
-
--- nor one that refuses
+-- one that refuses doesn't say that a transaction was done
 no_ok : (reply : Doc) → IsRefusal reply → (seq : ℕ) → reply ≢ change_reply seq
-no_ok reply refusal seq is = let both : Some (boolean false) ≡ Some (boolean true) = sym refusal.1.0 ∙ ap (resolve (codes "ok" ∷ [])) is in absurd (cc both)
+no_ok reply refusal seq is =
+    let refused : resolve (codes "ok" ∷ []) reply ≡ Some (boolean false) = ap (resolve (codes "ok" ∷ [])) refusal.1.1 ∙ ap (option_and_then (resolve [])) refusal.1.3 in
+    let both : Some (boolean false) ≡ Some (boolean true) = sym refused ∙ ap (resolve (codes "ok" ∷ [])) is in
+    absurd (cc both)
 
 -- ---- what a line asks for
 
@@ -197,10 +210,10 @@ query_answered s name path reply selected (inr (short, inr (inr only))) said =
 
 request_tells : (old new : Account) (request : Request) (events : List Event) (said : List Reply) (reply : Doc) → IsNoChange request → Replies old request events said reply new → Tells old.state request reply
 request_tells old new (change t) events said reply other h = absurd other
-request_tells old new snapshot events said reply other (Ok used, answers, is, asked, told) = no_seq reply (ap (resolve (codes "seq" ∷ [])) is)
-request_tells old new snapshot events said reply other (Err r, answers, is, asked, told) = no_ok reply (is_refusal reply r is)
-request_tells old new (pump most) events said reply other (Ok step, answers, is, asked, told) = no_seq reply (ap (resolve (codes "seq" ∷ [])) is)
-request_tells old new (pump most) events said reply other (Err r, answers, is, asked, told) = no_ok reply (is_refusal reply r is)
+request_tells old new snapshot events said reply other (Ok used, answers, is, asked, told) = inl (ap (resolve (codes "seq" ∷ [])) is)
+request_tells old new snapshot events said reply other (Err r, answers, is, asked, told) = inr (is_refusal reply r is)
+request_tells old new (pump most) events said reply other (Ok step, answers, is, asked, told) = inl (ap (resolve (codes "seq" ∷ [])) is)
+request_tells old new (pump most) events said reply other (Err r, answers, is, asked, told) = inr (is_refusal reply r is)
 request_tells old new (get name path) events said reply other h = value_answered old.state name path reply h.0 h.1 h.2
 request_tells old new (get_schema name) events said reply other h = schema_answered old.state name reply (document_at old.state name) refl h.0
 request_tells old new (rev name) events said reply other h = revision_answered old.state name reply (document_at old.state name) refl h.0
@@ -222,6 +235,10 @@ other_tells old new line events said reply (inr (Err number, asks, other, is)) =
 not_refused : (seq : ℕ) → IsRefusal (change_reply seq) → ⊥
 not_refused seq refusal = no_ok (change_reply seq) refusal seq refl
 
+-- nor one without a seq
+no_seq : (seq : ℕ) → resolve (codes "seq" ∷ []) (change_reply seq) ≡ None → ⊥
+no_seq seq none = let both : Some (int (pos seq)) ≡ None = none in absurd (cc both)
+
 -- a reply with another member isn't it
 other_member : (seq : ℕ) (name : List ℕ) (reply value : Doc) → change_reply seq ≡ reply → resolve (name ∷ []) reply ≡ Some value → resolve (name ∷ []) (change_reply seq) ≡ None → ⊥
 other_member seq name reply value is here none = let both = sym none ∙ ap (resolve (name ∷ [])) is ∙ here in absurd (cc both)
@@ -241,8 +258,8 @@ not_shown s status seq shows = let none : None ≡ Some (int (pos (length s.docu
 
 request_not_done : (s : State) (request : Request) (seq : ℕ) → Tells s request (change_reply seq) → ⊥
 request_not_done s (change t) seq refused = not_refused seq refused
-request_not_done s snapshot seq other = other seq refl
-request_not_done s (pump most) seq other = other seq refl
+request_not_done s snapshot seq tells = ⊎_elim (no_seq seq) (not_refused seq) tells
+request_not_done s (pump most) seq tells = ⊎_elim (no_seq seq) (not_refused seq) tells
 request_not_done s (get name path) seq tells = ⊎_elim (not_shown s (get name path) seq) (λ refused. not_refused seq refused.0) tells
 request_not_done s (get_schema name) seq tells = ⊎_elim (not_shown s (get_schema name) seq) (λ refused. not_refused seq refused.0) tells
 request_not_done s (rev name) seq tells = ⊎_elim (not_shown s (rev name) seq) (λ refused. not_refused seq refused.0) tells

@@ -1,18 +1,16 @@
 -- Changes of one batch: what they were replied, and what followed them.
-use Rattle.std.proofs.Common.{◌≡◌, ◌<◌, ◌+◌, ◌&&◌, ◌⊎◌, inl, inr, ⊎_elim, refl, ap, sym, ◌∙◌, subst, suc, ℕ, Bool, List, [], ◌∷◌, ◌++◌, length, map, replicate, arith, length-append, true, false}
+use Rattle.std.proofs.Common.{◌≡◌, ◌+◌, inl, inr, refl, ap, sym, ◌∙◌, subst, suc, ℕ, List, [], ◌∷◌, ◌++◌, length, map, replicate, arith, length-append, true}
 use Rattle.std.proofs.lemmas.List.{append-nil}
-use Rattle.std.specs.List.{list_any}
 use Rattle.sector_device.specs.Disk.{Disk, IsCoherent}
 use Rattle.doc_tree.specs.Doc.{Doc}
 use Rattle.doc_machine.specs.Transaction.{Transaction, changes_of}
 use Rattle.doc_changes.specs.Refusals.{plain}
 use Rattle.doc_changes.specs.declared.refusal.Refusal.{Refusal}
-use Rattle.refusals.specs.declared.numbers.TheConstants.{BROKEN, MEMORY}
+use Rattle.refusals.specs.declared.numbers.TheConstants.{MEMORY}
 use Rattle.doc_store.specs.Account.{Account, StoreView}
 use Rattle.doc_store.specs.Batch.{Commit, IsBatch, no_more, commit_made, commit_in_doubt, by_itself, stays_broken}
 use Rattle.doc_store.specs.Committed as slots
 use Rattle.doc_store.specs.Committed.{Slot, asked, changes, replies_done, replies_in_doubt}
-use Rattle.doc_store.specs.Faults.{BatchedUntilFull, is_fault}
 use Rattle.doc_store.specs.Run as store
 use Rattle.store_commits.specs.declared.event.Reply.{Reply as StoreReply}
 use Rattle.doc_store.specs.Run.{Batched, RanInBatches, reply_of}
@@ -22,7 +20,7 @@ use Rattle.store_commits.proofs.Running.{ran_joined}
 use Rattle.protocol.specs.Reply.{refusal_reply}
 use Rattle.protocol.specs.declared.reply.Reply.{Reply}
 use Rattle.protocol.specs.declared.reply.Reply.TheVariants as shown
-use Rattle.serve_lines.specs.LineReplies.{AllSay, BatchIsAnswered, EndsBatch, FollowsBatch, MakesCopyStep, IsBatchMade, IsRunFrom, shown_as}
+use Rattle.serve_lines.specs.LineReplies.{AllSay, BatchIsAnswered, EndsBatch, FollowsBatch, MakesCopyStep, IsRunFrom, shown_as}
 use Rattle.serve_lines.specs.Session.{Follows, HasDone, WantsStep, shown_reply}
 use Rattle.serve_lines.specs.declared.options.Options.{Options}
 
@@ -79,101 +77,41 @@ one_reply_each _ _ _ _ _ (stays_broken a d c cs replies more broken rest) = ap s
 
 -- ---- what a batch led to
 
-pub true_false : true ≡ false → ⊥
-true_false h = cc h
-
-and_true : (b : Bool) → b ≡ (b && true)
-and_true true = refl
-and_true false = refl
-
-both_true : (a b : Bool) → a ≡ true → b ≡ true → (a && b) ≡ true
-both_true a b h k = ap (λ (x : Bool). x && b) h ∙ k
-
-some_said : (p : StoreReply → Bool) (said : List StoreReply) → list_any p said ≡ true → 0 < length said
-some_said p [] h = absurd (cc h)
-some_said p (r ∷ said) h = omega arith
+pub changes_length : (cs : List Transaction) → length (changes cs) ≡ length cs
+changes_length [] = refl
+changes_length (c ∷ cs) = ap suc (changes_length cs)
 
 module _ {D : Type 0} (disk : D → Disk) (options : Options) where
   -- memory was refused
-  pub batch_refused : (old : StoreView D) (cs : List Transaction) → BatchIsAnswered disk options old cs (map (λ _. refusal_reply (plain MEMORY)) cs) options.halt old
+  pub batch_refused : (old : StoreView D) (cs : List Transaction) → BatchIsAnswered disk options old cs (map (λ _. refusal_reply (plain MEMORY)) cs) old
   batch_refused old cs = record {
-    first = cs;
-    rest = [];
-    parts = sym (append-nil cs);
-    why = inl refl;
-    told = map (λ _. refusal_reply (plain MEMORY)) cs;
-    replies_are = sym (append-nil (map (λ _. refusal_reply (plain MEMORY)) cs));
     mid = old.account;
     own = [];
     own_said = [];
-    fault = true;
-    answers = inl (refl, (refl, refl, refl), refl);
-    halted_is = and_true options.halt;
-    stops = λ _. tt;
+    answers = inl (refl, (refl, refl, refl));
     more = [];
     more_said = [];
     follows = inr (λ due. (let none = due.0 in absurd (cc none)), (refl, refl, refl));
     led = inl (refl, refl, refl);
   }
 
-  -- all were made, or in a session that halts those through the first without room
-  pub all_made : (old new : StoreView D) (cs : List Transaction) (said : List StoreReply) → options.halt ≡ false → Batched disk old new cs said → IsBatchMade disk options old cs said new
-  all_made old new cs said goes_on made = record {
-    first = cs;
-    rest = [];
-    parts = sym (append-nil cs);
-    batched = made;
-    stops = λ halt. absurd (true_false (sym halt ∙ goes_on));
-    why = inl refl;
-  }
-
-  pub first_made : (old new : StoreView D) (cs : List Transaction) (said : List StoreReply) → options.halt ≡ true → BatchedUntilFull disk old new cs said → IsBatchMade disk options old cs said new
-  first_made old new cs said halt made = record {
-    first = made.first;
-    rest = made.rest;
-    parts = made.parts;
-    batched = made.batched;
-    stops = λ _. made.stops;
-    why = ⊎_elim (λ none. inl none) (λ fault. inr (halt, fault)) made.why;
-  }
-
-  module _ (old mid : StoreView D) (cs : List Transaction) (said : List StoreReply) (m : IsBatchMade disk options old cs said mid) where
+  module _ (old mid : StoreView D) (cs : List Transaction) (said : List StoreReply) (made : Batched disk old mid cs said) where
     -- as many as were made
-    pub made_each : length said + length m.rest ≡ length cs
-    made_each =
-        omega (arith, ap length m.parts, length-append m.first m.rest, one_reply_each old.account mid.account m.first said m.batched.charged.commits m.batched.charged.batch)
+    pub made_each : length said ≡ length cs
+    made_each = one_reply_each old.account mid.account cs said made.charged.commits made.charged.batch
 
     -- the reply to each
     abbrev pub docs : List Doc
-    docs = map shown_reply said ++ map (λ _. refusal_reply (plain BROKEN)) m.rest
-
-    abbrev pub halts : Bool
-    halts = options.halt && list_any is_fault said
-
-    cut : (m.rest ≡ []) ⊎ ((options.halt ≡ true) × (list_any is_fault said ≡ true)) → (m.rest ≡ []) ⊎ ((halts ≡ true) × (0 < length m.first))
-    cut (inl none) = inl none
-    cut (inr fault) =
-        let each = one_reply_each old.account mid.account m.first said m.batched.charged.commits m.batched.charged.batch in
-        let some = some_said is_fault said fault.1 in
-        inr (both_true options.halt (list_any is_fault said) fault.0 fault.1, omega (arith, each, some))
+    docs = map shown_reply said
 
     -- and what follows them
-    batch_with : (new : StoreView D) (more : List store.Event) (more_said : List StoreReply) → Follows options said mid.account more more_said new.account → IsRunFrom disk old (changes m.first ++ more) (said ++ more_said) new
-        → BatchIsAnswered disk options old cs docs halts new
+    batch_with : (new : StoreView D) (more : List store.Event) (more_said : List StoreReply) → Follows options said mid.account more more_said new.account → IsRunFrom disk old (changes cs ++ more) (said ++ more_said) new
+        → BatchIsAnswered disk options old cs docs new
     batch_with new more more_said follows led = record {
-      first = m.first;
-      rest = m.rest;
-      parts = m.parts;
-      why = cut m.why;
-      told = map shown_reply said;
-      replies_are = refl;
       mid = mid.account;
-      own = changes m.first;
+      own = changes cs;
       own_said = said;
-      fault = list_any is_fault said;
-      answers = inr (m.batched.charged.commits, m.batched.charged.batch, refl, refl, refl);
-      halted_is = refl;
-      stops = m.stops;
+      answers = inr (made.charged.commits, made.charged.batch, refl, refl);
       more = more;
       more_said = more_said;
       follows = follows;
@@ -181,32 +119,32 @@ module _ {D : Type 0} (disk : D → Disk) (options : Options) where
     }
 
     -- nothing follows
-    batch_quiet : ((HasDone said × WantsStep options mid.account) → ⊥) → BatchIsAnswered disk options old cs docs halts mid
+    batch_quiet : ((HasDone said × WantsStep options mid.account) → ⊥) → BatchIsAnswered disk options old cs docs mid
     batch_quiet none = batch_with mid [] [] (inr (none, (refl, refl, refl)))
-        (inr (subst (λ (es : List store.Event). RanInBatches disk old mid es (said ++ [])) (sym (append-nil (changes m.first)))
-        (subst (λ (rs : List StoreReply). RanInBatches disk old mid (changes m.first) rs) (sym (append-nil said)) m.batched.ran)))
+        (inr (subst (λ (es : List store.Event). RanInBatches disk old mid es (said ++ [])) (sym (append-nil (changes cs)))
+        (subst (λ (rs : List StoreReply). RanInBatches disk old mid (changes cs) rs) (sym (append-nil said)) made.ran)))
 
     -- some change was done, and a step of a copy follows where one is wanted
-    batch_done : (coherent : (device : D) → (disk device).honest → IsCoherent (disk device)) (new : StoreView D) → HasDone said → MakesCopyStep disk options mid new → BatchIsAnswered disk options old cs docs halts new
+    batch_done : (coherent : (device : D) → (disk device).honest → IsCoherent (disk device)) (new : StoreView D) → HasDone said → MakesCopyStep disk options mid new → BatchIsAnswered disk options old cs docs new
     batch_done coherent new done h = elim h [
       | inl step ↦
           batch_with new (store.pump options.pump ∷ []) (reply_of Pumped step.1.0 ∷ []) (inl ((done, step.0), (step.1.0, step.1.1, refl, refl)))
-          (inr (ran_joined disk coherent true old mid new (changes m.first) (store.pump options.pump ∷ []) said (reply_of Pumped step.1.0 ∷ []) m.batched.ran
+          (inr (ran_joined disk coherent true old mid new (changes cs) (store.pump options.pump ∷ []) said (reply_of Pumped step.1.0 ∷ []) made.ran
           (ran_in_batches disk mid new (store.pump options.pump ∷ []) (reply_of Pumped step.1.0 ∷ []) step.1.2)))
-      | inr quiet ↦ subst (λ (v : StoreView D). BatchIsAnswered disk options old cs docs halts v) (sym quiet.1) (batch_quiet (λ due. quiet.0 due.1))
+      | inr quiet ↦ subst (λ (v : StoreView D). BatchIsAnswered disk options old cs docs v) (sym quiet.1) (batch_quiet (λ due. quiet.0 due.1))
     ]
 
     -- either
-    pub batch_behind : (coherent : (device : D) → (disk device).honest → IsCoherent (disk device)) (new : StoreView D) → FollowsBatch disk options said mid new → BatchIsAnswered disk options old cs docs halts new
+    pub batch_behind : (coherent : (device : D) → (disk device).honest → IsCoherent (disk device)) (new : StoreView D) → FollowsBatch disk options said mid new → BatchIsAnswered disk options old cs docs new
     batch_behind coherent new h = elim h [
       | inl done ↦ batch_done coherent new done.0 done.1
-      | inr none ↦ subst (λ (v : StoreView D). BatchIsAnswered disk options old cs docs halts v) (sym none.1) (batch_quiet (λ due. none.0 due.0))
+      | inr none ↦ subst (λ (v : StoreView D). BatchIsAnswered disk options old cs docs v) (sym none.1) (batch_quiet (λ due. none.0 due.0))
     ]
 
   -- of changes of which one is the last, the batch was made
-  pub batch_of_some : (old new : StoreView D) (cs : List Transaction) (c : Transaction) (all : List Transaction) (docs : List Doc) (halted : Bool) → all ≡ cs ++ c ∷ [] → EndsBatch disk options old all docs halted new
-      → BatchIsAnswered disk options old (cs ++ c ∷ []) docs halted new
-  batch_of_some old new cs c all docs halted is e = elim e [
+  pub batch_of_some : (old new : StoreView D) (cs : List Transaction) (c : Transaction) (all : List Transaction) (docs : List Doc) → all ≡ cs ++ c ∷ [] → EndsBatch disk options old all docs new
+      → BatchIsAnswered disk options old (cs ++ c ∷ []) docs new
+  batch_of_some old new cs c all docs is e = elim e [
     | inl none ↦ absurd (omega (arith, length-append cs (c ∷ []), ap length (sym is ∙ none.0)))
-    | inr some ↦ subst (λ (l : List Transaction). BatchIsAnswered disk options old l docs halted new) is some.1
+    | inr some ↦ subst (λ (l : List Transaction). BatchIsAnswered disk options old l docs new) is some.1
   ]

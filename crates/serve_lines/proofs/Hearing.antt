@@ -1,5 +1,5 @@
 -- What is known of a session over pieces: its start, its lines so far, and what a crash leaves.
-use Rattle.std.proofs.Common.{◌≡◌, ℕ, List, [], ◌∷◌, ◌++◌, refl, Bool, false, sym, ap, ◌∙◌, subst, map, append_assoc}
+use Rattle.std.proofs.Common.{◌≡◌, ℕ, List, [], ◌∷◌, ◌++◌, refl, false, sym, ap, ◌∙◌, subst, map, append_assoc}
 use Rattle.std.proofs.lemmas.List.{append-nil}
 use Rattle.sector_device.specs.Disk.{Disk, Image, IsCoherent}
 use Rattle.doc_tree.specs.Doc.{Doc}
@@ -18,7 +18,7 @@ use Rattle.serve_lines.specs.declared.session.Session.{Session}
 use Rattle.serve_lines.specs.declared.options.Options.{Options}
 use Rattle.serve_lines.specs.Serve.{IsSession}
 use Rattle.serve_lines.proofs.Batching.{says_none}
-use Rattle.serve_lines.proofs.Ending.{SatSo, reaches_more, reaches_start, settles_ended}
+use Rattle.serve_lines.proofs.Ending.{reaches_more, reaches_start, settles_ended}
 
 -- the first of the replies that are ready says the first of their documents
 pub record First (reply : Reply) (rest : List Reply) (docs : List Doc) : Type 0 where
@@ -35,11 +35,11 @@ first_says reply rest (said ∷ more) h = record { said = said; more = more; doc
 module _ {D : Type 0} (disk : D → Disk) (options : Options) where
   -- The replies that were given, where none is ready, are those of a session over the lines that have ended, but for those whose changes wait.
   pub settles_heard : (start : StoreView D) (read : List ℕ) (now : StoreView D) (session : Session) (replies : List Doc) → session.ready.items ≡ [] → HasRead disk options start read now session replies
-      → HasAnswered disk options start (answered (ended read)) now replies (waiting_in session) session.halted
+      → HasAnswered disk options start (answered (ended read)) now replies (waiting_in session)
   settles_heard start read now session replies none s =
       let no_more : replies ++ s.ready ≡ replies = ap (λ (l : List Doc). replies ++ l) (says_none s.ready (subst (λ (l : List Reply). AllSay l s.ready) none s.says)) ∙ append-nil replies in
-      subst (λ (rs : List Doc). HasAnswered disk options start (answered (ended read)) now rs (waiting_in session) session.halted) no_more
-      (settles_ended disk options start read now (replies ++ s.ready) (waiting_in session) session.halted s.rest s.kept.whole s.reached)
+      subst (λ (rs : List Doc). HasAnswered disk options start (answered (ended read)) now rs (waiting_in session)) no_more
+      (settles_ended disk options start read now (replies ++ s.ready) (waiting_in session) s.rest s.kept.whole s.reached)
 
   -- what a crash leaves now: each image stands for the store's state, and where the store works for nothing else
   pub stands_heard : (start : StoreView D) (read : List ℕ) (now : StoreView D) (session : Session) (replies : List Doc) → HasRead disk options start read now session replies
@@ -61,9 +61,8 @@ module _ {D : Type 0} (disk : D → Disk) (options : Options) where
         record {
           rest = s.rest;
           ready = first.more;
-          reached = subst (λ (h : Bool). HasCut disk options start read now ((replies ++ first.said ∷ []) ++ first.more) (waiting_in is) h s.rest) (sym same.halted)
-              (subst (λ (cs : List Transaction). HasCut disk options start read now ((replies ++ first.said ∷ []) ++ first.more) cs was.halted s.rest) waiting
-              (subst (λ (rs : List Doc). HasCut disk options start read now rs (waiting_in was) was.halted s.rest) all s.reached));
+          reached = subst (λ (cs : List Transaction). HasCut disk options start read now ((replies ++ first.said ∷ []) ++ first.more) cs s.rest) waiting
+              (subst (λ (rs : List Doc). HasCut disk options start read now rs (waiting_in was) s.rest) all s.reached);
           kept = subst (λ l. Holds l s.rest) (sym same.line) s.kept;
           goes_by = same.options ∙ s.goes_by;
           says = first.others;
@@ -76,21 +75,19 @@ module _ {D : Type 0} (disk : D → Disk) (options : Options) where
   hears_same start read now was is replies none still same s = record {
     rest = s.rest;
     ready = s.ready;
-    reached = subst (λ (h : Bool). HasCut disk options start read now (replies ++ s.ready) (waiting_in is) h s.rest) (sym same.halted)
-        (subst (λ (cs : List Transaction). HasCut disk options start read now (replies ++ s.ready) cs was.halted s.rest) (sym (ap (λ v. map transaction_of v.items) same.waiting)) s.reached);
+    reached = subst (λ (cs : List Transaction). HasCut disk options start read now (replies ++ s.ready) cs s.rest) (sym (ap (λ v. map transaction_of v.items) same.waiting)) s.reached;
     kept = subst (λ l. Holds l s.rest) (sym same.line) s.kept;
     goes_by = same.options ∙ s.goes_by;
     says = subst (λ (l : List Reply). AllSay l s.ready) (none ∙ sym still) s.says;
   }
 
   -- the same once the input has ended
-  pub ended_given : (start : StoreView D) (lines : List (List ℕ)) (now : StoreView D) (was is : Session) (replies : List Doc) (reply : Reply) → was.ready.items ≡ reply ∷ is.ready.items → is.halted ≡ was.halted
+  pub ended_given : (start : StoreView D) (lines : List (List ℕ)) (now : StoreView D) (was is : Session) (replies : List Doc) (reply : Reply) → was.ready.items ≡ reply ∷ is.ready.items
       → HasEnded disk options start lines now was replies → (said : Doc) × Says reply said × HasEnded disk options start lines now is (replies ++ said ∷ [])
-  ended_given start lines now was is replies reply given same s =
+  ended_given start lines now was is replies reply given s =
       let first = first_says reply is.ready.items s.ready (subst (λ (l : List Reply). AllSay l s.ready) given s.says) in
       let all : replies ++ s.ready ≡ (replies ++ first.said ∷ []) ++ first.more = ap (λ (l : List Doc). replies ++ l) first.docs_are ∙ sym (append_assoc replies (first.said ∷ []) first.more) in
-      let so = subst (λ (rs : List Doc). SatSo disk options start lines rs now was.halted) all (record { session = s.session; halted_is = s.halted_is }) in
-      (first.said, first.says, record { ready = first.more; session = so.session; halted_is = so.halted_is ∙ sym same; says = first.others })
+      (first.said, first.says, record { ready = first.more; session = subst (λ (rs : List Doc). IsSession disk options start lines rs now) all s.session; says = first.others })
 
   -- and where none is ready any more
   pub ended_all : (start : StoreView D) (lines : List (List ℕ)) (now : StoreView D) (session : Session) (replies : List Doc) → session.ready.items ≡ [] → HasEnded disk options start lines now session replies
@@ -101,13 +98,12 @@ module _ {D : Type 0} (disk : D → Disk) (options : Options) where
 module _ {D : Type 0} (disk : D → Disk) (options : Options) (coherent : (device : D) → (disk device).honest → IsCoherent (disk device)) where
   -- A session for which nothing waits may begin anew at any store: what it holds is all that it has read.
   pub hears_start : (start : StoreView D) (session : Session) (so_far : List ℕ) → IsStanding (disk start.device) start.account → session.options ≡ options → session.waiting.items ≡ [] → session.ready.items ≡ []
-      → session.halted ≡ false → Holds session.line so_far → HasRead disk options start so_far start session []
-  hears_start start session so_far standing by none_waits none_ready goes_on kept = record {
+      → Holds session.line so_far → HasRead disk options start so_far start session []
+  hears_start start session so_far standing by none_waits none_ready kept = record {
     rest = so_far;
     ready = [];
-    reached = subst (λ (h : Bool). HasCut disk options start so_far start [] (map transaction_of session.waiting.items) h so_far) (sym goes_on)
-        (subst (λ (items : List Held). HasCut disk options start so_far start [] (map transaction_of items) false so_far) (sym none_waits)
-        (reaches_more disk options start [] start [] [] false [] so_far (reaches_start disk options coherent start standing)));
+    reached = subst (λ (items : List Held). HasCut disk options start so_far start [] (map transaction_of items) so_far) (sym none_waits)
+        (reaches_more disk options start [] start [] [] [] so_far (reaches_start disk options coherent start standing));
     kept = kept;
     goes_by = by;
     says = subst (λ (l : List Reply). AllSay l []) (sym none_ready) tt;

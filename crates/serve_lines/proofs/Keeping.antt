@@ -1,5 +1,5 @@
 -- What the lines of a session were answered, and that it is kept.
-use Rattle.std.proofs.Common.{◌≡◌, inl, inr, ℕ, ◌+◌, Bool, true, false, List, [], ◌∷◌, ◌++◌, flat_map, length, length-append, map, nat_eq, if◌then◌else◌, refl, sym, ◌∙◌, ap, subst, Option, Result, Ok, Err}
+use Rattle.std.proofs.Common.{◌≡◌, ◌⊎◌, inl, inr, ⊎_elim, ℕ, ◌+◌, Bool, true, false, List, [], ◌∷◌, ◌++◌, flat_map, length, length-append, map, nat_eq, if◌then◌else◌, refl, sym, ◌∙◌, ap, subst, Option, Result, Ok, Err}
 use Rattle.std.proofs.lemmas.List.{append_assoc, append-nil}
 use Rattle.std.proofs.lemmas.Grind.{flat_map-append}
 use Rattle.std.specs.Io.KnownBytes.{Consumes}
@@ -8,7 +8,7 @@ use Rattle.doc_tree.specs.Doc.{Doc}
 use Rattle.doc_changes.specs.Refusals.{plain}
 use Rattle.doc_changes.specs.State.{State}
 use Rattle.doc_machine.specs.Transaction.{Transaction, after_in}
-use Rattle.refusals.specs.declared.numbers.TheConstants.{BROKEN, MEMORY}
+use Rattle.refusals.specs.declared.numbers.TheConstants.{MEMORY}
 use Rattle.doc_store.specs.Account.{Account, StoreView}
 use Rattle.doc_store.specs.Committed.{changes}
 use Rattle.doc_store.specs.Events.{dones_of, hits_of}
@@ -22,58 +22,75 @@ use Rattle.doc_store.proofs.Telling.{dones_append, hits_append}
 use Rattle.store_commits.specs.declared.event.Reply.{Reply}
 use Rattle.store_commits.specs.declared.pump.Pump.{Pump}
 use Rattle.store_commits.proofs.Changes.{after_append}
-use Rattle.store_commits.proofs.Running.{pumped_state}
+use Rattle.store_commits.proofs.Running.{pumped_state, pumped_works}
 use Rattle.protocol.specs.Lines.{answered, cut, ended, line_feed, lines_of, onto, onto_ended}
 use Rattle.protocol.specs.Read.{IsNoChange}
 use Rattle.protocol.specs.Request as asked
 use Rattle.protocol.specs.Reply.{refusal_reply}
 use Rattle.serve_lines.specs.Kept.{IsKept, Replied, no_line, was_done, was_hit, was_told}
 use Rattle.serve_lines.specs.Serve.{BreaksOff, IsSession, Pauses}
-use Rattle.serve_lines.specs.Session.{AnswersGroup, AnswersOther, AreGroups, Does, Follows, Group, Replies, Session, alone, begun, no_groups, one_alone, one_full, one_more, one_refused, one_short, shown_reply, together}
+use Rattle.serve_lines.specs.Session.{AnswersGroup, AnswersOther, AreGroups, Does, Follows, Group, Replies, Session, alone, begun, no_groups, one_alone, one_full, one_more, one_short, shown_reply, together}
 use Rattle.serve_lines.specs.declared.options.Options.{Options}
-use Rattle.serve_lines.proofs.Answering.{other_tells, refuses}
-use Rattle.serve_lines.proofs.Batching.{one_reply_each}
+use Rattle.serve_lines.proofs.Answering.{other_tells}
+use Rattle.serve_lines.proofs.Batching.{changes_length, one_reply_each}
 use Rattle.serve_lines.proofs.Ending.{answered-append}
-use Rattle.serve_lines.proofs.Halting.{changes_length}
 use Rattle.serve_lines.proofs.Numbering.{batch_counts, batch_replied, batch_unmade}
 
--- lines behind lines
+-- lines behind lines: after one that was hit none is done
 replied_behind : (s : State) (lines more : List (List ℕ)) (replies told : List Doc) (done also hit struck : List Transaction) → Replied s lines replies done hit → Replied (after_each s done) more told also struck
-    → Replied s (lines ++ more) (replies ++ told) (done ++ also) (hit ++ struck)
-replied_behind _ _ more _ told _ also _ struck (no_line s) second = second
-replied_behind _ _ more _ told _ also _ struck (was_done s line t lines replies done hit asks rest) second =
-    was_done s line t (lines ++ more) (replies ++ told) (done ++ also) (hit ++ struck) asks (replied_behind (after_in s t) lines more replies told done also hit struck rest second)
-replied_behind _ _ more _ told _ also _ struck (was_hit s line t reply lines replies done hit asks refuses rest) second =
-    was_hit s line t reply (lines ++ more) (replies ++ told) (done ++ also) (hit ++ struck) asks refuses (replied_behind s lines more replies told done also hit struck rest second)
-replied_behind _ _ more _ told _ also _ struck (was_told s line reply lines replies done hit is rest) second =
-    was_told s line reply (lines ++ more) (replies ++ told) (done ++ also) (hit ++ struck) is (replied_behind s lines more replies told done also hit struck rest second)
+    → (hit ≡ []) ⊎ (also ≡ []) → Replied s (lines ++ more) (replies ++ told) (done ++ also) (hit ++ struck)
+replied_behind _ _ more _ told _ also _ struck (no_line s) second apart = second
+replied_behind _ _ more _ told _ also _ struck (was_done s line t lines replies done hit asks rest) second apart =
+    was_done s line t (lines ++ more) (replies ++ told) (done ++ also) (hit ++ struck) asks (replied_behind (after_in s t) lines more replies told done also hit struck rest second apart)
+replied_behind _ _ more _ told _ also _ struck (was_hit s line t reply lines replies hit asks refuses rest) second (inl none) = absurd (cc none)
+replied_behind _ _ more _ told _ also _ struck (was_hit s line t reply lines replies hit asks refuses rest) second (inr none) =
+    subst (λ (ds : List Transaction). Replied s (line ∷ lines ++ more) (reply ∷ replies ++ told) ds (t ∷ hit ++ struck)) (sym none)
+    (was_hit s line t reply (lines ++ more) (replies ++ told) (hit ++ struck) asks refuses
+    (replied_behind s lines more replies told [] [] hit struck rest (subst (λ (ds : List Transaction). Replied s more told ds struck) none second) (inr refl)))
+replied_behind _ _ more _ told _ also _ struck (was_told s line reply lines replies done hit is rest) second apart =
+    was_told s line reply (lines ++ more) (replies ++ told) (done ++ also) (hit ++ struck) is (replied_behind s lines more replies told done also hit struck rest second apart)
 
 -- ---- events that are no transaction
 
--- no transaction of these was done or hit, and no document has changed
+-- no transaction of these was done or hit, no document has changed, and a broken store stays so
 record Quiet (old new : Account) (events : List Event) (said : List Reply) : Type 0 where
   each : length events ≡ length said
   none_done : dones_of events said ≡ []
   none_hit : hits_of events said ≡ []
   same : new.state ≡ old.state
+  still : old.broken ≡ true → new.broken ≡ true
 
 quiet_none : (old new : Account) (events : List Event) (said : List Reply) → events ≡ [] → said ≡ [] → new ≡ old → Quiet old new events said
 quiet_none old new events said es rs same = subst (λ (l : List Event). Quiet old new l said) (sym es)
-    (subst (λ (l : List Reply). Quiet old new [] l) (sym rs) (record { each = refl; none_done = refl; none_hit = refl; same = ap (λ (a : Account). a.state) same }))
+    (subst (λ (l : List Reply). Quiet old new [] l) (sym rs) (record { each = refl; none_done = refl; none_hit = refl; same = ap (λ (a : Account). a.state) same; still = λ broken. ap (λ (a : Account). a.broken) same ∙ broken }))
 
-quiet_snapshot : (old new : Account) (events : List Event) (said : List Reply) (r : Reply) → events ≡ store.snapshot ∷ [] → said ≡ r ∷ [] → new.state ≡ old.state → Quiet old new events said
-quiet_snapshot old new events said r es rs same = subst (λ (l : List Event). Quiet old new l said) (sym es)
-    (subst (λ (l : List Reply). Quiet old new (store.snapshot ∷ []) l) (sym rs) (record { each = refl; none_done = refl; none_hit = refl; same = same }))
+quiet_snapshot : (old new : Account) (events : List Event) (said : List Reply) (r : Reply) → events ≡ store.snapshot ∷ [] → said ≡ r ∷ [] → new.state ≡ old.state → (old.broken ≡ true → new.broken ≡ true) → Quiet old new events said
+quiet_snapshot old new events said r es rs same still = subst (λ (l : List Event). Quiet old new l said) (sym es)
+    (subst (λ (l : List Reply). Quiet old new (store.snapshot ∷ []) l) (sym rs) (record { each = refl; none_done = refl; none_hit = refl; same = same; still = still }))
 
-quiet_pump : (old new : Account) (events : List Event) (said : List Reply) (most : ℕ) (r : Reply) → events ≡ store.pump most ∷ [] → said ≡ r ∷ [] → new.state ≡ old.state → Quiet old new events said
-quiet_pump old new events said most r es rs same = subst (λ (l : List Event). Quiet old new l said) (sym es)
-    (subst (λ (l : List Reply). Quiet old new (store.pump most ∷ []) l) (sym rs) (record { each = refl; none_done = refl; none_hit = refl; same = same }))
+quiet_pump : (old new : Account) (events : List Event) (said : List Reply) (most : ℕ) (r : Reply) → events ≡ store.pump most ∷ [] → said ≡ r ∷ [] → new.state ≡ old.state → (old.broken ≡ true → new.broken ≡ true) → Quiet old new events said
+quiet_pump old new events said most r es rs same still = subst (λ (l : List Event). Quiet old new l said) (sym es)
+    (subst (λ (l : List Reply). Quiet old new (store.pump most ∷ []) l) (sym rs) (record { each = refl; none_done = refl; none_hit = refl; same = same; still = still }))
 
 snapshot_state : (old new : Account) (outcome : Result ℕ _) → SnapshotAnswers old outcome new → new.state ≡ old.state
 snapshot_state old new (Ok used) is = ap (λ (a : Account). a.state) is.new_is
 snapshot_state old new (Err r) (inl is) = ap (λ (a : Account). a.state) is.1.new_is
 snapshot_state old new (Err r) (inr (inl is)) = ap (λ (a : Account). a.state) is.1
 snapshot_state old new (Err r) (inr (inr is)) = ap (λ (a : Account). a.state) is.1.new_is
+
+works_not : {A : Type 0} (a : Account) → a.broken ≡ false → a.broken ≡ true → A
+works_not a works broken = let both = sym works ∙ broken in absurd (cc both)
+
+snapshot_still : (old new : Account) (outcome : Result ℕ _) → SnapshotAnswers old outcome new → old.broken ≡ true → new.broken ≡ true
+snapshot_still old new (Ok used) is broken = works_not old is.can.works broken
+snapshot_still old new (Err r) (inl is) broken = works_not old is.1.can.works broken
+snapshot_still old new (Err r) (inr (inl is)) broken = ap (λ (a : Account). a.broken) is.1 ∙ broken
+snapshot_still old new (Err r) (inr (inr is)) broken = works_not old is.1.works broken
+
+pump_still : (old new : Account) (most : ℕ) (outcome : Result Pump _) → PumpAnswers old most outcome new → old.broken ≡ true → new.broken ≡ true
+pump_still old new most (Ok p) is broken = works_not old (pumped_works old new most p is) broken
+pump_still old new most (Err r) (inl is) broken = works_not old is.1.can.works broken
+pump_still old new most (Err r) (inr is) broken = ap (λ (a : Account). a.broken) is.1 ∙ broken
 
 pump_state : (old new : Account) (most : ℕ) (outcome : Result Pump _) → PumpAnswers old most outcome new → new.state ≡ old.state
 pump_state old new most (Ok p) is = pumped_state old new most p is
@@ -82,8 +99,8 @@ pump_state old new most (Err r) (inr is) = ap (λ (a : Account). a.state) is.1
 
 quiet_request : (old new : Account) (request : asked.Request) (events : List Event) (said : List Reply) (reply : Doc) → IsNoChange request → Replies old request events said reply new → Quiet old new events said
 quiet_request old new (asked.change t) events said reply other h = absurd other
-quiet_request old new asked.snapshot events said reply other h = quiet_snapshot old new events said _ h.3 h.4 (snapshot_state old new h.0 h.1)
-quiet_request old new (asked.pump most) events said reply other h = quiet_pump old new events said most _ h.3 h.4 (pump_state old new most h.0 h.1)
+quiet_request old new asked.snapshot events said reply other h = quiet_snapshot old new events said _ h.3 h.4 (snapshot_state old new h.0 h.1) (snapshot_still old new h.0 h.1)
+quiet_request old new (asked.pump most) events said reply other h = quiet_pump old new events said most _ h.3 h.4 (pump_state old new most h.0 h.1) (pump_still old new most h.0 h.1)
 quiet_request old new (asked.get name path) events said reply other h = quiet_none old new events said h.3.0 h.3.1 h.3.2
 quiet_request old new (asked.get_schema name) events said reply other h = quiet_none old new events said h.1.0 h.1.1 h.1.2
 quiet_request old new (asked.rev name) events said reply other h = quiet_none old new events said h.1.0 h.1.1 h.1.2
@@ -97,16 +114,18 @@ quiet_line old new line events said reply (inr (Ok request, asks, other, is)) = 
 quiet_line old new line events said reply (inr (Err number, asks, other, is)) = quiet_none old new events said is.1.0 is.1.1 is.1.2
 
 quiet_behind : (options : Options) (before : List Reply) (old new : Account) (events : List Event) (said : List Reply) → Follows options before old events said new → Quiet old new events said
-quiet_behind options before old new events said (inl step) = quiet_pump old new events said options.pump _ step.1.2 step.1.3 (pump_state old new options.pump step.1.0 step.1.1)
+quiet_behind options before old new events said (inl step) = quiet_pump old new events said options.pump _ step.1.2 step.1.3 (pump_state old new options.pump step.1.0 step.1.1) (pump_still old new options.pump step.1.0 step.1.1)
 quiet_behind options before old new events said (inr none) = quiet_none old new events said none.1.0 none.1.1 none.1.2
 
 -- ---- groups of lines
 
--- from an account to an account, lines were answered so, by these events
+-- from an account to an account, lines were answered in this way, by these events: a hit breaks the store, and a broken one does nothing
 record LinesReplied (old new : Account) (lines : List (List ℕ)) (events : List Event) (said : List Reply) (replies : List Doc) : Type 0 where
   each : length events ≡ length said
   replied : Replied old.state lines replies (dones_of events said) (hits_of events said)
   state : new.state ≡ after_each old.state (dones_of events said)
+  hit : (hits_of events said ≡ []) ⊎ (new.broken ≡ true)
+  broke : old.broken ≡ true → (dones_of events said ≡ []) × (new.broken ≡ true)
 
 both : (a b d : Account) (lines more : List (List ℕ)) (es fs : List Event) (rs qs : List Reply) (replies told : List Doc) → LinesReplied a b lines es rs replies → LinesReplied b d more fs qs told
     → LinesReplied a d (lines ++ more) (es ++ fs) (rs ++ qs) (replies ++ told)
@@ -118,8 +137,10 @@ both a b d lines more es fs rs qs replies told first second =
       replied = subst (λ (ds : List Transaction). Replied a.state (lines ++ more) (replies ++ told) ds (hits_of (es ++ fs) (rs ++ qs))) (sym dones)
           (subst (λ (hs : List Transaction). Replied a.state (lines ++ more) (replies ++ told) (dones_of es rs ++ dones_of fs qs) hs) (sym struck)
           (replied_behind a.state lines more replies told (dones_of es rs) (dones_of fs qs) (hits_of es rs) (hits_of fs qs) first.replied
-          (subst (λ (s : State). Replied s more told (dones_of fs qs) (hits_of fs qs)) first.state second.replied)));
+          (subst (λ (s : State). Replied s more told (dones_of fs qs) (hits_of fs qs)) first.state second.replied) (⊎_elim inl (λ broken. inr (second.broke broken).0) first.hit)));
       state = second.state ∙ ap (λ (s : State). after_each s (dones_of fs qs)) first.state ∙ sym (after_append a.state (dones_of es rs) (dones_of fs qs)) ∙ ap (after_each a.state) (sym dones);
+      hit = ⊎_elim (λ none. ⊎_elim (λ no_more. inl (struck ∙ (λ i. none i ++ no_more i))) inr second.hit) (λ broken. inr (second.broke broken).1) first.hit;
+      broke = λ broken. (let one = first.broke broken in let two = second.broke one.1 in (dones ∙ (λ i. one.0 i ++ two.0 i), two.1));
     }
 
 -- lines that made nothing
@@ -129,6 +150,8 @@ quiet_replied old new lines events said replies quiet replied = record {
   each = quiet.each;
   replied = subst (λ (ds : List Transaction). Replied old.state lines replies ds (hits_of events said)) (sym quiet.none_done) (subst (λ (hs : List Transaction). Replied old.state lines replies [] hs) (sym quiet.none_hit) replied);
   state = quiet.same ∙ ap (after_each old.state) (sym quiet.none_done);
+  hit = inl quiet.none_hit;
+  broke = λ broken. (quiet.none_done, quiet.still broken);
 }
 
 -- the lines of a group
@@ -136,27 +159,29 @@ abbrev lines_in : Group → List (List ℕ)
 lines_in (alone line) = line ∷ []
 lines_in (together lines) = lines
 
-own_replied : (old mid : Account) (group : Group) (events : List Event) (said : List Reply) (replies : List Doc) (fault : Bool) → AnswersGroup old group events said replies fault mid
+own_replied : (old mid : Account) (group : Group) (events : List Event) (said : List Reply) (replies : List Doc) → AnswersGroup old group events said replies mid
     → LinesReplied old mid (lines_in group) events said replies
-own_replied old mid (alone line) events said replies fault (reply, is, answers, may) = subst (λ (l : List Doc). LinesReplied old mid (line ∷ []) events said l) (sym is)
+own_replied old mid (alone line) events said replies (reply, is, answers) = subst (λ (l : List Doc). LinesReplied old mid (line ∷ []) events said l) (sym is)
     (quiet_replied old mid (line ∷ []) events said (reply ∷ []) (quiet_line old mid line events said reply answers)
     (was_told old.state line reply [] [] [] [] (other_tells old mid line events said reply answers) (no_line old.state)))
-own_replied old mid (together lines) events said replies fault (cs, asks, inl memory) = subst (λ (l : List Doc). LinesReplied old mid lines events said l) (sym memory.0)
+own_replied old mid (together lines) events said replies (cs, asks, inl memory) = subst (λ (l : List Doc). LinesReplied old mid lines events said l) (sym memory.0)
     (quiet_replied old mid lines events said (map (λ _. refusal_reply (plain MEMORY)) cs) (quiet_none old mid events said memory.1.0 memory.1.1 memory.1.2) (batch_unmade old.state lines cs asks))
-own_replied old mid (together lines) events said replies fault (cs, asks, inr batch) =
+own_replied old mid (together lines) events said replies (cs, asks, inr batch) =
     let counted = batch_counts old mid cs said batch.0 batch.1 in
     let own : LinesReplied old mid lines (changes cs) said (map shown_reply said) = record {
       each = changes_length cs ∙ sym (one_reply_each old mid cs said batch.0 batch.1);
       replied = batch_replied old.state lines cs said asks counted.counts;
       state = counted.state;
+      hit = counted.hit;
+      broke = counted.broke;
     } in
     subst (λ (es : List Event). LinesReplied old mid lines es said replies) (sym batch.2) (subst (λ (l : List Doc). LinesReplied old mid lines (changes cs) said l) (sym batch.3) own)
 
-group_replied : (options : Options) (old new : Account) (group : Group) (events : List Event) (said : List Reply) (replies : List Doc) (halted : Bool) → Does options old group events said replies halted new
+group_replied : (options : Options) (old new : Account) (group : Group) (events : List Event) (said : List Reply) (replies : List Doc) → Does options old group events said replies new
     → LinesReplied old new (lines_in group) events said replies
-group_replied options old new group events said replies halted d =
+group_replied options old new group events said replies d =
     let more = quiet_replied d.mid new [] d.more d.more_said [] (quiet_behind options d.own_said d.mid new d.more d.more_said d.follows) (no_line d.mid.state) in
-    let all = both old d.mid new (lines_in group) [] d.own d.more d.own_said d.more_said replies [] (own_replied old d.mid group d.own d.own_said replies d.fault d.answers) more in
+    let all = both old d.mid new (lines_in group) [] d.own d.more d.own_said d.more_said replies [] (own_replied old d.mid group d.own d.own_said replies d.answers) more in
     subst (λ (es : List Event). LinesReplied old new (lines_in group) es said replies) (sym d.events_are)
     (subst (λ (rs : List Reply). LinesReplied old new (lines_in group) (d.own ++ d.more) rs replies) (sym d.said_are)
     (subst (λ (ls : List (List ℕ)). LinesReplied old new ls (d.own ++ d.more) (d.own_said ++ d.more_said) replies) (append-nil (lines_in group))
@@ -176,32 +201,19 @@ grouped_lines options _ _ _ (one_alone lines groups whole line before) = one_beh
 grouped_lines options _ _ _ (one_full lines groups batch before full) = one_behind groups (together batch) ∙ ap (λ (l : List (List ℕ)). l ++ batch) (grouped_lines options lines groups true before)
 grouped_lines options _ _ _ (one_short lines groups batch before some few) = one_behind groups (together batch) ∙ ap (λ (l : List (List ℕ)). l ++ batch) (grouped_lines options lines groups true before)
 
-session_replied : (options : Options) (a b : Account) (groups : List Group) (events : List Event) (said : List Reply) (replies : List Doc) (halted : Bool) → Session options a groups events said replies halted b
+session_replied : (options : Options) (a b : Account) (groups : List Group) (events : List Event) (said : List Reply) (replies : List Doc) → Session options a groups events said replies b
     → LinesReplied a b (lines_in_all groups) events said replies
-session_replied options _ _ _ _ _ _ _ (begun a) = record { each = refl; replied = no_line a.state; state = refl }
-session_replied options _ _ _ _ _ _ _ (one_more a b d groups group events more said more_said replies more_replies halted before group_does) =
+session_replied options _ _ _ _ _ _ (begun a) = record { each = refl; replied = no_line a.state; state = refl; hit = inl refl; broke = λ broken. (refl, broken) }
+session_replied options _ _ _ _ _ _ (one_more a b d groups group events more said more_said replies more_replies before group_does) =
     subst (λ (ls : List (List ℕ)). LinesReplied a d ls (events ++ more) (said ++ more_said) (replies ++ more_replies)) (sym (one_behind groups group))
-    (both a b d (lines_in_all groups) (lines_in group) events more said more_said replies more_replies (session_replied options a b groups events said replies false before)
-    (group_replied options b d group more more_said more_replies halted group_does))
-session_replied options _ _ _ _ _ _ _ (one_refused a b groups line events said replies before) =
-    let was = session_replied options a b groups events said replies true before in
-    let broken = refusal_reply (plain BROKEN) in
-    let last = was_told (after_each a.state (dones_of events said)) line broken [] [] [] [] (inr (inr (inr (refuses (plain BROKEN))))) (no_line (after_each a.state (dones_of events said))) in
-    let lines = lines_in_all groups ++ line ∷ [] in
-    let all = replied_behind a.state (lines_in_all groups) (line ∷ []) replies (broken ∷ []) (dones_of events said) [] (hits_of events said) [] was.replied last in
-    record {
-      each = was.each;
-      replied = subst (λ (ls : List (List ℕ)). Replied a.state ls (replies ++ broken ∷ []) (dones_of events said) (hits_of events said)) (sym (one_behind groups (alone line)))
-          (subst (λ (ds : List Transaction). Replied a.state lines (replies ++ broken ∷ []) ds (hits_of events said)) (append-nil (dones_of events said))
-          (subst (λ (hs : List Transaction). Replied a.state lines (replies ++ broken ∷ []) (dones_of events said ++ []) hs) (append-nil (hits_of events said)) all));
-      state = was.state;
-    }
+    (both a b d (lines_in_all groups) (lines_in group) events more said more_said replies more_replies (session_replied options a b groups events said replies before)
+    (group_replied options b d group more more_said more_replies group_does))
 
 pub session_told : {D : Type 0} (disk : D → Disk) (options : Options) (old new : StoreView D) (lines : List (List ℕ)) (replies : List Doc) (was : IsSession disk options old lines replies new)
     → Replied old.account.state lines replies (dones_of was.events was.said) (hits_of was.events was.said)
 session_told disk options old new lines replies was =
     subst (λ (ls : List (List ℕ)). Replied old.account.state ls replies (dones_of was.events was.said) (hits_of was.events was.said)) (grouped_lines options lines was.groups was.whole was.grouped)
-    (session_replied options old.account new.account was.groups was.events was.said replies was.halted was.session).replied
+    (session_replied options old.account new.account was.groups was.events was.said replies was.session).replied
 
 -- ---- lines that a line feed ended are the first
 

@@ -6,7 +6,6 @@ pub mod Pausing
 pub mod Reading
 pub mod Shown
 pub mod Telling
-mod Halting
 mod Answering
 mod Numbering
 pub mod Keeping

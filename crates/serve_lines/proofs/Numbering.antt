@@ -1,19 +1,22 @@
 -- The numbers by which the transactions of a batch are answered.
-use Rattle.std.proofs.Common.{◌≡◌, inl, inr, ℕ, ◌+◌, Bool, true, false, List, [], ◌∷◌, ◌++◌, length, map, arith, nat_eq, if◌then◌else◌, refl, sym, ◌∙◌, ap, subst}
+use Rattle.std.proofs.Common.{◌≡◌, ◌⊎◌, inl, inr, ⊎_elim, Some, ℕ, ◌+◌, Bool, true, false, List, [], ◌∷◌, ◌++◌, length, map, arith, nat_eq, if◌then◌else◌, refl, sym, ◌∙◌, ap, subst}
 use Rattle.std.specs.Bool.{⊤}
-use Rattle.std.proofs.lemmas.Bool.{eqb-true}
+use Rattle.std.proofs.lemmas.Bool.{eqb-true, ne_eqb}
+use Rattle.std.proofs.lemmas.List.{append_assoc}
 use Rattle.doc_tree.specs.Doc.{Doc}
 use Rattle.record_text.specs.Change.{Change}
 use Rattle.doc_changes.specs.Refusals.{plain}
 use Rattle.doc_changes.specs.State.{State}
 use Rattle.doc_changes.specs.Step.{after}
 use Rattle.doc_changes.specs.declared.refusal.Refusal.{Refusal}
-use Rattle.doc_machine.specs.Transaction.{Transaction, after_all, after_in, changes_of}
-use Rattle.refusals.specs.declared.numbers.TheConstants.{BROKEN, DEVICE, MEMORY}
+use Rattle.doc_machine.specs.Transaction.{Transaction, after_all, after_in, changes_of, refusal_in}
+use Rattle.doc_machine.proofs.Transactions.{own_transaction}
+use Rattle.refusals.specs.declared.numbers.TheConstants.{BROKEN, DEVICE, FULL, MEMORY}
 use Rattle.doc_store.specs.Account.{Account}
 use Rattle.doc_store.specs.Batch.{Commit, AnswersForced, IsBatch, alone_done, alone_full, behind_failed, by_itself, commit_in_doubt, commit_made, no_more, snapshot_failed, stays_broken}
-use Rattle.doc_store.specs.Committed.{Slot, account_behind, account_committed, asked, changes, replies_done, replies_in_doubt, said, waiting, waits}
-use Rattle.doc_store.specs.Events.{dones_of, hits_of}
+use Rattle.doc_store.specs.Committed.{AreJudged, Slot, account_behind, account_committed, asked, changes, replies_done, replies_in_doubt, said, waiting, waits}
+use Rattle.doc_store.specs.Events.{dones_of, hit_by, hits_of}
+use Rattle.doc_store.specs.Events.{change as change_event}
 use Rattle.doc_store.specs.Folds.{after_each}
 use Rattle.store_commits.specs.declared.event.Reply.{Reply}
 use Rattle.store_commits.specs.declared.event.Reply.TheVariants.{Done, Snapped, Pumped, Refused}
@@ -28,21 +31,64 @@ seq_all : (s : State) (cs : List Change) → s.seq + length cs ≡ (after_all s 
 seq_all s [] = omega arith
 seq_all s (c ∷ cs) = (let one : s.seq + length (c ∷ cs) ≡ (s.seq + 1) + length cs = omega arith in one) ∙ seq_all (after s c) cs
 
--- Transactions after one another, from a state, with their replies: one that was done is answered by the seq after it, and the others change nothing.
+-- Transactions after one another, from a state, with their replies: one that was done is answered by the seq after it, and the others change nothing. After one that the device's fault hit none was done.
 abbrev Counts : State → List Transaction → List Reply → Type 0
 Counts s [] [] = ⊤
 Counts s (t ∷ ts) (Done seq ∷ rs) = (seq ≡ (after_in s t).seq) × Counts (after_in s t) ts rs
-Counts s (t ∷ ts) (Refused r ∷ rs) = Counts s ts rs
+Counts s (t ∷ ts) (Refused r ∷ rs) = (nat_eq r.number DEVICE ≡ true → dones_of (changes ts) rs ≡ []) × Counts s ts rs
 Counts s _ _ = ⊥
 
-counts_behind : (s : State) (ts us : List Transaction) (rs qs : List Reply) → Counts s ts rs → Counts (after_each s (dones_of (changes ts) rs)) us qs → Counts s (ts ++ us) (rs ++ qs)
-counts_behind s [] us [] qs first second = second
-counts_behind s [] us (r ∷ rs) qs first second = absurd first
-counts_behind s (t ∷ ts) us [] qs first second = absurd first
-counts_behind s (t ∷ ts) us (Done seq ∷ rs) qs first second = (first.0, counts_behind (after_in s t) ts us rs qs first.1 second)
-counts_behind s (t ∷ ts) us (Refused r ∷ rs) qs first second = counts_behind s ts us rs qs first second
-counts_behind s (t ∷ ts) us (Snapped used ∷ rs) qs first second = absurd first
-counts_behind s (t ∷ ts) us (Pumped p ∷ rs) qs first second = absurd first
+-- of two parts one has none
+none_before : {X : Type 0} (xs ys : List X) → xs ++ ys ≡ [] → ys ≡ []
+none_before [] ys none = none
+none_before (x ∷ xs) ys none = absurd (cc none)
+
+dones_both : (s : State) (ts us : List Transaction) (rs qs : List Reply) → Counts s ts rs → dones_of (changes (ts ++ us)) (rs ++ qs) ≡ dones_of (changes ts) rs ++ dones_of (changes us) qs
+dones_both s [] us [] qs first = refl
+dones_both s [] us (r ∷ rs) qs first = absurd first
+dones_both s (t ∷ ts) us [] qs first = absurd first
+dones_both s (t ∷ ts) us (Done seq ∷ rs) qs first = ap (λ (l : List Transaction). t ∷ l) (dones_both (after_in s t) ts us rs qs first.1)
+dones_both s (t ∷ ts) us (Refused r ∷ rs) qs first = dones_both s ts us rs qs first.1
+dones_both s (t ∷ ts) us (Snapped used ∷ rs) qs first = absurd first
+dones_both s (t ∷ ts) us (Pumped p ∷ rs) qs first = absurd first
+
+hits_both : (s : State) (ts us : List Transaction) (rs qs : List Reply) → Counts s ts rs → hits_of (changes (ts ++ us)) (rs ++ qs) ≡ hits_of (changes ts) rs ++ hits_of (changes us) qs
+hits_both s [] us [] qs first = refl
+hits_both s [] us (r ∷ rs) qs first = absurd first
+hits_both s (t ∷ ts) us [] qs first = absurd first
+hits_both s (t ∷ ts) us (Done seq ∷ rs) qs first = hits_both (after_in s t) ts us rs qs first.1
+hits_both s (t ∷ ts) us (Refused r ∷ rs) qs first =
+    ap (λ (l : List Transaction). hit_by (change_event t) (Refused r) ++ l) (hits_both s ts us rs qs first.1) ∙ sym (append_assoc (hit_by (change_event t) (Refused r)) (hits_of (changes ts) rs) (hits_of (changes us) qs))
+hits_both s (t ∷ ts) us (Snapped used ∷ rs) qs first = absurd first
+hits_both s (t ∷ ts) us (Pumped p ∷ rs) qs first = absurd first
+
+-- the first has no hit, or the second nothing that was done
+abbrev AreApart : List Transaction → List Reply → List Transaction → List Reply → Type 0
+AreApart ts rs us qs = (hits_of (changes ts) rs ≡ []) ⊎ (dones_of (changes us) qs ≡ [])
+
+-- of one more in front
+apart_from : (t : Transaction) (r : Refusal) (ts us : List Transaction) (rs qs : List Reply) → AreApart (t ∷ ts) (Refused r ∷ rs) us qs → AreApart ts rs us qs
+apart_from t r ts us rs qs (inl none) = inl (none_before (hit_by (change_event t) (Refused r)) (hits_of (changes ts) rs) none)
+apart_from t r ts us rs qs (inr none) = inr none
+
+-- one that was hit in front
+apart_hit : (t : Transaction) (r : Refusal) (ts us : List Transaction) (rs qs : List Reply) → nat_eq r.number DEVICE ≡ true → AreApart (t ∷ ts) (Refused r ∷ rs) us qs → dones_of (changes us) qs ≡ []
+apart_hit t r ts us rs qs hit (inl none) =
+    let some : t ∷ hits_of (changes ts) rs ≡ [] = ap (λ (b : Bool). (if b then t ∷ [] else []) ++ hits_of (changes ts) rs) (sym hit) ∙ none in
+    absurd (cc some)
+apart_hit t r ts us rs qs hit (inr none) = none
+
+counts_behind : (s : State) (ts us : List Transaction) (rs qs : List Reply) → Counts s ts rs → Counts (after_each s (dones_of (changes ts) rs)) us qs → AreApart ts rs us qs → Counts s (ts ++ us) (rs ++ qs)
+counts_behind s [] us [] qs first second apart = second
+counts_behind s [] us (r ∷ rs) qs first second apart = absurd first
+counts_behind s (t ∷ ts) us [] qs first second apart = absurd first
+counts_behind s (t ∷ ts) us (Done seq ∷ rs) qs first second apart = (first.0, counts_behind (after_in s t) ts us rs qs first.1 second apart)
+counts_behind s (t ∷ ts) us (Refused r ∷ rs) qs first second apart = (
+  (λ hit. (let none = apart_hit t r ts us rs qs hit apart in dones_both s ts us rs qs first.1 ∙ (λ i. first.0 hit i ++ none i))),
+  counts_behind s ts us rs qs first.1 second (apart_from t r ts us rs qs apart),
+)
+counts_behind s (t ∷ ts) us (Snapped used ∷ rs) qs first second apart = absurd first
+counts_behind s (t ∷ ts) us (Pumped p ∷ rs) qs first second apart = absurd first
 
 state_behind : (s : State) (ts us : List Transaction) (rs qs : List Reply) → Counts s ts rs
     → after_each s (dones_of (changes (ts ++ us)) (rs ++ qs)) ≡ after_each (after_each s (dones_of (changes ts) rs)) (dones_of (changes us) qs)
@@ -50,33 +96,55 @@ state_behind s [] us [] qs first = refl
 state_behind s [] us (r ∷ rs) qs first = absurd first
 state_behind s (t ∷ ts) us [] qs first = absurd first
 state_behind s (t ∷ ts) us (Done seq ∷ rs) qs first = state_behind (after_in s t) ts us rs qs first.1
-state_behind s (t ∷ ts) us (Refused r ∷ rs) qs first = state_behind s ts us rs qs first
+state_behind s (t ∷ ts) us (Refused r ∷ rs) qs first = state_behind s ts us rs qs first.1
 state_behind s (t ∷ ts) us (Snapped used ∷ rs) qs first = absurd first
 state_behind s (t ∷ ts) us (Pumped p ∷ rs) qs first = absurd first
 
--- from an account to an account, transactions of a batch
+-- from an account to an account, transactions of a batch: a hit breaks the store, and a broken one does nothing
 pub record Counted (a b : Account) (ts : List Transaction) (rs : List Reply) : Type 0 where
   pub counts : Counts a.state ts rs
   pub state : b.state ≡ after_each a.state (dones_of (changes ts) rs)
+  pub hit : (hits_of (changes ts) rs ≡ []) ⊎ (b.broken ≡ true)
+  pub broke : a.broken ≡ true → (dones_of (changes ts) rs ≡ []) × (b.broken ≡ true)
 
 behind : (a b d : Account) (ts us : List Transaction) (rs qs : List Reply) → Counted a b ts rs → Counted b d us qs → Counted a d (ts ++ us) (rs ++ qs)
 behind a b d ts us rs qs first second = record {
-  counts = counts_behind a.state ts us rs qs first.counts (subst (λ (s : State). Counts s us qs) first.state second.counts);
+  counts = counts_behind a.state ts us rs qs first.counts (subst (λ (s : State). Counts s us qs) first.state second.counts) (⊎_elim inl (λ broken. inr (second.broke broken).0) first.hit);
   state = second.state ∙ ap (λ (s : State). after_each s (dones_of (changes us) qs)) first.state ∙ sym (state_behind a.state ts us rs qs first.counts);
+  hit = ⊎_elim (λ none. ⊎_elim (λ no_more. inl (hits_both a.state ts us rs qs first.counts ∙ (λ i. none i ++ no_more i))) inr second.hit) (λ broken. inr (second.broke broken).1) first.hit;
+  broke = λ broken. (let one = first.broke broken in let two = second.broke one.1 in (dones_both a.state ts us rs qs first.counts ∙ (λ i. one.0 i ++ two.0 i), two.1));
 }
 
+-- a working store is not broken
+works_not : {A : Type 0} (a : Account) → a.broken ≡ false → a.broken ≡ true → A
+works_not a works broken = let both = sym works ∙ broken in absurd (cc both)
+
 -- one that wasn't done
-refused : (a b : Account) (t : Transaction) (r : Refusal) → b.state ≡ a.state → Counted a b (t ∷ []) (Refused r ∷ [])
-refused a b t r same = record { counts = tt; state = same }
+refused : (a b : Account) (t : Transaction) (r : Refusal) → b.state ≡ a.state → (hits_of (changes (t ∷ [])) (Refused r ∷ []) ≡ []) ⊎ (b.broken ≡ true) → (a.broken ≡ true → b.broken ≡ true) → Counted a b (t ∷ []) (Refused r ∷ [])
+refused a b t r same hit still = record { counts = ((λ _. refl), tt); state = same; hit = hit; broke = λ broken. (refl, still broken) }
 
 -- ---- one commit
 
-done_counts : (s : State) (seq : ℕ) (slots : List Slot) → seq ≡ s.seq → Counts s (asked slots) (replies_done seq slots)
-done_counts s seq [] is = tt
-done_counts s seq (waits t ∷ slots) is =
-    let next = ap (λ (n : ℕ). n + length (changes_of t)) is ∙ seq_all s (changes_of t) in
-    (next, done_counts (after_in s t) (seq + length (changes_of t)) slots next)
-done_counts s seq (said t r ∷ slots) is = done_counts s seq slots is
+-- the documents' own refusals are no fault of the device
+own_refusal : (a : Account) (t : Transaction) (r : Refusal) → refusal_in a.state t ≡ Some r → nat_eq r.number DEVICE ≡ false
+own_refusal a t r is = ne_eqb r.number DEVICE (own_transaction a.state t r is).1
+
+done_counts : (a : Account) (seq : ℕ) (slots : List Slot) → seq ≡ a.state.seq → AreJudged a slots → Counts a.state (asked slots) (replies_done seq slots)
+done_counts a seq [] is judged = tt
+done_counts a seq (waits t ∷ slots) is judged =
+    let next = ap (λ (n : ℕ). n + length (changes_of t)) is ∙ seq_all a.state (changes_of t) in
+    (next, done_counts (account_behind a t) (seq + length (changes_of t)) slots next judged.2)
+done_counts a seq (said t r ∷ slots) is judged = (
+  (λ hit. (let both = sym hit ∙ own_refusal a t r judged.0 in absurd (cc both))),
+  done_counts a seq slots is judged.1,
+)
+
+-- none of these was hit
+done_unhit : (a : Account) (seq : ℕ) (slots : List Slot) → AreJudged a slots → hits_of (changes (asked slots)) (replies_done seq slots) ≡ []
+done_unhit a seq [] judged = refl
+done_unhit a seq (waits t ∷ slots) judged = done_unhit (account_behind a t) (seq + length (changes_of t)) slots judged.2
+done_unhit a seq (said t r ∷ slots) judged =
+    ap (λ (b : Bool). (if b then t ∷ [] else []) ++ hits_of (changes (asked slots)) (replies_done seq slots)) (own_refusal a t r judged.0) ∙ done_unhit a seq slots judged.1
 
 done_are : (seq : ℕ) (slots : List Slot) → dones_of (changes (asked slots)) (replies_done seq slots) ≡ waiting slots
 done_are seq [] = refl
@@ -88,48 +156,55 @@ committed_state a [] = refl
 committed_state a (waits t ∷ slots) = committed_state (account_behind a t) slots
 committed_state a (said t r ∷ slots) = committed_state a slots
 
-doubt_counts : (s : State) (slots : List Slot) → Counts s (asked slots) (replies_in_doubt slots)
-doubt_counts s [] = tt
-doubt_counts s (waits t ∷ slots) = doubt_counts s slots
-doubt_counts s (said t r ∷ slots) = doubt_counts s slots
-
 none_in_doubt_done : (slots : List Slot) → dones_of (changes (asked slots)) (replies_in_doubt slots) ≡ []
 none_in_doubt_done [] = refl
 none_in_doubt_done (waits t ∷ slots) = none_in_doubt_done slots
 none_in_doubt_done (said t r ∷ slots) = none_in_doubt_done slots
+
+doubt_counts : (s : State) (slots : List Slot) → Counts s (asked slots) (replies_in_doubt slots)
+doubt_counts s [] = tt
+doubt_counts s (waits t ∷ slots) = ((λ _. none_in_doubt_done slots), doubt_counts s slots)
+doubt_counts s (said t r ∷ slots) = ((λ _. none_in_doubt_done slots), doubt_counts s slots)
 
 -- ---- a batch
 
 alone_counts : (a b : Account) (t : Transaction) (r : Reply) (commits : List Commit) → AnswersForced a t r commits b → Counted a b (t ∷ []) (r ∷ [])
 alone_counts _ _ _ _ _ (alone_done a b t seq is) =
     let state = ap (λ (x : Account). x.state) is.new_is in
-    record { counts = (is.seq_is ∙ ap (λ (s : State). s.seq) state, tt); state = state }
-alone_counts _ _ _ _ _ (snapshot_failed a b t accepts is) = refused a b t (plain DEVICE) (ap (λ (x : Account). x.state) is)
-alone_counts _ _ _ _ _ (behind_failed a b t accepts is) = refused a b t (plain DEVICE) (ap (λ (x : Account). x.state) is)
-alone_counts _ _ _ _ _ (alone_full a t works over) = refused a a t _ refl
+    record { counts = (is.seq_is ∙ ap (λ (s : State). s.seq) state, tt); state = state; hit = inl refl; broke = λ broken. works_not a is.accepts.works broken }
+alone_counts _ _ _ _ _ (snapshot_failed a b t accepts is) = let broken = ap (λ (x : Account). x.broken) is in refused a b t (plain DEVICE) (ap (λ (x : Account). x.state) is) (inr broken) (λ _. broken)
+alone_counts _ _ _ _ _ (behind_failed a b t accepts is) = let broken = ap (λ (x : Account). x.broken) is in refused a b t (plain DEVICE) (ap (λ (x : Account). x.state) is) (inr broken) (λ _. broken)
+alone_counts _ _ _ _ _ (alone_full a t works over) = refused a a t (plain FULL) refl (inl refl) (λ broken. broken)
 
 pub batch_counts : (a b : Account) (ts : List Transaction) (rs : List Reply) (commits : List Commit) → IsBatch a ts rs commits b → Counted a b ts rs
-batch_counts _ _ _ _ _ (no_more a) = record { counts = tt; state = refl }
+batch_counts _ _ _ _ _ (no_more a) = record { counts = tt; state = refl; hit = inl refl; broke = λ broken. (refl, broken) }
 batch_counts _ _ _ _ _ (commit_made a b d slots ts rs more made forced rest) =
     behind a b d (asked slots) ts (replies_done a.state.seq slots) rs (record {
-      counts = done_counts a.state a.state.seq slots refl;
+      counts = done_counts a a.state.seq slots refl made.judged;
       state = ap (λ (x : Account). x.state) made.new_is ∙ committed_state a slots ∙ ap (after_each a.state) (sym (done_are a.state.seq slots));
+      hit = inl (done_unhit a a.state.seq slots made.judged);
+      broke = λ broken. works_not a made.works broken;
     }) (batch_counts b d ts rs more rest)
 batch_counts _ _ _ _ _ (commit_in_doubt a b d slots ts rs more hit forced rest) =
     behind a b d (asked slots) ts (replies_in_doubt slots) rs (record {
       counts = doubt_counts a.state slots;
       state = ap (λ (x : Account). x.state) hit.new_is ∙ ap (after_each a.state) (sym (none_in_doubt_done slots));
+      hit = inr (ap (λ (x : Account). x.broken) hit.new_is);
+      broke = λ broken. works_not a hit.works broken;
     }) (batch_counts b d ts rs more rest)
 batch_counts _ _ _ _ _ (by_itself a b d t ts r rs commits more forced alone rest) = behind a b d (t ∷ []) ts (r ∷ []) rs (alone_counts a b t r commits alone) (batch_counts b d ts rs more rest)
-batch_counts _ _ _ _ _ (stays_broken a d t ts rs more broken rest) = behind a a d (t ∷ []) ts (Refused (plain BROKEN) ∷ []) rs (refused a a t (plain BROKEN) refl) (batch_counts a d ts rs more rest)
+batch_counts _ _ _ _ _ (stays_broken a d t ts rs more broken rest) =
+    behind a a d (t ∷ []) ts (Refused (plain BROKEN) ∷ []) rs (refused a a t (plain BROKEN) refl (inl refl) (λ is. is)) (batch_counts a d ts rs more rest)
 
 -- ---- its lines
 
 module _ (s : State) (line : List ℕ) (t : Transaction) (lines : List (List ℕ)) (replies : List Doc) (r : Refusal) (done hit : List Transaction) (asks : AskFor (line ∷ []) (t ∷ [])) (rest : Replied s lines replies done hit) where
-  -- a transaction was refused, for a fault of the device or for another reason
-  line_refused : (fault : Bool) → nat_eq r.number DEVICE ≡ fault → Replied s (line ∷ lines) (refusal_reply r ∷ replies) done ((if fault then t ∷ [] else []) ++ hit)
-  line_refused true is = was_hit s line t (refusal_reply r) lines replies done hit (asks_for line (change t) asks.0) (subst (Refuses (refusal_reply r)) (eqb-true r.number DEVICE is) (refuses r)) rest
-  line_refused false is = was_told s line (refusal_reply r) lines replies done hit (inl (change t, asks_for line (change t) asks.0, (r.number, refuses r))) rest
+  -- a transaction was refused, for a fault of the device, after which none is done, or for another reason
+  line_refused : (fault : Bool) → nat_eq r.number DEVICE ≡ fault → (nat_eq r.number DEVICE ≡ true → done ≡ []) → Replied s (line ∷ lines) (refusal_reply r ∷ replies) done ((if fault then t ∷ [] else []) ++ hit)
+  line_refused true is none =
+      subst (λ (ds : List Transaction). Replied s (line ∷ lines) (refusal_reply r ∷ replies) ds (t ∷ hit)) (sym (none is))
+      (was_hit s line t (refusal_reply r) lines replies hit (asks_for line (change t) asks.0) (subst (Refuses (refusal_reply r)) (eqb-true r.number DEVICE is) (refuses r)) (subst (λ (ds : List Transaction). Replied s lines replies ds hit) (none is) rest))
+  line_refused false is none = was_told s line (refusal_reply r) lines replies done hit (inl (change t, asks_for line (change t) asks.0, (r.number, refuses r))) rest
 
 -- the lines that asked for the transactions were answered so
 pub batch_replied : (s : State) (lines : List (List ℕ)) (ts : List Transaction) (rs : List Reply) → AskFor lines ts → Counts s ts rs
@@ -143,7 +218,7 @@ batch_replied s (line ∷ lines) (t ∷ ts) (Done seq ∷ rs) asks counts =
     subst (λ (n : ℕ). Replied s (line ∷ lines) (change_reply n ∷ map shown_reply rs) (t ∷ dones_of (changes ts) rs) (hits_of (changes ts) rs)) (sym counts.0)
     (was_done s line t lines (map shown_reply rs) (dones_of (changes ts) rs) (hits_of (changes ts) rs) (asks_for line (change t) asks.0) (batch_replied (after_in s t) lines ts rs asks.1 counts.1))
 batch_replied s (line ∷ lines) (t ∷ ts) (Refused r ∷ rs) asks counts =
-    line_refused s line t lines (map shown_reply rs) r (dones_of (changes ts) rs) (hits_of (changes ts) rs) (asks.0, tt) (batch_replied s lines ts rs asks.1 counts) (nat_eq r.number DEVICE) refl
+    line_refused s line t lines (map shown_reply rs) r (dones_of (changes ts) rs) (hits_of (changes ts) rs) (asks.0, tt) (batch_replied s lines ts rs asks.1 counts.1) (nat_eq r.number DEVICE) refl counts.0
 batch_replied s (line ∷ lines) (t ∷ ts) (Snapped used ∷ rs) asks counts = absurd counts
 batch_replied s (line ∷ lines) (t ∷ ts) (Pumped p ∷ rs) asks counts = absurd counts
 

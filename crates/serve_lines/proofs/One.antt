@@ -36,7 +36,7 @@ asks_one line (c ∷ []) h = record { c = c; asks = h.0; only = refl }
 asks_one line (c ∷ d ∷ cs) h = absurd h.1
 
 pub one_answered : OneIsAnswered
-one_answered old new line events answers replies fault h =
+one_answered old new line events answers replies h =
     let one = asks_one line h.0 h.1 in
     elim h.2 [
       | inl memory ↦ (refusal_reply (plain MEMORY), memory.0 ∙ ap (map (λ _. refusal_reply (plain MEMORY))) one.only, inl (refl, memory.1))

@@ -1,6 +1,5 @@
 -- A reply that is shown, or want of memory for it.
-use Rattle.std.proofs.Common.{◌⊎◌, ◌&&◌, ◌≡◌, inl, inr, refl, sym, ap, subst, nat_eq, ℕ, Bool, true, false, List, [], ◌∷◌, ◌++◌, Result, Ok, Err}
-use Rattle.std.proofs.lemmas.Bool.{eqb-true}
+use Rattle.std.proofs.Common.{◌⊎◌, inl, inr, refl, ℕ, List, [], ◌∷◌, ◌++◌, Result, Ok, Err}
 use Rattle.sector_device.specs.Disk.{Disk}
 use Rattle.doc_tree.specs.Doc.{Doc}
 use Rattle.doc_changes.specs.Refusals.{plain}
@@ -15,12 +14,12 @@ use Rattle.doc_store.specs.Run as store
 use Rattle.store_commits.specs.declared.event.Reply.{Reply as StoreReply}
 use Rattle.doc_store.specs.Run.{Event, reply_of, Ran}
 use Rattle.store_commits.specs.declared.event.Reply.TheVariants.{Snapped, Pumped, Refused}
-use Rattle.protocol.specs.Read.{IsNoChange, ReadsRequest}
+use Rattle.protocol.specs.Read.{IsNoChange}
 use Rattle.protocol.specs.Request.{Request, Asks, snapshot, pump}
 use Rattle.protocol.specs.Reply.{refusal_reply}
-use Rattle.serve_lines.specs.Session.{AnswersOther, Follows, HasDone, MayBeFault, Replies, reply_to_snapshot, reply_to_pump}
+use Rattle.serve_lines.specs.Session.{AnswersOther, Follows, HasDone, Replies, reply_to_snapshot, reply_to_pump}
 use Rattle.protocol.specs.Says.{Says}
-use Rattle.serve_lines.specs.LineReplies.{AnswersRequest, IsAnsweredAlone, LineIsAnswered, RequestIsAnswered, is_unread}
+use Rattle.serve_lines.specs.LineReplies.{AnswersRequest, IsAnsweredAlone, LineIsAnswered, RequestIsAnswered}
 use Rattle.serve_lines.specs.declared.options.Options.{Options}
 use Rattle.protocol.specs.declared.reply.Reply.{Reply}
 
@@ -53,29 +52,16 @@ asks_nothing disk old request said h = (
   },
 )
 
--- memory was refused for the line's reading, or it asks for nothing
-pub unread_or_other : (line : List ℕ) (refusal : Refusal) → ReadsRequest line (Err refusal) → MayBeFault line (refusal_reply refusal) (is_unread (Err refusal))
-unread_or_other line refusal (inl memory) = subst (λ (r : Refusal). MayBeFault line (refusal_reply r) (is_unread (Err r))) (sym memory) refl
-unread_or_other line refusal (inr none) = subst (λ (r : Refusal). MayBeFault line (refusal_reply r) (is_unread (Err r))) (sym none.1) (by (nat_eq none.0 MEMORY) refl)
-  where
-    by : (b : Bool) → nat_eq none.0 MEMORY ≡ b → MayBeFault line (refusal_reply (plain none.0)) b
-    by true is = ap (λ (n : ℕ). refusal_reply (plain n)) (eqb-true none.0 MEMORY is)
-    by false is = (Err none.0, none.2, tt)
-
 -- a line is answered so, and the store isn't asked
-pub unasked : {D : Type 0} (disk : D → Disk) (options : Options) (old : StoreView D) (line : List ℕ) (reply : Doc) (fault : Bool) → AnswersOther old.account line [] [] reply old.account → MayBeFault line reply fault
-    → LineIsAnswered disk options old line reply (options.halt && fault) old
-unasked disk options old line reply fault h may = record {
+pub unasked : {D : Type 0} (disk : D → Disk) (options : Options) (old : StoreView D) (line : List ℕ) (reply : Doc) → AnswersOther old.account line [] [] reply old.account → LineIsAnswered disk options old line reply old
+unasked disk options old line reply h = record {
   events = [];
   said = [];
   does = record {
     mid = old.account;
     own = [];
     own_said = [];
-    fault = fault;
-    answers = (reply, refl, h, may);
-    halted_is = refl;
-    stops = λ _. tt;
+    answers = (reply, refl, h);
     more = [];
     more_said = [];
     follows = not_due options [] old.account (λ none. absurd (cc none));
@@ -117,7 +103,7 @@ is_pump_event disk old new most (Err refusal) answers ran = λ options.
 
 -- a line that asks for a request, no change, is answered as the request is
 pub asks_so : {D : Type 0} (disk : D → Disk) (options : Options) (old new : StoreView D) (line : List ℕ) (request : Request) (reply : Doc) → Asks line (Ok request) → IsNoChange request
-    → RequestIsAnswered disk options old request reply new → LineIsAnswered disk options old line reply (options.halt && false) new
+    → RequestIsAnswered disk options old request reply new → LineIsAnswered disk options old line reply new
 asks_so disk options old new line request reply asks other h = record {
   events = h.own ++ h.more;
   said = h.own_said ++ h.more_said;
@@ -125,7 +111,6 @@ asks_so disk options old new line request reply asks other h = record {
     mid = h.mid;
     own = h.own;
     own_said = h.own_said;
-    fault = false;
     answers = (
       reply,
       refl,
@@ -133,10 +118,7 @@ asks_so disk options old new line request reply asks other h = record {
         | inl memory ↦ inl memory
         | inr replies ↦ inr (Ok request, asks, other, replies)
       ],
-      (Ok request, asks, other),
     );
-    halted_is = refl;
-    stops = λ _. tt;
     more = h.more;
     more_said = h.more_said;
     follows = h.follows;

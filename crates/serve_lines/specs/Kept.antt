@@ -1,8 +1,8 @@
 -- The promise to a client, from the bytes that come in to the bytes that go out.
-use Rattle.std.specs.Prelude.{◌≡◌, ◌≢◌, ◌⊎◌, ◌≤◌, ℕ, List, [], ◌∷◌, ◌++◌, map, length, codes, chars, pos, true, false, Option, Some}
+use Rattle.std.specs.Prelude.{◌≡◌, ◌⊎◌, ◌≤◌, ℕ, List, [], ◌∷◌, ◌++◌, map, length, codes, chars, pos, true, false, Option, None, Some, ⊤}
 use Rattle.std.specs.Io.KnownBytes.{Consumes}
 use Rattle.sector_device.specs.Disk.{Disk}
-use Rattle.doc_tree.specs.Doc.{Doc, boolean, int}
+use Rattle.doc_tree.specs.Doc.{Doc, Members, boolean, get_member, int, member, no_members, object}
 use Rattle.doc_tree.specs.Read.{document, read_of}
 use Rattle.doc_tree.specs.Text.{text_of}
 use Rattle.doc_pointer.specs.Place.{resolve}
@@ -27,11 +27,16 @@ use Rattle.protocol.specs.Reply.{change_reply, names_reply, nodes_reply, revisio
 abbrev pub AsksFor : List ℕ → Request → Type 0
 AsksFor line request = (length line ≤ LINE_BYTES) × (read_of line ≡ document (object_of request)) × IsInRange request
 
--- A reply refuses: it has `"ok":false` and this number.
-abbrev pub Refuses : Doc → ℕ → Type 0
-Refuses reply number = (resolve (codes "ok" ∷ []) reply ≡ Some (boolean false)) × (resolve (codes "number" ∷ []) reply ≡ Some (int (pos number)))
+-- no two members have one name
+abbrev pub HaveOwnNames : Members → Type 0
+HaveOwnNames no_members = ⊤
+HaveOwnNames (member name value more) = (get_member name more ≡ None) × HaveOwnNames more
 
--- it refuses, whatever the number
+-- A reply refuses with a number: it is an object with `"ok":false` and that number, and no two of its members have one name. `IsRefusal`: with some number.
+abbrev pub Refuses : Doc → ℕ → Type 0
+Refuses reply number =
+    (members : Members) × (reply ≡ object members) × HaveOwnNames members × (get_member (codes "ok") members ≡ Some (boolean false)) × (get_member (codes "number") members ≡ Some (int (pos number)))
+
 abbrev pub IsRefusal : Doc → Type 0
 IsRefusal reply = (number : ℕ) × Refuses reply number
 
@@ -51,11 +56,11 @@ Shows s list reply = reply ≡ names_reply (map (λ d. d.name) s.documents)
 Shows s status reply = (resolve (codes "seq" ∷ []) reply ≡ Some (int (pos s.seq))) × (resolve (codes "documents" ∷ []) reply ≡ Some (int (pos (length s.documents))))
 Shows s _ reply = ⊥
 
--- What a request is answered that makes no transaction: one for a transaction is refused; a snapshot, or a step of one, is not answered as done; a question is answered by what the state shows, and refused only if it shows nothing.
+-- What a request is answered that makes no transaction: one for a transaction is refused; to a snapshot, or a step of one, no seq is replied, or it is refused; a question, which any other is, is answered by what the state shows, and refused only if it shows nothing.
 abbrev pub Tells : State → Request → Doc → Type 0
 Tells s (change t) reply = IsRefusal reply
-Tells s snapshot reply = (seq : ℕ) → reply ≢ change_reply seq
-Tells s (pump most) reply = (seq : ℕ) → reply ≢ change_reply seq
+Tells s snapshot reply = (resolve (codes "seq" ∷ []) reply ≡ None) ⊎ IsRefusal reply
+Tells s (pump most) reply = (resolve (codes "seq" ∷ []) reply ≡ None) ⊎ IsRefusal reply
 Tells s question reply = Shows s question reply ⊎ (IsRefusal reply × ((shown : Doc) → Shows s question shown → ⊥))
 
 -- The same of a line. One that asks for nothing is refused, and any line may be: out of memory, or since the store is broken.
@@ -70,9 +75,9 @@ pub data Replied : State → List (List ℕ) → List Doc → (done hit : List T
   -- a transaction is done, and answered by the number of its last change; all after it go on from the state after it
   was_done : (s : State) (line : List ℕ) (t : Transaction) (lines : List (List ℕ)) (replies : List Doc) (done hit : List Transaction) → AsksFor line (change t)
       → Replied (after_in s t) lines replies done hit → Replied s (line ∷ lines) (change_reply (after_in s t).seq ∷ replies) (t ∷ done) hit
-  -- one is hit
-  was_hit : (s : State) (line : List ℕ) (t : Transaction) (reply : Doc) (lines : List (List ℕ)) (replies : List Doc) (done hit : List Transaction) → AsksFor line (change t) → Refuses reply DEVICE
-      → Replied s lines replies done hit → Replied s (line ∷ lines) (reply ∷ replies) done (t ∷ hit)
+  -- one is hit, and none after it is done
+  was_hit : (s : State) (line : List ℕ) (t : Transaction) (reply : Doc) (lines : List (List ℕ)) (replies : List Doc) (hit : List Transaction) → AsksFor line (change t) → Refuses reply DEVICE
+      → Replied s lines replies [] hit → Replied s (line ∷ lines) (reply ∷ replies) [] (t ∷ hit)
   -- none is made
   was_told : (s : State) (line : List ℕ) (reply : Doc) (lines : List (List ℕ)) (replies : List Doc) (done hit : List Transaction) → LineTells s line reply
       → Replied s lines replies done hit → Replied s (line ∷ lines) (reply ∷ replies) done hit

@@ -1,5 +1,5 @@
 -- The laws of sessions whose batches are one transaction each.
-use Rattle.std.specs.Prelude.{◌≡◌, ℕ, Bool, List, [], ◌∷◌, Option}
+use Rattle.std.specs.Prelude.{◌≡◌, ℕ, List, [], ◌∷◌, Option}
 use Rattle.sector_device.specs.Disk.{Disk}
 use Rattle.doc_tree.specs.Doc.{Doc}
 use Rattle.doc_store.specs.Account.{Account, StoreView}
@@ -11,7 +11,7 @@ use Rattle.serve_lines.specs.declared.options.Options.{Options}
 
 -- A batch of one transaction is answered as it is by itself.
 abbrev pub OneIsAnswered : Type 0
-OneIsAnswered = (old new : Account) (line : List ℕ) (events : List Event) (said : List Reply) (replies : List Doc) (fault : Bool) → AnswersGroup old (together (line ∷ [])) events said replies fault new
+OneIsAnswered = (old new : Account) (line : List ℕ) (events : List Event) (said : List Reply) (replies : List Doc) → AnswersGroup old (together (line ∷ [])) events said replies new
     → (reply : Doc) × (replies ≡ reply ∷ []) × Answers old line events said reply new
 
 -- No line waits if a batch takes one: all lines were done.

@@ -7,6 +7,5 @@ pub mod Pieces
 pub mod Progress
 pub mod Serve
 pub mod Laws
-pub mod Halting
 pub mod Kept
 pub mod Apart

@@ -1,22 +1,19 @@
 -- The answers to a request or a line, for private clauses.
-use Rattle.std.specs.Prelude.{◌≡◌, ◌⊎◌, ◌<◌, ◌&&◌, List, [], ◌∷◌, ◌++◌, length, map, ℕ, Bool, true, false, nat_eq, Result, Ok, Err, ⊤}
-use Rattle.std.specs.List.{list_any}
+use Rattle.std.specs.Prelude.{◌≡◌, ◌⊎◌, ◌<◌, List, [], ◌∷◌, ◌++◌, length, ℕ, Result, ⊤}
 use Rattle.sector_device.specs.Disk.{Disk}
 use Rattle.doc_tree.specs.Doc.{Doc}
 use Rattle.doc_machine.specs.Transaction.{Transaction}
 use Rattle.doc_changes.specs.Refusals.{plain}
 use Rattle.doc_changes.specs.declared.refusal.Refusal.{Refusal}
-use Rattle.refusals.specs.declared.numbers.TheConstants.{BROKEN, MEMORY}
+use Rattle.refusals.specs.declared.numbers.TheConstants.{MEMORY}
 use Rattle.doc_store.specs.Account.{Account, StoreView}
-use Rattle.doc_store.specs.Faults.{StopsAtFault, is_fault}
 use Rattle.doc_store.specs.Run as store
 use Rattle.store_commits.specs.declared.event.Reply.{Reply as StoreReply}
 use Rattle.store_commits.specs.declared.event.Reply.TheVariants as store_replies
-use Rattle.doc_store.specs.Run.{Batched, Event, Ran, RanInBatches, reply_of}
+use Rattle.doc_store.specs.Run.{Event, Ran, RanInBatches, reply_of}
 use Rattle.doc_store.specs.Pumping.{PumpAnswers}
 use Rattle.store_commits.specs.declared.pump.Pump.{Pump}
 use Rattle.protocol.specs.Request.{Request}
-use Rattle.protocol.specs.declared.request.Request.{Request as Read}
 use Rattle.protocol.specs.Reply.{refusal_reply}
 use Rattle.protocol.specs.Says.{Says}
 use Rattle.protocol.specs.declared.reply.Reply.{Reply}
@@ -58,56 +55,27 @@ pub record RequestIsAnswered {D : Type 0} (disk : D → Disk) (options : Options
 abbrev pub IsAnsweredAlone : {D : Type 0} → (D → Disk) → StoreView D → Request → Doc → StoreView D → Type 0
 IsAnsweredAlone disk old request reply new = (options : Options) → RequestIsAnswered disk options old request reply new
 
--- memory was refused for the reading of a line
-abbrev pub is_unread : Result Read Refusal → Bool
-is_unread (Ok request) = false
-is_unread (Err refusal) = nat_eq refusal.number MEMORY
-
 -- What a line by itself led to, with what follows it, and with what the store was asked for both.
-pub record LineIsAnswered {D : Type 0} (disk : D → Disk) (options : Options) (old : StoreView D) (line : List ℕ) (reply : Doc) (halted : Bool) (new : StoreView D) : Type 0 where
+pub record LineIsAnswered {D : Type 0} (disk : D → Disk) (options : Options) (old : StoreView D) (line : List ℕ) (reply : Doc) (new : StoreView D) : Type 0 where
   pub events : List Event
   pub said : List StoreReply
-  pub does : Does options old.account (alone line) events said (reply ∷ []) halted new.account
+  pub does : Does options old.account (alone line) events said (reply ∷ []) new.account
   pub led : IsRunFrom disk old events said new
 
--- The store made these transactions as one batch: all of them, or in a session that halts those through the first without room.
-pub record IsBatchMade {D : Type 0} (disk : D → Disk) (options : Options) (old : StoreView D) (cs : List Transaction) (said : List StoreReply) (new : StoreView D) : Type 0 where
-  pub first : List Transaction
-  pub rest : List Transaction
-  pub parts : cs ≡ first ++ rest
-  pub batched : Batched disk old new first said
-  pub stops : options.halt ≡ true → StopsAtFault said
-  pub why : (rest ≡ []) ⊎ ((options.halt ≡ true) × (list_any is_fault said ≡ true))
-
--- What the transactions of one batch led to, with what follows them, and with what the store was asked for both. Those that weren't judged, since the session halted, are answered that the store is broken.
-pub record BatchIsAnswered {D : Type 0} (disk : D → Disk) (options : Options) (old : StoreView D) (cs : List Transaction) (replies : List Doc) (halted : Bool) (new : StoreView D) : Type 0 where
-  pub first : List Transaction
-  pub rest : List Transaction
-  pub parts : cs ≡ first ++ rest
-  pub why : (rest ≡ []) ⊎ ((halted ≡ true) × (0 < length first))
-  pub told : List Doc
-  pub replies_are : replies ≡ told ++ map (λ _. refusal_reply (plain BROKEN)) rest
+-- What the transactions of one batch led to, with what follows them, and with what the store was asked for both.
+pub record BatchIsAnswered {D : Type 0} (disk : D → Disk) (options : Options) (old : StoreView D) (cs : List Transaction) (replies : List Doc) (new : StoreView D) : Type 0 where
   pub mid : Account
   pub own : List Event
   pub own_said : List StoreReply
-  pub fault : Bool
-  pub answers : AnswersBatch old.account first own own_said told fault mid
-  pub halted_is : halted ≡ (options.halt && fault)
-  pub stops : options.halt ≡ true → StopsAtFault own_said
+  pub answers : AnswersBatch old.account cs own own_said replies mid
   pub more : List Event
   pub more_said : List StoreReply
   pub follows : Follows options own_said mid more more_said new.account
   pub led : IsRunFrom disk old (own ++ more) (own_said ++ more_said) new
 
 -- The transactions that waited, if any did, were done as one batch.
-abbrev pub EndsBatch : {D : Type 0} → (D → Disk) → Options → StoreView D → List Transaction → List Doc → Bool → StoreView D → Type 0
-EndsBatch disk options old cs replies halted new =
-    ((cs ≡ []) × (replies ≡ []) × (halted ≡ false) × (new ≡ old)) ⊎ ((0 < length cs) × BatchIsAnswered disk options old cs replies halted new)
-
--- A line by itself was answered; if the session has halted, that the store is broken, and the store wasn't asked.
-abbrev pub GoesOnOrIsRefused : {D : Type 0} → (D → Disk) → Options → StoreView D → Bool → List ℕ → Doc → Bool → StoreView D → Type 0
-GoesOnOrIsRefused disk options old was line reply is new =
-    ((was ≡ false) × LineIsAnswered disk options old line reply is new) ⊎ ((was ≡ true) × (reply ≡ refusal_reply (plain BROKEN)) × (is ≡ true) × (new ≡ old))
+abbrev pub EndsBatch : {D : Type 0} → (D → Disk) → Options → StoreView D → List Transaction → List Doc → StoreView D → Type 0
+EndsBatch disk options old cs replies new = ((cs ≡ []) × (replies ≡ []) × (new ≡ old)) ⊎ ((0 < length cs) × BatchIsAnswered disk options old cs replies new)
 
 -- a reply of the store, as a session's
 abbrev pub shown_as : StoreReply → Reply

@@ -26,7 +26,7 @@ held_in session = length session.waiting.items + length session.ready.items
 pub record HasRead {D : Type 0} (disk : D → Disk) (options : Options) (start : StoreView D) (read : List ℕ) (now : StoreView D) (session : Session) (replies : List Doc) : Type 0 where
   pub rest : List ℕ
   pub ready : List Doc
-  pub reached : HasCut disk options start read now (replies ++ ready) (waiting_in session) session.halted rest
+  pub reached : HasCut disk options start read now (replies ++ ready) (waiting_in session) rest
   pub kept : Holds session.line rest
   pub goes_by : session.options ≡ options
   pub says : AllSay session.ready.items ready
@@ -35,7 +35,6 @@ pub record HasRead {D : Type 0} (disk : D → Disk) (options : Options) (start :
 pub record HasEnded {D : Type 0} (disk : D → Disk) (options : Options) (start : StoreView D) (lines : List (List ℕ)) (now : StoreView D) (is : Session) (replies : List Doc) : Type 0 where
   pub ready : List Doc
   pub session : IsSession disk options start lines (replies ++ ready) now
-  pub halted_is : session.halted ≡ is.halted
   pub says : AllSay is.ready.items ready
 
 -- Whatever it had read and given since whatever start, it has read these bytes more.
@@ -67,7 +66,6 @@ pub record KeepsLines (was is : Session) : Type 0 where
   pub line : is.line ≡ was.line
   pub options : is.options ≡ was.options
   pub waiting : is.waiting ≡ was.waiting
-  pub halted : is.halted ≡ was.halted
 
 -- The first of the replies that were ready was given, or there is none.
 abbrev pub GivesReady : Session → Option Reply → Session → Type 0
@@ -81,8 +79,8 @@ pub record KeepsInput (was is : Session) : Type 0 where
 
 -- A line that isn't blank has ended so: its transaction waits, or the replies to it and those before it are ready.
 abbrev pub LineEnds : {D : Type 0} → (D → Disk) → List ℕ → StoreView D → Session → StoreView D → Session → Type 0
-LineEnds disk line old was new is = (more : List Doc) × AllSay is.ready.items more × LineIsWaitingOrDone disk was.options old (waiting_in was) was.halted line more new (waiting_in is) is.halted
+LineEnds disk line old was new is = (more : List Doc) × AllSay is.ready.items more × LineIsWaitingOrDone disk was.options old (waiting_in was) line more new (waiting_in is)
 
 -- Whatever line was held, it has ended.
 abbrev pub LineEndsFor : {D : Type 0} → (D → Disk) → StoreView D → Session → StoreView D → Session → Type 0
-LineEndsFor disk old was new is = (line : List ℕ) → Holds was.line line → (more : List Doc) × AllSay is.ready.items more × EndsLine disk was.options old (waiting_in was) was.halted line more new (waiting_in is) is.halted
+LineEndsFor disk old was new is = (line : List ℕ) → Holds was.line line → (more : List Doc) × AllSay is.ready.items more × EndsLine disk was.options old (waiting_in was) line more new (waiting_in is)

@@ -1,5 +1,5 @@
 -- For the clauses within the crate: the progress of serving.
-use Rattle.std.specs.Prelude.{◌≡◌, ℕ, Bool, List, [], ◌∷◌, ◌++◌, Option}
+use Rattle.std.specs.Prelude.{◌≡◌, ℕ, List, [], ◌∷◌, ◌++◌, Option}
 use Rattle.std.specs.Io.KnownBytes.{IsAtEnd}
 use Rattle.sector_device.specs.Disk.{Disk}
 use Rattle.doc_tree.specs.Doc.{Doc}
@@ -36,10 +36,10 @@ abbrev pub BreaksOffIn : {D : Type 0} → (D → Disk) → List ℕ → StoreVie
 BreaksOffIn {D} disk bytes old was wrote new =
     (options : Options) (start : StoreView D) (read : List ℕ) (before : Option (List ℕ)) → SoFar disk options start read before old was wrote → (more : List ℕ) (left : Option (List ℕ)) → BreaksOff disk options start ((read ++ bytes) ++ more) left new
 
--- However far it had come, all that was read is answered and given, and counted as such; and whether it has halted.
-abbrev pub Finishes : {D : Type 0} → (D → Disk) → StoreView D → Progress → Option (List ℕ) → StoreView D → Option (List ℕ) → ℕ → Bool → Type 0
-Finishes {D} disk old was wrote new written count halted =
-    (options : Options) (start : StoreView D) (read : List ℕ) (before : Option (List ℕ)) → SoFar disk options start read before old was wrote → Serves disk options start (lines_of read) before new written count halted
+-- However far it had come, all that was read is answered and given, and counted as such.
+abbrev pub Finishes : {D : Type 0} → (D → Disk) → StoreView D → Progress → Option (List ℕ) → StoreView D → Option (List ℕ) → ℕ → Type 0
+Finishes {D} disk old was wrote new written count =
+    (options : Options) (start : StoreView D) (read : List ℕ) (before : Option (List ℕ)) → SoFar disk options start read before old was wrote → Serves disk options start (lines_of read) before new written count
 
 -- The same, if it breaks off at the end of the input.
 abbrev pub BreaksOffAtEnd : {D : Type 0} → (D → Disk) → StoreView D → Progress → Option (List ℕ) → StoreView D → Type 0

@@ -20,9 +20,7 @@ pub record IsSession {D : Type 0} (disk : D → Disk) (options : Options) (old :
   pub grouped : AreGroups options lines groups whole
   pub events : List Event
   pub said : List Reply
-  -- a transaction met a fault, and the options ask to halt then
-  pub halted : Bool
-  pub session : Session options old.account groups events said replies halted new.account
+  pub session : Session options old.account groups events said replies new.account
   pub ran : RanInBatches disk old new events said
 
 -- It did, and the lines of its replies are all that was written.
@@ -31,11 +29,10 @@ pub record Writes {D : Type 0} (disk : D → Disk) (options : Options) (old : St
   pub session : IsSession disk options old lines replies new
   pub wrote : Appends before after (reply_lines replies)
 
--- the same, with the number of its replies, which stops at 2^64 - 1, and whether it halted
-pub record Serves {D : Type 0} (disk : D → Disk) (options : Options) (old : StoreView D) (lines : List (List ℕ)) (before : Option (List ℕ)) (new : StoreView D) (after : Option (List ℕ)) (count : ℕ) (halted : Bool) : Type 0 where
+-- the same, with the number of its replies, which stops at 2^64 - 1
+pub record Serves {D : Type 0} (disk : D → Disk) (options : Options) (old : StoreView D) (lines : List (List ℕ)) (before : Option (List ℕ)) (new : StoreView D) (after : Option (List ℕ)) (count : ℕ) : Type 0 where
   pub told : Writes disk options old lines before new after
   pub counted : count ≡ count_of told.replies
-  pub halted_is : told.session.halted ≡ halted
 
 -- If it pauses: transactions wait for others, fewer than a batch takes, and aren't done. A session over all lines
 -- before them went in this way, and each of its batches was ended by being full or by a line after it.

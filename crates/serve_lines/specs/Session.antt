@@ -1,5 +1,5 @@
 -- Sessions: the replies to the lines that were read, one to each, in order.
-use Rattle.std.specs.Prelude.{◌≡◌, ◌⊎◌, ◌<◌, ◌≤◌, ◌*◌, ℕ, Bool, List, [], ◌∷◌, ◌++◌, map, max, length, chars, nat_le, ◌&&◌, if◌then◌else◌, is_some, true, false, Result, Ok, Err, ⊤}
+use Rattle.std.specs.Prelude.{◌≡◌, ◌⊎◌, ◌<◌, ◌≤◌, ◌*◌, ℕ, Bool, List, [], ◌∷◌, ◌++◌, map, max, length, chars, nat_le, if◌then◌else◌, is_some, true, false, Result, Ok, Err, ⊤}
 use Rattle.std.specs.List.{list_any}
 use Rattle.doc_tree.specs.Doc.{Doc}
 use Rattle.doc_tree.specs.Text.{text_of}
@@ -14,12 +14,12 @@ use Rattle.doc_changes.specs.State.{State}
 use Rattle.doc_changes.specs.Reading.{value_at, schema_at, revision_at, names_of}
 use Rattle.doc_machine.specs.Queries.{nodes_at}
 use Rattle.doc_changes.specs.declared.refusal.Refusal.{Refusal}
-use Rattle.refusals.specs.declared.numbers.TheConstants.{BROKEN, MEMORY, POINTER, PATH, PATH_LEFT_OUT, PATH_LONG, REPLY_LONG}
+use Rattle.refusals.specs.declared.numbers.TheConstants.{MEMORY, POINTER, PATH, PATH_LEFT_OUT, PATH_LONG, REPLY_LONG}
 use Rattle.doc_store.specs.Account.{Account}
 use Rattle.doc_store.specs.Answers as by_itself
 use Rattle.doc_store.specs.Batch.{Commit, IsBatch}
 use Rattle.doc_store.specs.Committed.{changes}
-use Rattle.doc_store.specs.Faults.{StopsAtFault, is_done, is_fault}
+use Rattle.doc_store.specs.Events.{is_done}
 use Rattle.doc_store.specs.SnapshotAnswers.{SnapshotAnswers}
 use Rattle.doc_store.specs.Pumping.{PumpAnswers}
 use Rattle.doc_store.specs.Run as store
@@ -140,16 +140,11 @@ shown_reply (Pumped step) = pump_reply step
 shown_reply (Refused refusal) = refusal_reply refusal
 
 -- From old, transactions were made as one batch, and given these replies; that led to new. That memory ran out may be
--- answered to all of them before the store is asked. Whether one of them met a fault: this, or one of the store.
-abbrev pub AnswersBatch : Account → List Transaction → List Event → List Reply → List Doc → Bool → Account → Type 0
-AnswersBatch old cs events said replies fault new =
-    ((replies ≡ map (λ _. refusal_reply (plain MEMORY)) cs) × ChangesNothing old events said new × (fault ≡ true))
-    ⊎ ((commits : List Commit) × IsBatch old cs said commits new × (events ≡ changes cs) × (replies ≡ map shown_reply said) × (fault ≡ list_any is_fault said))
-
--- Whether a line by itself may be a transaction that met a fault: memory was refused for its reading. It is none if it asks for something else.
-abbrev pub MayBeFault : List ℕ → Doc → Bool → Type 0
-MayBeFault line reply true = reply ≡ refusal_reply (plain MEMORY)
-MayBeFault line reply false = (asked : Result Request ℕ) × Asks line asked × IsOther asked
+-- answered to all of them before the store is asked.
+abbrev pub AnswersBatch : Account → List Transaction → List Event → List Reply → List Doc → Account → Type 0
+AnswersBatch old cs events said replies new =
+    ((replies ≡ map (λ _. refusal_reply (plain MEMORY)) cs) × ChangesNothing old events said new)
+    ⊎ ((commits : List Commit) × IsBatch old cs said commits new × (events ≡ changes cs) × (replies ≡ map shown_reply said))
 
 -- lines that are done at once: one by itself, or transactions that are one batch
 pub data Group : Type 0 where
@@ -172,16 +167,10 @@ pub data AreGroups (options : Options) : List (List ℕ) → List Group → Bool
       → AreGroups options (lines ++ batch) (groups ++ together batch ∷ []) false
 
 -- From old, a group of lines was given these replies, one to each line in their order, and led to new, by these events
--- and their replies: a line by itself is no transaction, or memory ran out for it. Whether a transaction of it met a
--- fault.
-abbrev pub AnswersGroup : Account → Group → List Event → List Reply → List Doc → Bool → Account → Type 0
-AnswersGroup old (alone line) events said replies fault new = (reply : Doc) × (replies ≡ reply ∷ []) × AnswersOther old line events said reply new × MayBeFault line reply fault
-AnswersGroup old (together lines) events said replies fault new = (cs : List Transaction) × AskFor lines cs × AnswersBatch old cs events said replies fault new
-
--- of a batch no transaction is done after a fault
-abbrev pub Stops : Group → List Reply → Type 0
-Stops (alone line) said = ⊤
-Stops (together lines) said = StopsAtFault said
+-- and their replies: a line by itself is no transaction, or memory ran out for it.
+abbrev pub AnswersGroup : Account → Group → List Event → List Reply → List Doc → Account → Type 0
+AnswersGroup old (alone line) events said replies new = (reply : Doc) × (replies ≡ reply ∷ []) × AnswersOther old line events said reply new
+AnswersGroup old (together lines) events said replies new = (cs : List Transaction) × AskFor lines cs × AnswersBatch old cs events said replies new
 
 -- one of these replies says that a transaction was done
 abbrev pub HasDone : List Reply → Type 0
@@ -204,28 +193,21 @@ Follows options said old events more new =
     ⊎ ((IsDue options said old → ⊥) × ChangesNothing old events more new)
 
 -- From old, a group of lines was given these replies, and what follows it was done, which no reply shows; that led to
--- new, by these events and their replies. If the options ask for it, a fault that a transaction meets halts the
--- session, and of this batch too no transaction is done after it.
-pub record Does (options : Options) (old : Account) (group : Group) (events : List Event) (said : List Reply) (replies : List Doc) (halted : Bool) (new : Account) : Type 0 where
+-- new, by these events and their replies.
+pub record Does (options : Options) (old : Account) (group : Group) (events : List Event) (said : List Reply) (replies : List Doc) (new : Account) : Type 0 where
   pub mid : Account
   pub own : List Event
   pub own_said : List Reply
-  pub fault : Bool
-  pub answers : AnswersGroup old group own own_said replies fault mid
-  pub halted_is : halted ≡ (options.halt && fault)
-  pub stops : options.halt ≡ true → Stops group own_said
+  pub answers : AnswersGroup old group own own_said replies mid
   pub more : List Event
   pub more_said : List Reply
   pub follows : Follows options own_said mid more more_said new
   pub events_are : events ≡ own ++ more
   pub said_are : said ≡ own_said ++ more_said
 
--- From an account to an account, these groups were done in order and given these replies in all, by these events and their replies; and whether the session has halted then. If it has, each line is answered that the store is broken, and the store isn't asked.
-pub data Session (options : Options) : Account → List Group → List Event → List Reply → List Doc → Bool → Account → Type 0 where
-  begun : (a : Account) → Session options a [] [] [] [] false a
-  one_more : (a b d : Account) (groups : List Group) (group : Group) (events more_events : List Event) (said more_said : List Reply) (replies more_replies : List Doc) (halted : Bool)
-      → Session options a groups events said replies false b → Does options b group more_events more_said more_replies halted d
-      → Session options a (groups ++ group ∷ []) (events ++ more_events) (said ++ more_said) (replies ++ more_replies) halted d
-  one_refused : (a b : Account) (groups : List Group) (line : List ℕ) (events : List Event) (said : List Reply) (replies : List Doc)
-      → Session options a groups events said replies true b
-      → Session options a (groups ++ alone line ∷ []) events said (replies ++ refusal_reply (plain BROKEN) ∷ []) true b
+-- From an account to an account, these groups were done in order and given these replies in all, by these events and their replies.
+pub data Session (options : Options) : Account → List Group → List Event → List Reply → List Doc → Account → Type 0 where
+  begun : (a : Account) → Session options a [] [] [] [] a
+  one_more : (a b d : Account) (groups : List Group) (group : Group) (events more_events : List Event) (said more_said : List Reply) (replies more_replies : List Doc)
+      → Session options a groups events said replies b → Does options b group more_events more_said more_replies d
+      → Session options a (groups ++ group ∷ []) (events ++ more_events) (said ++ more_said) (replies ++ more_replies) d

@@ -1,10 +1,10 @@
 //! The answer to a line by itself: one that is no change.
-ghost use Rattle.std.specs.Prelude.{◌≡◌, ◌⊎◌, ◌&&◌, ℕ, List, [], IfOk, Ok, Err, MatchResult};
+ghost use Rattle.std.specs.Prelude.{◌≡◌, ◌⊎◌, ℕ, List, [], IfOk, Ok, Err, MatchResult};
 ghost use Rattle.doc_tree.specs.Doc.{Doc};
 ghost use Rattle.doc_changes.specs.Refusals.{plain};
 ghost use Rattle.protocol.specs.Read.{asked_by, IsNoChange, ReadsRequest};
 ghost use Rattle.protocol.specs.Says.{Says};
-ghost use Rattle.serve_lines.specs.LineReplies.{AnswersRequest, IsAnsweredAlone, LineIsAnswered, is_unread};
+ghost use Rattle.serve_lines.specs.LineReplies.{AnswersRequest, IsAnsweredAlone, LineIsAnswered};
 ghost use Rattle.protocol.specs.Request as asked;
 ghost use Rattle.protocol.specs.Reply.{line_of, refusal_reply};
 ghost use Rattle.path_eval.specs.NodeView.{listed_of};
@@ -24,8 +24,7 @@ use refusals::numbers::MEMORY;
 use sector_device::SectorDevice;
 use std::alloc::{AllocError, Global};
 
-/// The answer to a line, by what it was read as: what it asks for, which is no change, or why it asks for nothing. It
-/// halts a session that halts at a fault if memory was refused for its reading.
+/// The answer to a line, by what it was read as: what it asks for, which is no change, or why it asks for nothing.
 pub(crate) fn answer<D: SectorDevice>(
     alloc: Global,
     store: &mut Store<D>,
@@ -33,7 +32,7 @@ pub(crate) fn answer<D: SectorDevice>(
 ) -> Reply
     requires { IfOk asked (λ request. IsNoChange (asked_by request)) }
     ensures { (options : Options) (line : List ℕ) → ReadsRequest line asked
-        → (reply : Doc) × Says result reply × LineIsAnswered D.disk options store.old line reply (options.halt && is_unread asked) store.new }
+        → (reply : Doc) × Says result reply × LineIsAnswered D.disk options store.old line reply store.new }
 {
     match asked {
         Ok(request) => reply_to(alloc, store, request),

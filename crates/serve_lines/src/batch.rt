@@ -1,43 +1,39 @@
 //! Transactions that are made as one batch, what follows them, and their replies.
-ghost use Rattle.std.specs.Prelude.{◌≡◌, ◌≤◌, ◌<◌, ◌+◌, ◌++◌, ◌∷◌, ℕ, List, [], length, map, replicate, ◌&&◌, IfOk, IfErr, true, false};
+ghost use Rattle.std.specs.Prelude.{◌≡◌, ◌≤◌, ◌<◌, ◌+◌, ◌++◌, ◌∷◌, List, [], length, map, replicate, IfOk, IfErr, true, false};
 ghost use Rattle.std.specs.List.{list_any};
 ghost use Rattle.std.specs.Vec.{vec_capacity, vec_len};
 ghost use Rattle.std.specs.VecDeque.{deque_capacity, deque_len};
 ghost use Rattle.doc_tree.specs.Doc.{Doc};
 ghost use Rattle.doc_machine.specs.Transaction.{transaction_of};
-ghost use Rattle.doc_machine.specs.Transaction.{Transaction as Asked};
-ghost use Rattle.refusals.specs.declared.numbers.TheConstants.{BROKEN};
-ghost use Rattle.doc_store.specs.Faults.{is_done, is_fault};
-ghost use Rattle.protocol.specs.Reply.{refusal_reply};
+ghost use Rattle.doc_store.specs.Events.{is_done};
 ghost use Rattle.doc_changes.specs.Refusals.{plain};
 ghost use Rattle.protocol.specs.declared.reply.Reply.{Reply as Shown};
 ghost use Rattle.protocol.specs.declared.reply.Reply.TheVariants.{Refused};
-ghost use Rattle.serve_lines.specs.LineReplies.{AllSay, BatchIsAnswered, EndsBatch, IsBatchMade, FollowsBatch, MakesCopyStep, shown_as};
+ghost use Rattle.serve_lines.specs.LineReplies.{AllSay, BatchIsAnswered, EndsBatch, FollowsBatch, MakesCopyStep, shown_as};
 ghost use Rattle.serve_lines.specs.Session.{WantsStep, most_of, shown_reply};
 
 use crate::options::Options;
 use doc_machine::{Refusal, Transaction};
 use doc_store::Store;
 use protocol::Reply;
-use refusals::numbers::{BROKEN, DEVICE, FULL, MEMORY};
+use refusals::numbers::MEMORY;
 use sector_device::SectorDevice;
 use std::alloc::Global;
 use std::collections::VecDeque;
 use std::mem;
 
 /// Makes the transactions that wait as one batch, if any do, with the step of a copy after it if one is wanted. Nothing
-/// waits then, and their replies are ready: if memory is refused, that reply to each of them. Answers whether the
-/// session halts: the options ask for it, and a transaction met a fault.
+/// waits then, and their replies are ready: if memory is refused, that reply to each of them.
 pub(crate) fn commit<D: SectorDevice>(
     alloc: Global,
     store: &mut Store<D>,
     options: &Options,
     waiting: &mut Vec<Transaction>,
     ready: &mut VecDeque<Reply>,
-) -> bool
+)
     requires room { vec_len waiting.old + deque_len ready.old ≤ deque_capacity ready.old }
     ensures batch { (added : List Shown) × (replies : List Doc) × (ready.new.items ≡ ready.old.items ++ added) × AllSay added replies
-        × EndsBatch D.disk options.now store.old (map transaction_of waiting.old.items) replies result store.new }
+        × EndsBatch D.disk options.now store.old (map transaction_of waiting.old.items) replies store.new }
     ensures none { (waiting.new.items ≡ []) × (vec_len waiting.new ≡ 0) }
     ensures places { vec_capacity waiting.old ≤ vec_capacity waiting.new }
     ensures len { deque_len ready.new ≡ deque_len ready.old + vec_len waiting.old }
@@ -45,34 +41,24 @@ pub(crate) fn commit<D: SectorDevice>(
 {
     let many = waiting.len();
     if many == 0 {
-        return false;
+        return;
     }
     match change_all(alloc, store, options, waiting) {
-        Ok(said) => {
-            let halts = halts_after(options, &said);
-            let rest = many - said.len();
-            say(ready, said);
-            refuse(ready, rest, BROKEN);
-            halts
-        }
-        Err(_) => {
-            refuse(ready, many, MEMORY);
-            options.halt
-        }
+        Ok(said) => say(ready, said),
+        Err(_) => refuse(ready, many, MEMORY),
     }
 }
 
-// Makes the transactions that wait as one batch, and nothing waits then. The replies to them, or to the first of them in a
-// session that halts; or that memory is refused, and nothing was done.
+// Makes the transactions that wait as one batch, and nothing waits then. The replies to them, or that memory is refused, and
+// nothing was done.
 fn change_all<D: SectorDevice>(
     alloc: Global,
     store: &mut Store<D>,
     options: &Options,
     waiting: &mut Vec<Transaction>,
 ) -> Result<Vec<doc_store::Reply>, Refusal>
-    ensures ok { IfOk result (λ said. (rest : List Asked) × (length said.items + length rest ≡ length waiting.old.items)
-        × BatchIsAnswered D.disk options.now store.old (map transaction_of waiting.old.items) (map shown_reply said.items ++ map (λ _. refusal_reply (plain BROKEN)) rest)
-        (options.now.halt && list_any is_fault said.items) store.new) }
+    ensures ok { IfOk result (λ said. (length said.items ≡ length waiting.old.items)
+        × BatchIsAnswered D.disk options.now store.old (map transaction_of waiting.old.items) (map shown_reply said.items) store.new) }
     ensures err { IfErr result (λ _. store.new ≡ store.old) }
     ensures none { (waiting.new.items ≡ []) × (vec_len waiting.new ≡ 0) }
     ensures places { vec_capacity waiting.old ≤ vec_capacity waiting.new }
@@ -81,48 +67,9 @@ fn change_all<D: SectorDevice>(
         waiting.clear();
         return Err(Refusal::plain(MEMORY));
     };
-    let said = make(store, options, mem::replace(waiting, places))?;
+    let said = store.transact_batch(mem::replace(waiting, places))?;
     follow(store, options, &said);
     Ok(said)
-}
-
-// Makes transactions as one batch; in a session that halts, those through the first without room.
-fn make<D: SectorDevice>(
-    store: &mut Store<D>,
-    options: &Options,
-    transactions: Vec<Transaction>,
-) -> Result<Vec<doc_store::Reply>, Refusal>
-    ensures made { IfOk result (λ said. IsBatchMade D.disk options.now store.old (map transaction_of transactions.items) said.items store.new) }
-    ensures err { IfErr result (λ _. store.new ≡ store.old) }
-{
-    if options.halt {
-        store.transact_until_full(transactions)
-    } else {
-        store.transact_batch(transactions)
-    }
-}
-
-// Whether the session halts after these replies.
-fn halts_after(options: &Options, said: &[doc_store::Reply]) -> bool
-    ensures { result ≡ (options.now.halt && list_any is_fault said.now) }
-{
-    options.halt && has_fault(said)
-}
-
-// Whether a transaction met a fault of the store.
-fn has_fault(said: &[doc_store::Reply]) -> bool
-    ensures { result ≡ list_any is_fault said.now }
-{
-    said.iter().any(|reply| says_fault(*reply))
-}
-
-fn says_fault(reply: doc_store::Reply) -> bool
-    ensures { result ≡ is_fault reply }
-{
-    match reply {
-        doc_store::Reply::Refused(refusal) => matches!(refusal.number, FULL | DEVICE | BROKEN),
-        _ => false,
-    }
 }
 
 // Makes a step of a copy after these replies, if a change was done and one is wanted.

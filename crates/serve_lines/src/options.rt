@@ -11,8 +11,4 @@ pub struct Options {
     pub pump: u64,
     /// Calls of the reader at most. Without a reader it has no effect.
     pub turns: u64,
-    /// Whether the session halts once a transaction is answered 60 to 63, or memory is refused for the reading of a line:
-    /// then each later line that isn't blank is answered `BROKEN`, and the store isn't asked. In a batch no transaction
-    /// after that one is made.
-    pub halt: bool,
 }

@@ -1,5 +1,5 @@
 //! The progress of serving between two reads.
-ghost use Rattle.std.specs.Prelude.{◌≡◌, [], OnOk, OnErr, IfOk, false};
+ghost use Rattle.std.specs.Prelude.{◌≡◌, [], OnOk, OnErr, IfOk};
 ghost use Rattle.protocol.specs.LineBuffer.{Holds};
 
 use crate::options::Options;
@@ -29,7 +29,6 @@ impl Progress {
         ensures empty { IfOk result (λ progress. progress.outbox.bytes.items ≡ []) }
         ensures waiting { IfOk result (λ progress. progress.session.waiting.items ≡ []) }
         ensures taken { IfOk result (λ progress. progress.session.ready.items ≡ []) }
-        ensures halted { IfOk result (λ progress. progress.session.halted ≡ false) }
     {
         Ok(Progress {
             session: Session::new(alloc, options)?,
@@ -100,27 +99,26 @@ impl Progress {
     }
 
     /// Answers the last line, which no line feed has ended, and the changes that wait, and writes all. The number of all
-    /// replies, and whether the session has halted.
+    /// replies.
     pub(crate) fn finish<D: SectorDevice, W: Write>(
         &mut self,
         alloc: Global,
         store: &mut Store<D>,
         writer: &mut W,
-    ) -> Result<(u64, bool), Unwritten>
+    ) -> Result<u64, Unwritten>
         requires taken { self.old.session.ready.items ≡ [] }
-        ensures ok { IfOk result (λ end. Finishes D.disk store.old self.old (W.contents writer.old) store.new (W.contents writer.new) end.0 end.1) }
+        ensures ok { IfOk result (Finishes D.disk store.old self.old (W.contents writer.old) store.new (W.contents writer.new)) }
         ensures err { OnErr result (BreaksOffAtEnd D.disk store.old self.old (W.contents writer.old) store.new) }
     {
         self.session.finish(alloc, store);
         self.tell_rest(writer)?;
         self.deliver(writer)?;
-        Ok((self.answered, self.session.is_halted()))
+        Ok(self.answered)
     }
 
     // Gives the replies that are ready.
     fn tell_rest<W: Write>(&mut self, writer: &mut W) -> Result<(), Unwritten>
         ensures told { OnOk result (TellsRest self.old (W.contents writer.old) self.new (W.contents writer.new)) }
-        ensures halted { OnOk result (self.new.session.halted ≡ self.old.session.halted) }
     {
         'replies: while let Some(reply) = self.session.ready_reply() {
             self.tell(reply, writer)?;

@@ -34,8 +34,6 @@ pub struct Served {
     pub lines: u64,
     /// Whether the store is broken at the end: its device failed, in this session or before.
     pub broken: bool,
-    /// Whether the session has halted (`Options::halt`).
-    pub halted: bool,
 }
 
 /// Why a session ended before its input did.
@@ -64,8 +62,7 @@ pub enum ServeFault {
 /// that refusal and skipped, after the batch before it; if memory is refused to a batch, each of its lines is. After
 /// each batch of which a change was done a step of a copy is made, before its replies are written, if the options ask
 /// for one; it has no reply line. Once the store is broken, changes, snapshots and steps are refused, and questions are
-/// answered from what was last committed. If the options ask to halt, all lines are answered `BROKEN` after a change
-/// that is answered 60 to 63, or a line for whose reading memory was refused, and nothing more is done.
+/// answered from what was last committed.
 pub fn serve<D: SectorDevice, R: Read, W: Write>(
     alloc: Global,
     store: &mut Store<D>,
@@ -82,7 +79,7 @@ pub fn serve<D: SectorDevice, R: Read, W: Write>(
 
     // All that was read is all there was, and what was written is the reply lines of a session over its lines.
     ensures session { IfOk result (λ served. (read : List ℕ) × Consumes (R.remaining reader.old) (R.remaining reader.new) read × IsAtEnd (R.remaining reader.new)
-        × Serves D.disk options.now store.old (lines_of read) (W.contents writer.old) store.new (W.contents writer.new) served.lines served.halted
+        × Serves D.disk options.now store.old (lines_of read) (W.contents writer.old) store.new (W.contents writer.new) served.lines
         × (length read < 65_536 * options.now.turns)) }
     ensures broken { IfOk result (λ served. served.broken ≡ store.new.account.broken) }
 
@@ -117,25 +114,21 @@ pub fn serve<D: SectorDevice, R: Read, W: Write>(
     // By this call the proof knows at every exit that what is stored is good, and what the device holds.
     let broken = store.status().broken;
     match ended {
-        Ok((lines, halted)) => Ok(Served {
-            lines,
-            broken,
-            halted,
-        }),
+        Ok(lines) => Ok(Served { lines, broken }),
         Err(fault) => Err(fault),
     }
 }
 
-// The same, but for what the store is seen as at the end: the number of all replies, and whether the session has halted.
+// The same, but for what the store is seen as at the end: the number of all replies.
 fn answer_all<D: SectorDevice, R: Read, W: Write>(
     alloc: Global,
     store: &mut Store<D>,
     reader: &mut R,
     writer: &mut W,
     options: &Options,
-) -> Result<(u64, bool), ServeFault>
-    ensures ok { IfOk result (λ end. (read : List ℕ) × Consumes (R.remaining reader.old) (R.remaining reader.new) read × IsAtEnd (R.remaining reader.new)
-        × Serves D.disk options.now store.old (lines_of read) (W.contents writer.old) store.new (W.contents writer.new) end.0 end.1
+) -> Result<u64, ServeFault>
+    ensures ok { IfOk result (λ count. (read : List ℕ) × Consumes (R.remaining reader.old) (R.remaining reader.new) read × IsAtEnd (R.remaining reader.new)
+        × Serves D.disk options.now store.old (lines_of read) (W.contents writer.old) store.new (W.contents writer.new) count
         × (length read < 65_536 * options.now.turns)) }
     ensures reader { IsErrOf result Reader → (read : List ℕ) × Consumes (R.remaining reader.old) (R.remaining reader.new) read
         × Pauses D.disk options.now store.old (answered (ended read)) (W.contents writer.old) store.new (W.contents writer.new) }

@@ -1,15 +1,12 @@
 //! A session over pieces of input: each line is answered when it has ended, or with its batch.
-ghost use Rattle.std.specs.Prelude.{◌≡◌, ◌≤◌, ◌<◌, ◌+◌, ◌++◌, ◌∷◌, [], List, ℕ, ◌&&◌, ◌||◌, IfOk, MatchOption, Ok, false, ⊤};
+ghost use Rattle.std.specs.Prelude.{◌≡◌, ◌≤◌, ◌<◌, ◌+◌, ◌++◌, ◌∷◌, [], List, ℕ, IfOk, MatchOption, Ok, ⊤};
 ghost use Rattle.std.specs.Vec.{vec_capacity, vec_len};
-ghost use Rattle.std.specs.VecDeque.{deque_capacity, deque_len};
+ghost use Rattle.std.specs.VecDeque.{deque_capacity};
 ghost use Rattle.doc_machine.specs.Transaction.{transaction_of};
 ghost use Rattle.protocol.specs.LineBuffer.{Holds};
 ghost use Rattle.protocol.specs.Lines.{line_feed, HasNoBreak};
 ghost use Rattle.protocol.specs.Read.{asked_by, IsNoChange, ReadsRequest};
 ghost use Rattle.protocol.specs.Request.{Asks, change};
-ghost use Rattle.doc_tree.specs.Doc.{Doc};
-ghost use Rattle.protocol.specs.Says.{Says};
-ghost use Rattle.serve_lines.specs.LineReplies.{GoesOnOrIsRefused, is_unread};
 ghost use Rattle.serve_lines.specs.Session.{most_of};
 
 use crate::answer::answer;
@@ -18,7 +15,7 @@ use crate::options::Options;
 use doc_machine::{Refusal, Transaction};
 use doc_store::Store;
 use protocol::{Line, Reply, Request, cut_at_feed, read_request};
-use refusals::numbers::{BROKEN, LINE_TOO_LONG, MEMORY};
+use refusals::numbers::LINE_TOO_LONG;
 use sector_device::SectorDevice;
 use std::alloc::{AllocError, Global};
 use std::collections::VecDeque;
@@ -36,8 +33,6 @@ pub struct Session {
     waiting: Vec<Transaction>,
     /// The replies to lines that are done, the first of them first.
     ready: VecDeque<Reply>,
-    /// Whether nothing more is done.
-    halted: bool,
     ghost places: { most_of options ≤ vec_capacity waiting },
     ghost fewer: { vec_len waiting < most_of options },
     ghost room: { most_of options ≤ deque_capacity ready },
@@ -52,7 +47,6 @@ impl Session {
         ensures options { IfOk result (λ session. session.options ≡ options.now) }
         ensures waiting { IfOk result (λ session. session.waiting.items ≡ []) }
         ensures ready { IfOk result (λ session. session.ready.items ≡ []) }
-        ensures halted { IfOk result (λ session. session.halted ≡ false) }
     {
         let most = options.batch.max(1) as usize;
         Ok(Session {
@@ -60,15 +54,7 @@ impl Session {
             options: *options,
             waiting: Vec::with_capacity(alloc, most)?,
             ready: VecDeque::with_capacity(alloc, most)?,
-            halted: false,
         })
-    }
-
-    /// Whether the session has halted (`Options::halt`): nothing more is done.
-    pub fn is_halted(&self) -> bool
-        ensures { result ≡ self.now.halted }
-    {
-        self.halted
     }
 
     /// The next reply that is ready, if there is one; else it reads on in `input` until one is. The reply, and the
@@ -119,14 +105,13 @@ impl Session {
     {
         if self.ready.is_empty() {
             self.end_line(alloc, store);
-            let halts = commit(
+            commit(
                 alloc,
                 store,
                 &self.options,
                 &mut self.waiting,
                 &mut self.ready,
             );
-            self.halted = either(self.halted, halts);
         }
     }
 
@@ -164,9 +149,6 @@ impl Session {
         ensures same { KeepsInput self.old self.new }
         ensures held { held_in self.new ≤ held_in self.old + 1 }
     {
-        if self.halted {
-            return push(&mut self.ready, Reply::Refused(Refusal::plain(BROKEN)));
-        }
         match read_line(alloc, &self.line) {
             Ok(Request::Change(transaction)) => self.wait(alloc, store, transaction),
             asked => self.end_batch(alloc, store, asked),
@@ -181,14 +163,13 @@ impl Session {
         transaction: Transaction,
     )
         requires taken { self.old.ready.items ≡ [] }
-        requires goes_on { self.old.halted ≡ false }
         ensures ends { (line : List ℕ) → Asks line (Ok (change (transaction_of transaction))) → LineEnds D.disk line store.old self.old store.new self.new }
         ensures same { KeepsInput self.old self.new }
         ensures held { held_in self.new ≤ held_in self.old + 1 }
     {
         hold(&mut self.waiting, transaction);
         if is_full(&self.options, self.waiting.len()) {
-            self.halted = commit(
+            commit(
                 alloc,
                 store,
                 &self.options,
@@ -206,65 +187,20 @@ impl Session {
         asked: Result<Request, Refusal>,
     )
         requires taken { self.old.ready.items ≡ [] }
-        requires goes_on { self.old.halted ≡ false }
         requires other { IfOk asked (λ request. IsNoChange (asked_by request)) }
         ensures ends { (line : List ℕ) → ReadsRequest line asked → LineEnds D.disk line store.old self.old store.new self.new }
         ensures same { KeepsInput self.old self.new }
         ensures held { held_in self.new ≤ held_in self.old + 1 }
     {
-        let halts = commit(
+        commit(
             alloc,
             store,
             &self.options,
             &mut self.waiting,
             &mut self.ready,
         );
-        let (reply, halted) = answer_unless(alloc, store, &self.options, halts, asked);
-        self.halted = halted;
+        let reply = answer(alloc, store, asked);
         push(&mut self.ready, reply);
-    }
-}
-
-// What is answered to a line by itself, unless the session has halted; and whether it has halted then. It halts too if
-// memory was refused for the line's reading: it may have asked for a transaction.
-fn answer_unless<D: SectorDevice>(
-    alloc: Global,
-    store: &mut Store<D>,
-    options: &Options,
-    halted: bool,
-    asked: Result<Request, Refusal>,
-) -> (Reply, bool)
-    requires { IfOk asked (λ request. IsNoChange (asked_by request)) }
-    ensures { (line : List ℕ) → ReadsRequest line asked
-        → (reply : Doc) × Says result.0 reply × GoesOnOrIsRefused D.disk options.now store.old halted line reply result.1 store.new }
-{
-    if halted {
-        return (Reply::Refused(Refusal::plain(BROKEN)), true);
-    }
-    let halts = halts_unread(options, &asked);
-    (answer(alloc, store, asked), halts)
-}
-
-fn either(halted: bool, halts: bool) -> bool
-    ensures { result ≡ (halted || halts) }
-{
-    halted || halts
-}
-
-// Whether the session halts at a line by itself.
-fn halts_unread(options: &Options, asked: &Result<Request, Refusal>) -> bool
-    ensures { result ≡ (options.now.halt && is_unread asked.now) }
-{
-    options.halt && is_unread(asked)
-}
-
-// Whether memory was refused for the reading of a line.
-fn is_unread(asked: &Result<Request, Refusal>) -> bool
-    ensures { result ≡ is_unread asked.now }
-{
-    match asked {
-        Ok(_) => false,
-        Err(refusal) => refusal.number == MEMORY,
     }
 }
 

@@ -34,7 +34,6 @@ fn session_by(rt: &impl Abort, alloc: Global, batch: u64) -> Session {
         batch,
         pump: 0,
         turns: TURNS,
-        halt: false,
     };
     Session::new(alloc, &options).expect(rt, "memory")
 }

@@ -63,7 +63,6 @@ fn a_turn_is_a_call_of_the_reader(rt: HostRuntime) {
     let done = Served {
         lines: 2,
         broken: false,
-        halted: false,
     };
     assert_ends(&rt, alloc, 0, Err(ServeFault::Turns), "");
     assert_ends(&rt, alloc, 14, Err(ServeFault::Turns), "");

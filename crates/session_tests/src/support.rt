@@ -49,7 +49,6 @@ pub(crate) fn served<R: Read, W: Write>(
         batch: 1,
         pump: 0,
         turns,
-        halt: false,
     };
     serve(alloc, store, reader, writer, &options)
 }
@@ -101,7 +100,6 @@ pub(crate) fn assert_says(rt: &impl Abort, alloc: Global, input: &[u8], wanted: 
     let end = Ok(Served {
         lines,
         broken: false,
-        halted: false,
     });
     assert_session(rt, alloc, &mut reader, TURNS, end, wanted);
 }

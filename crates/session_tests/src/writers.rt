@@ -79,7 +79,6 @@ fn replies_are_flushed_before_each_read_and_at_the_end(rt: HostRuntime) {
     let done = Served {
         lines: 1,
         broken: false,
-        halted: false,
     };
     let turns = Err(ServeFault::Turns);
     assert_flushes(&rt, rt.alloc(), TURNS, false, Ok(done), LISTED);
@@ -113,7 +112,6 @@ fn a_slow_writer_is_given_all_bytes_and_a_failing_one_ends_the_session(rt: HostR
     let done = Served {
         lines: 1,
         broken: false,
-        halted: false,
     };
     assert_ends(&rt, rt.alloc(), 1, 0, Ok(done), LISTED);
     assert_ends(&rt, rt.alloc(), 0, 0, Err(ServeFault::Writer), "");

@@ -1,6 +1,5 @@
 -- Segments one after another, and the whole batch.
 use Rattle.std.proofs.Common.{◌≡◌, inl, inr, ⊎_elim, ℕ, ◌+◌, List, [], ◌∷◌, ◌++◌, length, map, refl, sym, ◌∙◌, ap, subst, Bool, true, false, Option}
-use Rattle.std.specs.List.{list_any}
 use Rattle.std.proofs.lemmas.List.{append_assoc, append-nil}
 use Rattle.sector_device.specs.Disk.{Disk, IsCoherent}
 use Rattle.store_journal.specs.JournalView.{JournalView}
@@ -13,15 +12,14 @@ use Rattle.doc_machine.specs.Trial.{TrialView, state_at}
 use Rattle.store_commits.specs.Account.{Account, StoreView, IsStanding, with_copy}
 use Rattle.store_commits.specs.Committed.{Slot, asked, waiting}
 use Rattle.store_commits.specs.Copying.{Target, copy_of}
-use Rattle.store_commits.specs.Faults.{BatchedUntilFull, is_done}
 use Rattle.store_commits.specs.Folds.{after_each, all_changes}
 use Rattle.store_commits.specs.Inside.{IsStored, account_of, store_view}
 use Rattle.store_commits.specs.Run.{Batched, Refused, Reply}
-use Rattle.store_commits.specs.Batching.{ArePlanned, HasCome, HasCommitted, IsPart, IsReady, StopsAtFull, AnswersPart, RanPrefix, none_planned, one_planned, tried_from}
+use Rattle.store_commits.specs.Batching.{ArePlanned, HasCome, HasCommitted, IsPart, IsReady, AnswersPart, RanPrefix, none_planned, one_planned, tried_from}
 use Rattle.store_commits.specs.declared.segment.Segment.{Segment}
 use Rattle.store_commits.proofs.Batches.{all_broken, batched, went_both, went_nowhere}
 use Rattle.store_commits.proofs.Changes.{after_append, seq_counts, state_before}
-use Rattle.store_commits.proofs.Slots.{asked_append, each_broken, stops_quiet, told_both, told_fault, told_stops, waiting_append}
+use Rattle.store_commits.proofs.Slots.{asked_append, both_committed, waiting_append}
 use Rattle.store_commits.proofs.Standing.{standing}
 
 module _ {D : Type 0} (disk : D → Disk) (coherent : (device : D) → (disk device).honest → IsCoherent (disk device)) where
@@ -35,7 +33,7 @@ module _ {D : Type 0} (disk : D → Disk) (coherent : (device : D) → (disk dev
     mid = with_copy (account_of start s) (copy_of copy);
     planned = planned;
     was = record {
-      told = record { first = []; lost = []; parts = refl; rest = []; replies_are = refl; quiet = refl; fault = inl refl; none_lost = λ _. (refl, refl); none_first = λ _. refl };
+      told = record { first = []; lost = []; parts = refl; none_lost = λ _. refl; none_first = λ _. refl };
       stored = stored;
       account = λ _. refl;
       went = went_nowhere disk coherent (store_view start s copy) (asked slots) (standing (disk start.device) start s stored.held);
@@ -58,7 +56,7 @@ module _ {D : Type 0} (disk : D → Disk) (coherent : (device : D) → (disk dev
 
       pub answered_both : AnswersPart disk start s copy (slots ++ more) left b new more_copied (rs ++ qs)
       answered_both = record {
-        told = told_both start.broken now.broken new.broken s.seq t.seq slots more rs qs first.told second.told (seq_counts s (waiting first.told.first))
+        told = both_committed start.broken now.broken new.broken slots more first.told second.told
             (λ fails. ap (λ (v : StoreView D). v.account.broken) (first.went.ran.still fails) ∙ fails) (λ fails. ap (λ (v : StoreView D). v.account.broken) (second.went.ran.still fails) ∙ fails);
         stored = subst (λ (u : State). IsStored (disk new.device) new u more_copied) state_both second.stored;
         account = λ works. subst (λ (u : State). with_copy (account_of new u) (copy_of more_copied) ≡ b) state_both (second.account works);
@@ -125,19 +123,10 @@ module _ {D : Type 0} (disk : D → Disk) (coherent : (device : D) → (disk dev
       made = subst (λ (u : State). Batched disk (store_view start s copy) (store_view now u copied) (asked slots) replies) (sym machine_is)
           (batched disk (store_view start s copy) (store_view now (after_each s (waiting was.told.first)) copied) (asked slots) replies was.went)
 
-      pub committed : (until_full : Bool) (cs : List Transaction) → StopsAtFull until_full cs slots → HasCommitted until_full disk (store_view start s copy) cs replies now machine copied
-      committed until_full cs through = record {
+      pub committed : (cs : List Transaction) → asked slots ≡ cs → HasCommitted disk (store_view start s copy) cs replies now machine copied
+      committed cs all = record {
         stored = subst (λ (u : State). IsStored (disk now.device) now u copied) (sym machine_is) was.stored;
-        whole = λ no. subst (λ (ts : List Transaction). Batched disk (store_view start s copy) (store_view now machine copied) ts replies)
-            (sym (append-nil (asked slots)) ∙ ap (λ (ts : List Transaction). asked slots ++ ts) (sym (through.whole no)) ∙ through.parts) made;
-        through = λ is_so. record {
-          first = asked slots;
-          rest = through.left;
-          parts = sym through.parts;
-          batched = made;
-          stops = told_stops start.broken now.broken s.seq slots replies was.told (through.ends is_so);
-          why = ⊎_elim inl (λ some. inr (told_fault start.broken now.broken s.seq slots replies was.told some)) through.why;
-        };
+        batched = subst (λ (ts : List Transaction). Batched disk (store_view start s copy) (store_view now machine copied) ts replies) all made;
       }
 
   -- ---- a store that is broken
@@ -155,13 +144,3 @@ module _ {D : Type 0} (disk : D → Disk) (coherent : (device : D) → (disk dev
 
     pub broken_whole : Batched disk x x cs said
     broken_whole = subst (Batched disk x x cs) (sym told) (batched disk x x cs (map (λ _. Refused (plain BROKEN)) cs) (all_broken disk coherent x [] stands broken cs))
-
-    pub broken_through : BatchedUntilFull disk x x cs said
-    broken_through = record {
-      first = cs;
-      rest = [];
-      parts = sym (append-nil cs);
-      batched = broken_whole;
-      stops = stops_quiet said (ap (list_any is_done) told ∙ each_broken cs);
-      why = inl refl;
-    }

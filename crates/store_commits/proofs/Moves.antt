@@ -15,10 +15,9 @@ use Rattle.store_commits.specs.Inside.{IsStored, account_of, store_view}
 use Rattle.store_commits.specs.Run.{Reply}
 use Rattle.store_commits.specs.Run.{IsGroup}
 use Rattle.store_commits.specs.Stands.{StandsAfter}
-use Rattle.store_commits.specs.Batching.{RepliesOfPrefix, AnswersPart}
+use Rattle.store_commits.specs.Batching.{FirstCommitted, AnswersPart}
 use Rattle.store_commits.proofs.Batches.{made_append}
 use Rattle.store_commits.proofs.Running.{one_group, widened}
-use Rattle.store_commits.proofs.Slots.{fault_in_doubt, quiet_in_doubt}
 use Rattle.store_commits.proofs.Standing.{not_both, stands_now, standing, stays}
 
 -- By these commits the journal came to hold the state after those that were done. Each image meanwhile stands for the state after some of these, or of those in doubt.
@@ -52,7 +51,7 @@ module _ {D : Type 0} (disk : D → Disk) (coherent : (device : D) → (disk dev
 
   -- ---- the answer
 
-  module _ (copy : Option Target) (works : before.broken ≡ false) (now : JournalView D) (copied : Option Target) (slots : List Slot) (rs : List Reply) (told : RepliesOfPrefix before.broken now.broken state.seq slots rs)
+  module _ (copy : Option Target) (works : before.broken ≡ false) (now : JournalView D) (copied : Option Target) (slots : List Slot) (rs : List Reply) (told : FirstCommitted before.broken now.broken slots)
       (in_doubt : List Transaction) (commits : List Commit) (moved : Moved disk before state now copied (waiting told.first) in_doubt commits) (none : now.broken ≡ false → in_doubt ≡ []) (undone : now.broken ≡ true → waiting told.first ≡ []) where
     abbrev dones : List Transaction
     dones = waiting told.first
@@ -107,15 +106,11 @@ module _ {D : Type 0} (disk : D → Disk) (coherent : (device : D) → (disk dev
         → IsBatch a (asked slots ++ left) (replies_done state.seq slots ++ qs) (commits ++ more) end)
         → AnswersPart disk before state copy slots left b now copied (replies_done state.seq slots)
     done_answered copied moved fine account group goes =
-        let told : RepliesOfPrefix before.broken now.broken state.seq slots (replies_done state.seq slots) = record {
+        let told : FirstCommitted before.broken now.broken slots = record {
           first = slots;
           lost = [];
           parts = append-nil slots;
-          rest = [];
-          replies_are = sym (append-nil (replies_done state.seq slots));
-          quiet = refl;
-          fault = inl refl;
-          none_lost = λ _. (refl, refl);
+          none_lost = λ _. refl;
           none_first = λ fails. not_both before.broken works fails;
         } in
         answered_by copy works now copied slots (replies_done state.seq slots) told [] commits moved (λ _. refl) (λ broken. not_both now.broken fine broken) left b group (λ _. account) goes
@@ -126,14 +121,10 @@ module _ {D : Type 0} (disk : D → Disk) (coherent : (device : D) → (disk dev
         → ((qs : List Reply) (more : List Commit) (end : Account) → IsBatch (account_of now state) left qs more end → IsBatch a (asked slots ++ left) (replies_in_doubt slots ++ qs) (commits ++ more) end)
         → AnswersPart disk before state copy slots left b now None (replies_in_doubt slots)
     in_doubt_answered moved broken t others some group goes =
-        let told : RepliesOfPrefix before.broken now.broken state.seq slots (replies_in_doubt slots) = record {
+        let told : FirstCommitted before.broken now.broken slots = record {
           first = [];
           lost = slots;
           parts = refl;
-          rest = replies_in_doubt slots;
-          replies_are = refl;
-          quiet = quiet_in_doubt slots;
-          fault = inr (fault_in_doubt slots t others some);
           none_lost = λ fine. not_both now.broken fine broken;
           none_first = λ _. refl;
         } in

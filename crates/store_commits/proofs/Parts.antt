@@ -21,7 +21,6 @@ use Rattle.store_commits.specs.Batch.{Commit, Intent, AnswersForced, alone_done,
 use Rattle.store_commits.specs.Committed.{Slot, AreJudged, waits, said, asked, waiting, sizes_of, account_behind, account_committed, replies_done, replies_in_doubt}
 use Rattle.store_commits.specs.Copying.{Target, copy_of, target_with}
 use Rattle.store_commits.specs.Extents.{extent_of}
-use Rattle.store_commits.specs.Faults.{is_fault}
 use Rattle.store_commits.specs.Folds.{all_changes, frames_at}
 use Rattle.store_commits.specs.Inside.{IsStored, account_of, store_view}
 use Rattle.store_commits.specs.Room.{Fits, IsOver}
@@ -40,7 +39,7 @@ use Rattle.store_commits.proofs.Migrating.{snapshot_holds}
 use Rattle.store_commits.proofs.Moves.{Moved, done_answered, in_doubt_answered, moved_both, moved_nowhere}
 use Rattle.store_commits.proofs.Rooms.{with_over}
 use Rattle.store_commits.proofs.Running.{was_refused, widened}
-use Rattle.store_commits.proofs.Slots.{asked_append, each_broken, length_replies, waiting_append}
+use Rattle.store_commits.proofs.Slots.{asked_append, length_replies, waiting_append}
 use Rattle.store_commits.proofs.SnapshotOutcomes.{held_snapped, snapped_is, snapshot_moments}
 use Rattle.store_commits.proofs.Snapshots.{remakes_all}
 use Rattle.store_commits.proofs.Standing.{broke_is, held_broke, not_both, standing}
@@ -300,11 +299,6 @@ module _ {D : Type 0} (disk : D → Disk) (coherent : (device : D) → (disk dev
 
 -- ---- the device failed before
 
-broken_fault : (slots : List Slot) → (slots ≡ []) ⊎ (list_any is_fault (map (λ _. Refused (plain BROKEN)) (asked slots)) ≡ true)
-broken_fault [] = inl refl
-broken_fault (waits c ∷ _) = inr refl
-broken_fault (said c r ∷ slots) = inr refl
-
 pub not_begun : {D : Type 0} (disk : D → Disk) (coherent : (device : D) → (disk device).honest → IsCoherent (disk device)) (before : JournalView D) (state : State) (copy : Option Target) → IsStored (disk before.device) before state copy → before.broken ≡ true
     → (a : Account) (left : List Transaction) (segment : Segment) (slots : List Slot) (b : Account) → IsPart a left segment slots b
     → AnswersPart disk before state copy slots left b before copy (map (answered NotBegun) segment.replies.items)
@@ -313,10 +307,6 @@ not_begun disk coherent before state copy stored broken a left segment slots b p
     first = [];
     lost = slots;
     parts = refl;
-    rest = map (λ _. Refused (plain BROKEN)) (asked slots);
-    replies_are = refl;
-    quiet = each_broken (asked slots);
-    fault = broken_fault slots;
     none_lost = λ works. not_both before.broken works broken;
     none_first = λ _. refl;
   };

@@ -4,7 +4,6 @@ use Rattle.std.proofs.lemmas.List.{append_assoc, append-nil}
 use Rattle.store_journal.specs.Layout.{capacity_of}
 use Rattle.record_text.specs.Change.{Change}
 use Rattle.doc_machine.specs.Transaction.{AreFramed, AreGood, AreMade, IsTransacted, Transaction, after_all, after_in, befores, changes_of, refusal_in}
-use Rattle.doc_machine.proofs.Transactions.{own_transaction}
 use Rattle.refusals.specs.declared.numbers.TheConstants.{FULL}
 use Rattle.doc_changes.specs.Refusals.{plain}
 use Rattle.doc_changes.specs.State.{State, Good}
@@ -24,7 +23,7 @@ use Rattle.store_commits.specs.declared.plan.Planning.{Planning}
 use Rattle.store_commits.specs.declared.segment.Segment.{Segment}
 use Rattle.store_commits.proofs.Changes.{after_push, all_push, befores_push, each_is_all, framed_append, frames_append, good_append, good_first, good_last, seq_after, seq_counts, sizes_append}
 use Rattle.store_commits.proofs.Rooms.{with_over}
-use Rattle.store_commits.proofs.Slots.{judged_append, own_fine, replies_append, waiting_append}
+use Rattle.store_commits.proofs.Slots.{judged_append, replies_append, waiting_append}
 use Rattle.store_commits.proofs.Waiting.{committed_is}
 
 -- states that are put behind those before them leave the first one
@@ -80,11 +79,10 @@ module _ (a : Account) (slots : List Slot) (p : Planning) (t : TrialView) (is : 
 
     -- it is refused
     pub further_said : (r : Refusal) → refusal_in t.state c ≡ Some r → (replies : Vec Reply Global) → replies.items ≡ p.last.replies.items ++ Refused r ∷ []
-        → PlansOneMore a slots c false (record p { last = record p.last { replies = replies } }) t
+        → PlansOneMore a slots c (record p { last = record p.last { replies = replies } }) t
     further_said r refuses replies replies_are = (
       said c r,
       refl,
-      own_fine r (own_transaction t.state c r refuses),
       record {
         mid = mid;
         closed = is.closed;
@@ -126,7 +124,7 @@ module _ (a : Account) (slots : List Slot) (p : Planning) (t : TrialView) (is : 
         -- and it waits
         pub further_waits : (frames : Vec ℕ Global) → frames.items ≡ p.last.frames.items ++ frames_of → (replies : Vec Reply Global) → replies.items ≡ p.last.replies.items ++ Done u.state.seq ∷ []
             → (left bytes adds : ℕ) → left + size_of c ≡ p.left → bytes ≡ p.bytes + size_of c → adds ≡ p.last.adds + length (changes_of c)
-            → PlansOneMore a slots c false (record p { left = left; bytes = bytes; last = record p.last { frames = frames; adds = adds; replies = replies } }) u
+            → PlansOneMore a slots c (record p { left = left; bytes = bytes; last = record p.last { frames = frames; adds = adds; replies = replies } }) u
         further_waits frames frames_are replies replies_are left bytes adds left_is bytes_are adds_are =
             let ts = waiting since in
             let before : t.state.seq ≡ mid.state.seq + length (all_changes ts) = ap (λ (s : State). s.seq) is.state ∙ seq_counts mid.state ts in
@@ -140,7 +138,6 @@ module _ (a : Account) (slots : List Slot) (p : Planning) (t : TrialView) (is : 
             let sectors = ap capacity_of sectors_then in
             let was = is.has.adds in (
               waits c,
-              refl,
               refl,
               record {
                 mid = mid;
@@ -204,7 +201,7 @@ module _ (a : Account) (slots : List Slot) (p : Planning) (t : TrialView) (is : 
         -- a snapshot leaves no room for it either
         pub further_full : (snapshot : List ℕ) → snapshot ≡ snapshot_bytes t.state.documents → p.capacity < length snapshot + size_of c
             → other.snapshot ≡ None → other.frames.items ≡ [] → other.adds ≡ 0 → other.replies.items ≡ Refused (plain FULL) ∷ []
-            → (u : TrialView) → u ≡ t → PlansOneMore a slots c true (record p { segments = segments; last = last }) u
+            → (u : TrialView) → u ≡ t → PlansOneMore a slots c (record p { segments = segments; last = last }) u
         further_full snapshot snapshot_is wide no_snapshot no_frames no_adds says u same =
             let size : length snapshot ≡ length (snapshot_bytes b.state.documents) = ap length snapshot_is ∙ ap (λ (s : State). length (snapshot_bytes s.documents)) (sym state_then) in
             let half = is.capacity in
@@ -214,7 +211,6 @@ module _ (a : Account) (slots : List Slot) (p : Planning) (t : TrialView) (is : 
             let slot = said c (plain FULL) in
             let good = good_first b.state (changes_of c) good_here in (
               slot,
-              refl,
               refl,
               subst (λ (v : TrialView). IsPlanning a (slots ++ slot ∷ []) (record p { segments = segments; last = last }) v) (sym same)
                   (forced slot b (λ xs. (accepted_then, is_over))
@@ -230,7 +226,7 @@ module _ (a : Account) (slots : List Slot) (p : Planning) (t : TrialView) (is : 
         pub further_behind : (u : TrialView) → AreMade t (changes_of c) u → (snapshot : Vec ℕ Global) → snapshot.items ≡ snapshot_bytes t.state.documents → length snapshot.items + size_of c ≤ p.capacity
             → other.snapshot ≡ Some snapshot → other.frames.items ≡ frames_of → other.adds ≡ length (changes_of c) → other.replies.items ≡ Done u.state.seq ∷ []
             → (left bytes : ℕ) → left + (length snapshot.items + size_of c) ≡ p.capacity → bytes ≡ p.bytes + size_of c
-            → PlansOneMore a slots c false (record p { left = left; bytes = bytes; segments = segments; last = last }) u
+            → PlansOneMore a slots c (record p { left = left; bytes = bytes; segments = segments; last = last }) u
         further_behind u made snapshot snapshot_is fits some_snapshot frames adds says left bytes left_is bytes_are =
             let documents = ap (λ (s : State). snapshot_bytes s.documents) (sym state_then) in
             let size = ap length snapshot_is ∙ ap length documents in
@@ -241,7 +237,6 @@ module _ (a : Account) (slots : List Slot) (p : Planning) (t : TrialView) (is : 
             let one = append-nil (changes_of c) in
             let used = ap (λ (x : Account). x.used) (with_over b c is_over) in (
               waits c,
-              refl,
               refl,
               forced (waits c) (account_with b c) (λ xs. (accepted_then, is_over))
                   (λ xs. record {

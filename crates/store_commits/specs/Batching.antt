@@ -1,7 +1,6 @@
 -- For the clauses within the crate: a batch that is being made, how its commits are planned and what is done of it
 -- already.
 use Rattle.std.specs.Prelude.{◌≡◌, ◌⊎◌, ◌↔◌, ℕ, ◌+◌, List, [], ◌∷◌, ◌++◌, length, Bool, true, false, None, Some, Option, ⊤, Vec}
-use Rattle.std.specs.List.{list_any}
 use Rattle.std.specs.Global.{Global}
 use Rattle.sector_device.specs.Disk.{Disk, LeavesOnly}
 use Rattle.sector_device.specs.Sectors.{sectors_of}
@@ -20,7 +19,6 @@ use Rattle.store_commits.specs.Answers.{account_with, size_of}
 use Rattle.store_commits.specs.Batch.{AreMade, Commit, IsBatch, IsForced}
 use Rattle.store_commits.specs.Committed.{Slot, AreJudged, account_committed, asked, changes, replies_done, said, sizes_of, waiting, waits}
 use Rattle.store_commits.specs.Copying.{Target, copy_of}
-use Rattle.store_commits.specs.Faults.{BatchedUntilFull, is_done, is_fault}
 use Rattle.store_commits.specs.Folds.{after_each, all_changes, frames_at}
 use Rattle.store_commits.specs.Inside.{IsStored, account_of, store_view}
 use Rattle.store_commits.specs.Room.{Fits, HasNoRoom, IsOver}
@@ -131,23 +129,17 @@ pub record RanPrefix {D : Type 0} (disk : D → Disk) (old new : StoreView D) (c
   pub made : AreMade disk old.device commits new.device
   pub ran : RanBy disk (λ _ _ _ _. ⊤) old new (changes cs) replies
 
--- Transactions that were judged in this way are given these replies: the first were committed. Of the others, which a
--- fault of the device hit or which came after it, none is said to be done, and if there are some, a fault is among the
--- replies.
-pub record RepliesOfPrefix (before after : Bool) (seq : ℕ) (slots : List Slot) (replies : List Reply) : Type 0 where
+-- Of transactions that were judged in this way the first were committed. The others a fault of the device hit, or they came after it: there are none while the store works.
+pub record FirstCommitted (before after : Bool) (slots : List Slot) : Type 0 where
   pub first : List Slot
   pub lost : List Slot
   pub parts : first ++ lost ≡ slots
-  pub rest : List Reply
-  pub replies_are : replies ≡ replies_done seq first ++ rest
-  pub quiet : list_any is_done rest ≡ false
-  pub fault : (lost ≡ []) ⊎ (list_any is_fault rest ≡ true)
-  pub none_lost : after ≡ false → (lost ≡ []) × (rest ≡ [])
+  pub none_lost : after ≡ false → lost ≡ []
   pub none_first : before ≡ true → first ≡ []
 
 -- the journal holds the state with the first of them, and went on so
 pub record AnswersPart {D : Type 0} (disk : D → Disk) (old : JournalView D) (s : State) (copy : Option Target) (slots : List Slot) (left : List Transaction) (b : Account) (new : JournalView D) (copied : Option Target) (replies : List Reply) : Type 0 where
-  pub told : RepliesOfPrefix old.broken new.broken s.seq slots replies
+  pub told : FirstCommitted old.broken new.broken slots
   pub stored : IsStored (disk new.device) new (after_each s (waiting told.first)) copied
   pub account : new.broken ≡ false → with_copy (account_of new (after_each s (waiting told.first))) (copy_of copied) ≡ b
   pub went : RanPrefix disk (store_view old s copy) (store_view new (after_each s (waiting told.first)) copied) (asked slots) replies left
@@ -162,32 +154,12 @@ pub record HasCome {D : Type 0} (disk : D → Disk) (start : JournalView D) (s :
   pub planned : ArePlanned mid rest left end
   pub was : AnswersPart disk start s copy first (asked left) mid now copied replies
 
--- the journal, the machine and the copy after a batch, of which all was made, or what comes through its first transaction without room
-pub record HasCommitted {D : Type 0} (until_full : Bool) (disk : D → Disk) (old : StoreView D) (cs : List Transaction) (replies : List Reply) (now : JournalView D) (machine : State) (copied : Option Target) : Type 0 where
+-- the journal, the machine and the copy after a batch that was given these replies
+pub record HasCommitted {D : Type 0} (disk : D → Disk) (old : StoreView D) (cs : List Transaction) (replies : List Reply) (now : JournalView D) (machine : State) (copied : Option Target) : Type 0 where
   pub stored : IsStored (disk now.device) now machine copied
-  pub whole : until_full ≡ false → Batched disk old (store_view now machine copied) cs replies
-  pub through : until_full ≡ true → BatchedUntilFull disk old (store_view now machine copied) cs replies
+  pub batched : Batched disk old (store_view now machine copied) cs replies
 
 -- ---- the plan
-
--- a transaction was refused for a fault of the store, as that it has no room
-abbrev pub slot_fault : Slot → Bool
-slot_fault (waits t) = false
-slot_fault (said t r) = is_fault (Refused r)
-
--- such a one is the last
-abbrev pub EndsAtFault : List Slot → Type 0
-EndsAtFault [] = ⊤
-EndsAtFault (slot ∷ slots) = (slot_fault slot ≡ true → slots ≡ []) × EndsAtFault slots
-
--- of these transactions the first were judged in this way: all, or, if that is asked for, those through the first
--- without room
-pub record StopsAtFull (until_full : Bool) (cs : List Transaction) (slots : List Slot) : Type 0 where
-  pub left : List Transaction
-  pub parts : asked slots ++ left ≡ cs
-  pub whole : until_full ≡ false → left ≡ []
-  pub ends : until_full ≡ true → EndsAtFault slots
-  pub why : (left ≡ []) ⊎ (list_any slot_fault slots ≡ true)
 
 -- a trial on which these transactions were made
 abbrev pub tried_from : State → List Transaction → TrialView
@@ -211,14 +183,14 @@ pub record IsPlanning (a : Account) (slots : List Slot) (p : Planning) (t : Tria
   pub tried : t ≡ tried_from a.state (waiting slots)
   pub bytes : p.bytes ≡ sizes_of (waiting slots)
 
--- one transaction more was judged; it had no room, or it was answered otherwise
-abbrev pub PlansOneMore : Account → List Slot → Transaction → Bool → Planning → TrialView → Type 0
-PlansOneMore a slots t fault p u = (slot : Slot) × (asked (slot ∷ []) ≡ t ∷ []) × (slot_fault slot ≡ fault) × IsPlanning a (slots ++ slot ∷ []) p u
+-- one transaction more was judged
+abbrev pub PlansOneMore : Account → List Slot → Transaction → Planning → TrialView → Type 0
+PlansOneMore a slots t p u = (slot : Slot) × (asked (slot ∷ []) ≡ t ∷ []) × IsPlanning a (slots ++ slot ∷ []) p u
 
--- All of these transactions are planned, or the first of them.
-pub record ArePrepared (until_full : Bool) (a : Account) (cs : List Transaction) (segments : List Segment) (t : TrialView) : Type 0 where
+-- All of these transactions are planned.
+pub record ArePrepared (a : Account) (cs : List Transaction) (segments : List Segment) (t : TrialView) : Type 0 where
   pub slots : List Slot
-  pub through : StopsAtFull until_full cs slots
+  pub all : asked slots ≡ cs
   pub end : Account
   pub planned : ArePlanned a segments slots end
   pub tried : t ≡ tried_from a.state (waiting slots)

@@ -1,5 +1,5 @@
 -- The events of a store, and its answers.
-use Rattle.std.specs.Prelude.{ℕ, List, [], ◌∷◌, ◌++◌, Result, Ok, Err, if◌then◌else◌, nat_eq}
+use Rattle.std.specs.Prelude.{Bool, true, false, ℕ, List, [], ◌∷◌, ◌++◌, Result, Ok, Err, if◌then◌else◌, nat_eq}
 use Rattle.refusals.specs.declared.numbers.TheConstants.{DEVICE}
 use Rattle.doc_machine.specs.Transaction.{Transaction, transaction_of}
 use Rattle.doc_changes.specs.declared.refusal.Refusal.{Refusal}
@@ -24,6 +24,11 @@ event_of (Pump most) = pump most
 abbrev pub reply_of : {A : Type 0} → (A → Reply) → Result A Refusal → Reply
 reply_of says (Ok answer) = says answer
 reply_of says (Err r) = Refused r
+
+-- a transaction was done
+abbrev pub is_done : Reply → Bool
+is_done (Done seq) = true
+is_done _ = false
 
 -- the transaction that such a reply says was done, if any
 abbrev pub done_by : Event → Reply → List Transaction

@@ -9,7 +9,6 @@ pub mod Committed
 pub mod Copying
 pub mod Events
 pub mod Extents
-pub mod Faults
 pub mod Folds
 pub mod Inside
 pub mod Pumping

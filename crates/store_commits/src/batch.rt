@@ -1,11 +1,10 @@
 //! Transactions that are judged and committed together.
-ghost use Rattle.std.specs.Prelude.{◌≡◌, ◌+◌, ◌≤◌, ◌++◌, IfOk, OnErr, length, map, true, false};
+ghost use Rattle.std.specs.Prelude.{◌≡◌, ◌+◌, ◌≤◌, ◌++◌, IfOk, OnErr, length, map};
 ghost use Rattle.std.specs.Vec.{vec_capacity, vec_len};
 ghost use Rattle.doc_machine.specs.Transaction.{transaction_of};
 ghost use Rattle.doc_changes.specs.Refusals.{plain};
 ghost use Rattle.refusals.specs.declared.numbers.TheConstants.{BROKEN};
 ghost use Rattle.store_commits.specs.Copying.{target_of};
-ghost use Rattle.store_commits.specs.Faults.{BatchedUntilFull};
 ghost use Rattle.store_commits.specs.Inside.{IsStored, store_view};
 ghost use Rattle.store_commits.specs.Run.{Batched};
 ghost use Rattle.store_commits.specs.declared.event.Reply.TheVariants.{Refused};
@@ -21,22 +20,18 @@ use std::alloc::{AllocError, Global};
 use std::mem;
 use store_journal::Journal;
 
-/// Makes transactions of a machine that the journal holds, by as few commits as their room allows: all of them, or, if
-/// it is asked to, those through the first that has no room. Answers one reply to each of these. An `Err` means that
-/// memory ran out, before the device is called.
+/// Makes transactions of a machine that the journal holds, by as few commits as their room allows. Answers one reply to
+/// each. An `Err` means that memory ran out, before the device is called.
 pub fn commit_batch<D: SectorDevice>(
     alloc: Global,
     journal: &mut Journal<D>,
     machine: &mut Machine,
     copy: &mut Option<Copying>,
     transactions: Vec<Transaction>,
-    until_full: bool,
 ) -> Result<Vec<Reply>, AllocError>
     requires { IsStored (D.disk journal.old.device) journal.old machine.old (target_of copy.old) }
     ensures stored { IsStored (D.disk journal.new.device) journal.new machine.new (target_of copy.new) }
-    ensures whole { until_full ≡ false → IfOk result (λ replies. Batched D.disk (store_view journal.old machine.old (target_of copy.old))
-        (store_view journal.new machine.new (target_of copy.new)) (map transaction_of transactions.items) replies.items) }
-    ensures through { until_full ≡ true → IfOk result (λ replies. BatchedUntilFull D.disk (store_view journal.old machine.old (target_of copy.old))
+    ensures batched { IfOk result (λ replies. Batched D.disk (store_view journal.old machine.old (target_of copy.old))
         (store_view journal.new machine.new (target_of copy.new)) (map transaction_of transactions.items) replies.items) }
     ensures memory { OnErr result (store_view journal.new machine.new (target_of copy.new) ≡ store_view journal.old machine.old (target_of copy.old)) }
 {
@@ -46,7 +41,7 @@ pub fn commit_batch<D: SectorDevice>(
         return Ok(said);
     }
     let mut trial = Trial::begin(mem::replace(machine, Machine::new(alloc)));
-    match prepare(alloc, journal, copy, &mut trial, transactions, until_full) {
+    match prepare(alloc, journal, copy, &mut trial, transactions) {
         Err(refused) => {
             trial.keep(0);
             *machine = trial.end();

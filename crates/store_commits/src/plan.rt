@@ -1,16 +1,16 @@
 //! The plan of a batch: how its transactions are put together to commits. All memory of a batch is taken here, before
 //! the device is called.
-ghost use Rattle.std.specs.Prelude.{Bool, ◌≡◌, ◌+◌, ◌≤◌, ◌<◌, List, [], length, map, OnOk, IfOk, false};
+ghost use Rattle.std.specs.Prelude.{◌≡◌, ◌+◌, ◌≤◌, ◌<◌, List, [], length, map, OnOk, IfOk};
 ghost use Rattle.store_journal.specs.Layout.{capacity_of};
 ghost use Rattle.doc_machine.specs.Transaction.{RefusesTransaction, changes_of, transaction_of};
 ghost use Rattle.doc_machine.specs.Transaction.{Transaction as Asked};
 ghost use Rattle.doc_machine.specs.Trial.{TrialView, state_at};
 ghost use Rattle.store_commits.specs.Account.{Account, with_copy};
-ghost use Rattle.store_commits.specs.Committed.{Slot};
+ghost use Rattle.store_commits.specs.Committed.{Slot, asked};
 ghost use Rattle.store_commits.specs.Copying.{HasSpare, copy_of, target_of};
 ghost use Rattle.store_commits.specs.Folds.{frames_at};
 ghost use Rattle.store_commits.specs.Inside.{account_of};
-ghost use Rattle.store_commits.specs.Batching.{ArePrepared, PlansOneMore, IsPlanning, StopsAtFull, bytes_in};
+ghost use Rattle.store_commits.specs.Batching.{ArePrepared, PlansOneMore, IsPlanning, bytes_in};
 
 use crate::copying::{Copying, reserve};
 use crate::creations;
@@ -40,19 +40,18 @@ pub(crate) struct Planning {
 }
 
 /// Judges the transactions one after another, each with those accepted before it made on the trial, and answers the
-/// commits, in order; if it is asked to, no further than the first transaction that has no room.
+/// commits, in order.
 pub(crate) fn prepare<D: SectorDevice>(
     alloc: Global,
     journal: &Journal<D>,
     copy: &mut Option<Copying>,
     trial: &mut Trial,
     transactions: Vec<Transaction>,
-    until_full: bool,
 ) -> Result<Vec<Segment>, AllocError>
     requires begins { trial.old.past ≡ [] }
     requires within { length journal.now.bytes ≤ capacity_of journal.now.sectors }
     ensures prepared { IfOk result (λ segments.
-        ArePrepared until_full (with_copy (account_of journal.now trial.old.state) (copy_of (target_of copy.new))) (map transaction_of transactions.items) segments.items trial.new) }
+        ArePrepared (with_copy (account_of journal.now trial.old.state) (copy_of (target_of copy.new))) (map transaction_of transactions.items) segments.items trial.new) }
     ensures grows { IfOk result (λ segments. HasSpare copy.new (bytes_in segments.items)) }
     ensures same { target_of copy.new ≡ target_of copy.old }
     ensures origin { state_at 0 trial.new ≡ trial.old.state }
@@ -65,7 +64,7 @@ pub(crate) fn prepare<D: SectorDevice>(
         segments: Vec::new(alloc),
         last: Segment::new(alloc),
     };
-    planning.add_all(alloc, trial, transactions, until_full)?;
+    planning.add_all(alloc, trial, transactions)?;
     let Planning {
         bytes,
         mut segments,
@@ -94,35 +93,31 @@ impl Segment {
 }
 
 impl Planning {
-    // Plans transactions one after another: all, or, if it is asked to, those through the first that has no room.
+    // Plans transactions one after another.
     fn add_all(
         &mut self,
         alloc: Global,
         trial: &mut Trial,
         transactions: Vec<Transaction>,
-        until_full: bool,
     ) -> Result<(), AllocError>
         ensures ok { OnOk result ((a : Account) → IsPlanning a [] self.old trial.old
-            → (slots : List Slot) × StopsAtFull until_full (map transaction_of transactions.items) slots × IsPlanning a slots self.new trial.new) }
+            → (slots : List Slot) × (asked slots ≡ map transaction_of transactions.items) × IsPlanning a slots self.new trial.new) }
         ensures origin { state_at 0 trial.new ≡ state_at 0 trial.old }
     {
         for transaction in transactions {
-            let full = self.add(alloc, trial, transaction)?;
-            if full && until_full {
-                return Ok(());
-            }
+            self.add(alloc, trial, transaction)?;
         }
         Ok(())
     }
 
-    // Plans one transaction more, and answers whether it had no room.
+    // Plans one transaction more.
     fn add(
         &mut self,
         alloc: Global,
         trial: &mut Trial,
         transaction: Transaction,
-    ) -> Result<bool, AllocError>
-        ensures ok { IfOk result (λ full. (a : Account) (slots : List Slot) → IsPlanning a slots self.old trial.old → PlansOneMore a slots (transaction_of transaction) full self.new trial.new) }
+    ) -> Result<(), AllocError>
+        ensures ok { OnOk result ((a : Account) (slots : List Slot) → IsPlanning a slots self.old trial.old → PlansOneMore a slots (transaction_of transaction) self.new trial.new) }
         ensures origin { state_at 0 trial.new ≡ state_at 0 trial.old }
     {
         let Some(frames) = frames(alloc, &transaction, trial.seq()) else {
@@ -138,8 +133,8 @@ impl Planning {
     // Says why a transaction is refused that has no frames. One that the documents accept has them, so then memory was
     // refused.
     #[tactic(auto, using(crate::proofs::Plans::first_stays))]
-    fn judge(&mut self, trial: &mut Trial, transaction: Transaction) -> Result<bool, AllocError>
-        ensures ok { IfOk result (λ full. (a : Account) (slots : List Slot) → IsPlanning a slots self.old trial.old → PlansOneMore a slots (transaction_of transaction) full self.new trial.new) }
+    fn judge(&mut self, trial: &mut Trial, transaction: Transaction) -> Result<(), AllocError>
+        ensures ok { OnOk result ((a : Account) (slots : List Slot) → IsPlanning a slots self.old trial.old → PlansOneMore a slots (transaction_of transaction) self.new trial.new) }
         ensures origin { state_at 0 trial.new ≡ state_at 0 trial.old }
     {
         match trial.transact(transaction) {
@@ -149,15 +144,15 @@ impl Planning {
     }
 
     // Says why a transaction is refused.
-    fn refuse(&mut self, refusal: Refusal) -> Result<bool, AllocError>
-        ensures { IfOk result (λ full. (a : Account) (slots : List Slot) (t : Asked) (trial : TrialView) → RefusesTransaction trial.state t refusal
-            → IsPlanning a slots self.old trial → PlansOneMore a slots t full self.new trial) }
+    fn refuse(&mut self, refusal: Refusal) -> Result<(), AllocError>
+        ensures { OnOk result ((a : Account) (slots : List Slot) (t : Asked) (trial : TrialView) → RefusesTransaction trial.state t refusal
+            → IsPlanning a slots self.old trial → PlansOneMore a slots t self.new trial) }
     {
         if refusal.number == MEMORY {
             return Err(AllocError);
         }
         self.last.replies.push(Reply::Refused(refusal))?;
-        Ok(false)
+        Ok(())
     }
 
     // Lets a transaction wait whose frames fit beside the others.
@@ -167,10 +162,10 @@ impl Planning {
         trial: &mut Trial,
         transaction: Transaction,
         frames: &[u8],
-    ) -> Result<bool, AllocError>
+    ) -> Result<(), AllocError>
         requires frames { frames.now ≡ frames_at trial.old.state.seq (changes_of (transaction_of transaction)) }
         requires fits { length frames.now ≤ self.old.left }
-        ensures ok { IfOk result (λ full. (a : Account) (slots : List Slot) → IsPlanning a slots self.old trial.old → PlansOneMore a slots (transaction_of transaction) full self.new trial.new) }
+        ensures ok { OnOk result ((a : Account) (slots : List Slot) → IsPlanning a slots self.old trial.old → PlansOneMore a slots (transaction_of transaction) self.new trial.new) }
         ensures origin { state_at 0 trial.new ≡ state_at 0 trial.old }
     {
         let adds = transaction.len() as u64;
@@ -190,7 +185,7 @@ impl Planning {
         self.last.adds = adds;
         self.bytes = bytes;
         self.left -= frames.len() as u64;
-        Ok(false)
+        Ok(())
     }
 
     // Ends the commit of those that wait, and lets a transaction whose frames don't fit beside them go on by itself:
@@ -202,10 +197,10 @@ impl Planning {
         trial: &mut Trial,
         transaction: Transaction,
         frames: Vec<u8>,
-    ) -> Result<bool, AllocError>
+    ) -> Result<(), AllocError>
         requires frames { frames.items ≡ frames_at trial.old.state.seq (changes_of (transaction_of transaction)) }
         requires over { self.old.left < length frames.items }
-        ensures ok { IfOk result (λ full. (a : Account) (slots : List Slot) → IsPlanning a slots self.old trial.old → PlansOneMore a slots (transaction_of transaction) full self.new trial.new) }
+        ensures ok { OnOk result ((a : Account) (slots : List Slot) → IsPlanning a slots self.old trial.old → PlansOneMore a slots (transaction_of transaction) self.new trial.new) }
         ensures origin { state_at 0 trial.new ≡ state_at 0 trial.old }
     {
         // The snapshot has the documents before the transaction, so it is made before that is tried.
@@ -224,7 +219,7 @@ impl Planning {
             let mut full = Segment::new(alloc);
             full.replies.push(Reply::Refused(Refusal::plain(FULL)))?;
             self.segments.push(full)?;
-            return Ok(true);
+            return Ok(());
         }
         let Some(bytes) = self.bytes.checked_add(frames.len()) else {
             return Err(AllocError);
@@ -239,6 +234,6 @@ impl Planning {
         })?;
         self.bytes = bytes;
         self.left = self.capacity - used;
-        Ok(false)
+        Ok(())
     }
 }

@@ -1,5 +1,5 @@
 //! Transactions that are committed together, and the commit. It takes no memory.
-ghost use Rattle.std.specs.Prelude.{Bool, ◌≡◌, ◌+◌, ◌++◌, ◌≤◌, ◌<◌, ◌^◌, ℕ, List, [], None, length, map, true, false};
+ghost use Rattle.std.specs.Prelude.{◌≡◌, ◌+◌, ◌++◌, ◌≤◌, ◌<◌, ◌^◌, ℕ, List, [], None, length, map, true, false};
 ghost use Rattle.std.specs.Vec.{vec_capacity, vec_len};
 ghost use Rattle.store_journal.specs.Calls.{Takes};
 ghost use Rattle.store_journal.specs.Layout.{capacity_of};
@@ -53,14 +53,14 @@ pub(crate) fn commit_all<D: SectorDevice>(
     segments: Vec<Segment>,
     said: &mut Vec<Reply>,
 ) -> Machine
-    requires prepared { (s : State) × (until_full : Bool) × (cs : List Transaction) × IsStored (D.disk journal.old.device) journal.old s (target_of copy.old)
-        × ArePrepared until_full (with_copy (account_of journal.old s) (copy_of (target_of copy.old))) cs segments.items trial }
+    requires prepared { (s : State) × (cs : List Transaction) × IsStored (D.disk journal.old.device) journal.old s (target_of copy.old)
+        × ArePrepared (with_copy (account_of journal.old s) (copy_of (target_of copy.old))) cs segments.items trial }
     requires none { said.old.items ≡ [] }
     requires grows { HasSpare copy.old (bytes_in segments.items) }
     requires room { vec_len said.old + replies_in segments.items ≤ vec_capacity said.old }
-    ensures { (s : State) (until_full : Bool) (cs : List Transaction) → IsStored (D.disk journal.old.device) journal.old s (target_of copy.old)
-        → ArePrepared until_full (with_copy (account_of journal.old s) (copy_of (target_of copy.old))) cs segments.items trial
-        → HasCommitted until_full D.disk (store_view journal.old s (target_of copy.old)) cs said.new.items journal.new result (target_of copy.new) }
+    ensures { (s : State) (cs : List Transaction) → IsStored (D.disk journal.old.device) journal.old s (target_of copy.old)
+        → ArePrepared (with_copy (account_of journal.old s) (copy_of (target_of copy.old))) cs segments.items trial
+        → HasCommitted D.disk (store_view journal.old s (target_of copy.old)) cs said.new.items journal.new result (target_of copy.new) }
 {
     let before = journal.seq();
     for segment in segments {

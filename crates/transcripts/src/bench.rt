@@ -27,8 +27,6 @@ pub struct Bench {
     pub behind: u64,
     /// The successive changes that a session makes as one batch, at most.
     pub together: u64,
-    /// Whether a session halts at the first change that meets a fault.
-    pub halting: bool,
 }
 
 impl Bench {
@@ -42,7 +40,6 @@ impl Bench {
             failing: (0, false),
             behind: 0,
             together: 1,
-            halting: false,
         })
     }
 
@@ -204,7 +201,6 @@ impl Bench {
             batch: self.together,
             pump: self.behind,
             turns: u64::MAX,
-            halt: self.halting,
         };
         let ended = serve(self.alloc, store, &mut reader, &mut output, &options);
         said.push_str(std::str::from_utf8(output.as_slice()).unwrap_or("no text"))?;

@@ -1,5 +1,5 @@
-//! The words for the device and the session. Each but `beginnings`, `behind`, `fail`, `fuse`, `halting`, `pump`, `state`,
-//! `times`, `together` and `upgrade` takes the disk from the store, so that the next command line opens it again.
+//! The words for the device and the session. Each but `beginnings`, `behind`, `fail`, `fuse`, `pump`, `state`, `times`,
+//! `together` and `upgrade` takes the disk from the store, so that the next command line opens it again.
 //!
 //!     !format N          another disk of N sectors, formatted
 //!     !format N 3        the same in format 3
@@ -11,7 +11,6 @@
 //!     !fail N 0          the Nth call from there on fails, and no other; after `1` it has its effect
 //!     !behind N          from here on sessions make a step of N sectors after a change, if one is wanted
 //!     !together N        from here on sessions make up to N successive changes as one batch
-//!     !halting N         from here on sessions halt at the first change that meets a fault; not after `0`
 //!     !open              opens the disk; says `refused NUMBER` if it is refused
 //!     !pump N            a step of a copied snapshot, of N sectors at most; says how many were written, and whether the
 //!                        copy is running, switched or dropped, or `refused NUMBER`
@@ -70,10 +69,6 @@ fn act_by(bench: &mut Bench, name: &str, numbers: &[u64], said: &mut String) -> 
         }
         "together" => {
             bench.together = at(numbers, 0)?;
-            Ok(())
-        }
-        "halting" => {
-            bench.halting = at(numbers, 0)? != 0;
             Ok(())
         }
         "open" => bench.open(said),

@@ -240,14 +240,11 @@ class Applier:
 
     async def _rest(self, task: _Task, begin: int) -> Done:
         places = [place for place in range(begin, len(task.lines)) if place not in task.out]
-        # Without a halt at the first fault, later lines could be done after one that had a fault.
-        step = len(places) or 1 if self._store.offers.halt else 1
-        for first in range(0, len(places), step):
-            some = places[first:first + step]
-            notes = [self.note._replace(next=place + 1) for place in some]
-            sent = [line_of_transaction([task.lines[place].text, note.patch(None)]) for place, note in zip(some, notes)]
-            for place, note, reply in zip(some, notes, await self._store.change(sent)):
-                self._take_one(task, place, note, reply)
+        # Each is sent alone: of several at once a later one could be done after one that had a fault.
+        for place in places:
+            note = self.note._replace(next=place + 1)
+            reply, = await self._store.change([line_of_transaction([task.lines[place].text, note.patch(None)])])
+            self._take_one(task, place, note, reply)
         await self._note_alone(self.note.after(task.entry))
         return Done(task.entry, task.answers)
 

@@ -9,14 +9,13 @@ from typing import Any, Dict, Optional, Sequence
 from ..dump import give_name, sync_folder
 from ..errors import JpstoreError
 from ..wire.commands import get, get_schema, line_of
-from ..wire.program import check_file, copy_file, find_program
+from ..wire.program import check_file, copy_file, find_program, version_of
 from ..wire.replies import seq_in
 from .capacity import LEAST_CAPACITY, room_of
 from .copying import receive_copy
 from .engine import Member
 from .log import Agreed, Log
 from .note import NAME, Note
-from .program_features import version_of
 from .store import ReplicaStore
 
 __all__ = ["init", "join"]

@@ -9,7 +9,7 @@ from typing import Any, Awaitable, Dict, List, NamedTuple, Optional, Sequence
 from ..errors import JpstoreError
 from ..hub.history import History
 from ..hub.unix_socket import Listening, check_free
-from ..wire.program import find_program
+from ..wire.program import find_program, version_of
 from ..wire.standard_streams import announce
 from .applying import Applier
 from .capacity import Reckoning, room_of
@@ -18,7 +18,6 @@ from .engine import Member
 from .errors import Astray, Changed, WrongLog
 from .log import Log
 from .node import Node, Settings
-from .program_features import version_of
 from .store import ReplicaStore
 from .tasks import end_tasks
 

@@ -12,7 +12,6 @@ from ..wire.program import find_program, serve_words
 from ..wire.replies import REFUSED, text_in, without_document
 from ..wire.spawn import ended_serving, opened_serving
 from .note import NAME, Note, note_in
-from .program_features import Offers, offers_of
 
 __all__ = ["Faulty", "ReplicaStore"]
 
@@ -28,9 +27,9 @@ class Faulty(JpstoreError):
 class ReplicaStore:
     """The program that serves a node's file. One call at a time."""
 
-    def __init__(self, file: str, words: List[str], program: Process, offers: Offers) -> None:
+    def __init__(self, file: str, words: List[str], program: Process) -> None:
         assert program.stdin and program.stdout
-        self.file, self.offers = file, offers
+        self.file = file
         self.process = program
         self._words, self._input, self._output = words, program.stdin, program.stdout
         #: The last status of the store.
@@ -40,9 +39,8 @@ class ReplicaStore:
     async def open(cls, file: str, program: Optional[str], pump: int = 0, wait: float = 0) -> "ReplicaStore":
         """Starts the program. `Ended` if it can't open the file."""
         path = find_program(program)
-        offers = offers_of(path)
-        words = serve_words(path, file, MOST_GROUP, pump) + offers.serve_options
-        store = cls(file, words, await opened_serving(words, wait), offers)
+        words = serve_words(path, file, MOST_GROUP, pump)
+        store = cls(file, words, await opened_serving(words, wait))
         await store.ask([])
         return store
 

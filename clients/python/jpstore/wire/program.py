@@ -13,7 +13,7 @@ from .stream import PIECE, Lines, StreamEnded, StreamSilent
 
 __all__ = [
     "Path", "Program", "Started", "check_file", "copy_file", "ended_program", "find_program", "format_file",
-    "path_word", "serve_words", "upgrade_file",
+    "path_word", "serve_words", "upgrade_file", "version_of",
 ]
 
 #: A path of a file or a socket.
@@ -27,6 +27,14 @@ def find_program(program: Optional[Path] = None) -> str:
     if found is None:
         raise JpstoreError(f"{named} is not {'a program' if program is not None else 'on PATH'}")
     return found
+
+
+def version_of(program: str) -> str:
+    """What the program says of its version."""
+    with accessing(program):
+        ended = subprocess.run([program, "--version"], stdin=subprocess.DEVNULL, stdout=subprocess.PIPE,
+                               stderr=subprocess.STDOUT, check=False)
+    return ended.stdout.decode("utf-8", "replace").strip()
 
 
 def serve_words(program: str, file: Path, batch: int = 1, pump: int = 0) -> List[str]:

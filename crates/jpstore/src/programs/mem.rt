@@ -34,7 +34,7 @@ pub fn serve_memory<I: Read, O: Write>(
     ensures unwritten { OnErr result (writer.new ≡ writer.old) }
 {
     let mut store = new_store(alloc, sectors)?;
-    let ended = serve_store(alloc, &mut store, reader, writer, &options_of(1, 0, false));
+    let ended = serve_store(alloc, &mut store, reader, writer, &options_of(1, 0));
     Ok(ClosedInMemory { store, ended })
 }
 

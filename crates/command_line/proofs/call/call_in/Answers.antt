@@ -17,7 +17,7 @@ returns-in-format-clause-meant c = go
 
     go : (asked : Asked) → InRange asked → Means (subcommand_rows_of c.args.matches.now) asked → option_map asked_of c.format_in.result ≡ Some asked
     go (format file n version mode sparse) range m = c.format_in.ensures.meant file n version mode sparse range (met (format file n version mode sparse) m).1
-    go (serve file batch pump halt) range m = other (serve file batch pump halt) m refl
+    go (serve file batch pump) range m = other (serve file batch pump) m refl
     go (check file) range m = other (check file) m refl
     go (copy file new n) range m = other (copy file new n) m refl
     go (upgrade file version) range m = other (upgrade file version) m refl
@@ -34,7 +34,7 @@ returns-in-serve-clause-meant c = go
 
     go : (asked : Asked) → InRange asked → Means (subcommand_rows_of c.args.matches.now) asked → option_map asked_of c.serve_in.result ≡ Some asked
     go (format file n version mode sparse) range m = other (format file n version mode sparse) m refl
-    go (serve file batch pump halt) range m = c.serve_in.ensures.meant file batch pump halt range (met (serve file batch pump halt) m).1
+    go (serve file batch pump) range m = c.serve_in.ensures.meant file batch pump range (met (serve file batch pump) m).1
     go (check file) range m = other (check file) m refl
     go (copy file new n) range m = other (copy file new n) m refl
     go (upgrade file version) range m = other (upgrade file version) m refl
@@ -51,7 +51,7 @@ returns-in-copy-clause-meant c = go
 
     go : (asked : Asked) → InRange asked → Means (subcommand_rows_of c.args.matches.now) asked → option_map asked_of c.copy_in.result ≡ Some asked
     go (format file n version mode sparse) range m = other (format file n version mode sparse) m refl
-    go (serve file batch pump halt) range m = other (serve file batch pump halt) m refl
+    go (serve file batch pump) range m = other (serve file batch pump) m refl
     go (check file) range m = other (check file) m refl
     go (copy file new n) range m = c.copy_in.ensures.meant file new n range (met (copy file new n) m).1
     go (upgrade file version) range m = other (upgrade file version) m refl
@@ -68,7 +68,7 @@ returns-in-upgrade-clause-meant c = go
 
     go : (asked : Asked) → InRange asked → Means (subcommand_rows_of c.args.matches.now) asked → option_map asked_of c.upgrade_in.result ≡ Some asked
     go (format file n version mode sparse) range m = other (format file n version mode sparse) m refl
-    go (serve file batch pump halt) range m = other (serve file batch pump halt) m refl
+    go (serve file batch pump) range m = other (serve file batch pump) m refl
     go (check file) range m = other (check file) m refl
     go (copy file new n) range m = other (copy file new n) m refl
     go (upgrade file version) range m = c.upgrade_in.ensures.meant file version range (met (upgrade file version) m).1
@@ -85,7 +85,7 @@ returns-in-mem-clause-meant c = go
 
     go : (asked : Asked) → InRange asked → Means (subcommand_rows_of c.args.matches.now) asked → option_map asked_of c.mem_in.result ≡ Some asked
     go (format file n version mode sparse) range m = other (format file n version mode sparse) m refl
-    go (serve file batch pump halt) range m = other (serve file batch pump halt) m refl
+    go (serve file batch pump) range m = other (serve file batch pump) m refl
     go (check file) range m = other (check file) m refl
     go (copy file new n) range m = other (copy file new n) m refl
     go (upgrade file version) range m = other (upgrade file version) m refl

@@ -1,5 +1,5 @@
 use Rattle.std.proofs.Common.{◌≡◌, ◌∙◌, ℕ, List, Option, Some, None, IfSome, codes, sym, ap, subst, unwrap_or, inl, inr, refl}
-use Rattle.clap.specs.Words.{first_of, found_of, rows_of}
+use Rattle.clap.specs.Words.{found_of}
 use Rattle.clap.proofs.WalkLemmas.{first_value-rows}
 use Rattle.command_line.specs.Call.{SpellsMode}
 use Rattle.command_line.proofs.call.mode_in.Goals as goal

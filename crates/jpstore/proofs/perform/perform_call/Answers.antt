@@ -15,5 +15,5 @@ returns-in-Serve g c =
     let asked = c.in-Serve in
     let e = c.serve_file.ensures in
     subst (λ (call : Call). Does c.args.held (asked_of call) (Served c.serve_file.result) left left_new before after) (sym asked.is)
-    (serving c.args.held asked.batch asked.pump asked.halt c.serve_file.result left left_new before after e.served e.works e.broke e.closed e.kept e.refused
+    (serving c.args.held asked.batch asked.pump c.serve_file.result left left_new before after e.served e.works e.broke e.closed e.kept e.refused
     (on_err c.serve_file.result (ap g.I.Read.remaining) e.unread) (on_err c.serve_file.result (ap g.O.Write.contents) e.unwritten))

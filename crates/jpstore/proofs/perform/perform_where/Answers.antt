@@ -1,4 +1,4 @@
-use Rattle.std.proofs.Common.{◌∙◌, Bool, Result, Some, None, subst, sym}
+use Rattle.std.proofs.Common.{Bool, Result, subst}
 use Rattle.command_line.specs.Call.{Asked, asked_of}
 use Rattle.jpstore.specs.Calls.{Does, end_of}
 use Rattle.jpstore.specs.Exits.{Exits}

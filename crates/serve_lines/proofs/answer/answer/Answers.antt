@@ -1,11 +1,10 @@
-use Rattle.std.proofs.Common.{◌&&◌, [], Err, Result, inl, inr, ap, refl, subst, sym, IfOk}
+use Rattle.std.proofs.Common.{[], Err, Result, inl, inr, ap, refl, subst, IfOk}
 use Rattle.doc_changes.specs.declared.refusal.Refusal.{Refusal}
 use Rattle.protocol.specs.Read.{asked_by, IsNoChange, ReadsRequest}
 use Rattle.protocol.specs.declared.request.Request.{Request}
 use Rattle.protocol.specs.Reply.{refusal_reply}
-use Rattle.serve_lines.specs.LineReplies.{LineIsAnswered, is_unread}
 use Rattle.serve_lines.specs.Session.{AnswersOther}
-use Rattle.serve_lines.proofs.Shown.{asks_so, unasked, unread_or_other}
+use Rattle.serve_lines.proofs.Shown.{asks_so, unasked}
 use Rattle.serve_lines.proofs.answer.answer.Goals as goal
 
 pub returns-in-Ok : goal.returns-in-Ok
@@ -15,7 +14,7 @@ returns-in-Ok g c = λ options line asks.
     let asked = subst (λ (a : Result Request Refusal). ReadsRequest line a) c.in-Ok.is asks in
     let other = subst (λ (a : Result Request Refusal). IfOk a (λ r. IsNoChange (asked_by r))) c.in-Ok.is c.requires in
     let answered = asks_so g.D.SectorDevice.disk options c.args.store.now c.reply_to.new.store line request reply.0 asked other (reply.2 options) in
-    (reply.0, reply.1, subst (λ (a : Result Request Refusal). LineIsAnswered g.D.SectorDevice.disk options c.args.store.now line reply.0 (options.halt && is_unread a) c.reply_to.new.store) (sym c.in-Ok.is) answered)
+    (reply.0, reply.1, answered)
 
 pub returns-in-Err : goal.returns-in-Err
 returns-in-Err g c = λ options line asks.
@@ -25,5 +24,4 @@ returns-in-Err g c = λ options line asks.
       | inl memory ↦ inl (ap refusal_reply memory, (refl, refl, refl))
       | inr none ↦ inr (Err none.0, none.2, tt, (ap refusal_reply none.1, (refl, refl, refl)))
     ] in
-    let answered = unasked g.D.SectorDevice.disk options c.args.store.now line said (is_unread (Err c.in-Err.refusal)) other (unread_or_other line c.in-Err.refusal reads) in
-    (said, refl, subst (λ (a : Result Request Refusal). LineIsAnswered g.D.SectorDevice.disk options c.args.store.now line said (options.halt && is_unread a) c.args.store.now) (sym c.in-Err.is) answered)
+    (said, refl, unasked g.D.SectorDevice.disk options c.args.store.now line said other)

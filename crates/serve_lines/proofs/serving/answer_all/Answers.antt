@@ -15,7 +15,7 @@ loop-init g c = record {
     consumes_none (g.R.Read.remaining c.args.reader.now),
     record {
       replies = [];
-      hears = hears_start g.D.SectorDevice.disk c.args.options.now g.met.D.SectorDevice.coherent c.args.store.now c.in-Ok.progress.session [] c.know.ensures.standing c.in-Ok.ensures.options c.in-Ok.ensures.waiting c.in-Ok.ensures.taken c.in-Ok.ensures.halted c.in-Ok.ensures.line;
+      hears = hears_start g.D.SectorDevice.disk c.args.options.now g.met.D.SectorDevice.coherent c.args.store.now c.in-Ok.progress.session [] c.know.ensures.standing c.in-Ok.ensures.options c.in-Ok.ensures.waiting c.in-Ok.ensures.taken c.in-Ok.ensures.line;
       told = record {
         tells = record { written = []; wrote = appends_none (g.W.Write.contents c.args.writer.now); whole = sym c.in-Ok.ensures.empty };
         counted = c.in-Ok.ensures.none;

@@ -1,4 +1,4 @@
-use Rattle.std.proofs.Common.{◌≡◌, ◌⊎◌, inl, inr, ⊎_elim, ℕ, Bool, List, [], refl, ap, subst, sym, Option, Err}
+use Rattle.std.proofs.Common.{◌≡◌, ◌⊎◌, inl, inr, ⊎_elim, ℕ, List, [], refl, ap, subst, sym, Option, Err}
 use Rattle.std.proofs.lemmas.List.{append-nil}
 use Rattle.std.specs.Io.KnownBytes.{Appends, Consumes}
 use Rattle.std.specs.Result.{IsErrOf}
@@ -16,7 +16,7 @@ use Rattle.serve_lines.proofs.serving.serve.Goals as goal
 
 -- how a session that ended early ended
 abbrev Ends : ServeFault → ServeFault → Type 0
-Ends f named = IsErrOf {T = ℕ × Bool} {E = ServeFault} (Err f) named
+Ends f named = IsErrOf {T = ℕ} {E = ServeFault} (Err f) named
 
 one_of : (f : ServeFault) → Ends f Reader ⊎ Ends f Writer ⊎ Ends f Turns ⊎ Ends f Memory
 one_of Reader = inl refl

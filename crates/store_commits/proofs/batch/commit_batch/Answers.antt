@@ -1,4 +1,4 @@
-use Rattle.std.proofs.Common.{◌++◌, sym, ◌∙◌, subst, ap, Option, length, length-append, map, arith}
+use Rattle.std.proofs.Common.{◌++◌, sym, ◌∙◌, subst, ap, Option, length, map, arith}
 use Rattle.std.proofs.lemmas.List.{length-map}
 use Rattle.doc_machine.specs.Transaction.{transaction_of}
 use Rattle.refusals.specs.declared.numbers.TheConstants.{BROKEN}
@@ -9,26 +9,18 @@ use Rattle.store_commits.specs.Copying.{Target, copy_of, target_of}
 use Rattle.store_commits.specs.Inside.{IsStored, account_of, store_view}
 use Rattle.store_commits.specs.Batching.{HasCommitted}
 use Rattle.store_commits.specs.declared.event.Reply.TheVariants.{Refused}
-use Rattle.store_commits.proofs.Joining.{broken_through, broken_whole}
+use Rattle.store_commits.proofs.Joining.{broken_whole}
 use Rattle.store_commits.proofs.Parts.{planned_replies}
 use Rattle.store_commits.proofs.Standing.{standing}
 use Rattle.store_commits.proofs.batch.commit_batch.Given.{Over}
 use Rattle.store_commits.proofs.batch.commit_batch.Goals as goal
 
-pub returns-then-is_broken-clause-whole : goal.returns-then-is_broken-clause-whole
-returns-then-is_broken-clause-whole g c = λ _.
+pub returns-then-is_broken-clause-batched : goal.returns-then-is_broken-clause-batched
+returns-then-is_broken-clause-batched g c =
     let journal = c.args.journal.now in
     let machine = c.args.machine.now in
     let items = c.args.transactions.items in
     broken_whole g.D.SectorDevice.disk g.met.D.SectorDevice.coherent (store_view journal machine (target_of c.args.copy.now)) (standing (g.D.SectorDevice.disk journal.device) journal machine c.requires.held)
-    (sym c.if-is_broken.ensures.broken) items c.say_broken.new.said.items (c.say_broken.ensures ∙ (λ i. c.in_ok-said.ensures.items i ++ map (λ _. Refused (plain BROKEN)) items))
-
-pub returns-then-is_broken-clause-through : goal.returns-then-is_broken-clause-through
-returns-then-is_broken-clause-through g c = λ _.
-    let journal = c.args.journal.now in
-    let machine = c.args.machine.now in
-    let items = c.args.transactions.items in
-    broken_through g.D.SectorDevice.disk g.met.D.SectorDevice.coherent (store_view journal machine (target_of c.args.copy.now)) (standing (g.D.SectorDevice.disk journal.device) journal machine c.requires.held)
     (sym c.if-is_broken.ensures.broken) items c.say_broken.new.said.items (c.say_broken.ensures ∙ (λ i. c.in_ok-said.ensures.items i ++ map (λ _. Refused (plain BROKEN)) items))
 
 pub commit_all-requires-clause-prepared : goal.commit_all-requires-clause-prepared
@@ -38,23 +30,23 @@ commit_all-requires-clause-prepared g c =
     let s = c.begin-trial.result.state in
     let start = c.begin-trial.ensures.state ∙ c.replace.ensures.value in
     let stored = subst (λ (q : State × Option Target). IsStored (g.D.SectorDevice.disk journal.device) journal q.0 q.1) (λ i. (sym start i, sym c.in-Ok.ensures.same i)) c.requires in
-    (s, c.args.until_full, cs, stored, c.in-Ok.ensures.prepared)
+    (s, cs, stored, c.in-Ok.ensures.prepared)
 
 pub commit_all-requires-clause-room : goal.commit_all-requires-clause-room
 commit_all-requires-clause-room g c =
     let prepared = c.in-Ok.ensures.prepared in
     let a = with_copy (account_of c.args.journal.now c.begin-trial.result.state) (copy_of (target_of c.prepare.new.copy)) in
     let count = planned_replies a c.in-Ok.segments.items prepared.slots prepared.end prepared.planned in
-    let parts = ap length (sym prepared.through.parts) ∙ length-append _ prepared.through.left in
+    let all = ap length prepared.all in
     let same = length-map c.args.transactions.items transaction_of in
     let len = c.len.ensures in
     let ok = c.args.transactions.ok in
     let made = c.in_ok-said.ensures in
-    omega (arith, count, parts, same, len, ok, made.len, made.exact)
+    omega (arith, count, all, same, len, ok, made.len, made.exact)
 
 -- of the store that it began with
 made : (g : Over) (c : goal.After-drop-machine-in-Ok-4 g)
-    → HasCommitted c.args.until_full g.D.SectorDevice.disk (store_view c.args.journal.now c.args.machine.now (target_of c.args.copy.now)) (map transaction_of c.args.transactions.items) c.commit_all.new.said.items
+    → HasCommitted g.D.SectorDevice.disk (store_view c.args.journal.now c.args.machine.now (target_of c.args.copy.now)) (map transaction_of c.args.transactions.items) c.commit_all.new.said.items
     c.commit_all.new.journal c.commit_all.result (target_of c.commit_all.new.copy)
 made g c =
     let disk = g.D.SectorDevice.disk in
@@ -63,11 +55,8 @@ made g c =
     let s = c.begin-trial.result.state in
     let start = c.begin-trial.ensures.state ∙ c.replace.ensures.value in
     let stored = subst (λ (q : State × Option Target). IsStored (disk journal.device) journal q.0 q.1) (λ i. (sym start i, sym c.in-Ok.ensures.same i)) c.requires in
-    subst (λ (v : StoreView g.row.D.Denot). HasCommitted c.args.until_full disk v cs c.commit_all.new.said.items c.commit_all.new.journal c.commit_all.result (target_of c.commit_all.new.copy))
-    (λ i. store_view journal (start i) (c.in-Ok.ensures.same i)) (c.commit_all.ensures s c.args.until_full cs stored c.in-Ok.ensures.prepared)
+    subst (λ (v : StoreView g.row.D.Denot). HasCommitted disk v cs c.commit_all.new.said.items c.commit_all.new.journal c.commit_all.result (target_of c.commit_all.new.copy))
+    (λ i. store_view journal (start i) (c.in-Ok.ensures.same i)) (c.commit_all.ensures s cs stored c.in-Ok.ensures.prepared)
 
-pub returns-in-Ok-clause-whole : goal.returns-in-Ok-clause-whole
-returns-in-Ok-clause-whole g c = (made g c).whole
-
-pub returns-in-Ok-clause-through : goal.returns-in-Ok-clause-through
-returns-in-Ok-clause-through g c = (made g c).through
+pub returns-in-Ok-clause-batched : goal.returns-in-Ok-clause-batched
+returns-in-Ok-clause-batched g c = (made g c).batched

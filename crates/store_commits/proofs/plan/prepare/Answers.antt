@@ -24,7 +24,7 @@ returns-clause-prepared g c =
     let t = c.args.trial.now in
     let a = with_copy (account_of c.args.journal.now t.state) (copy_of (target_of c.reserve.new.copy)) in
     let is = c.in_ok-add_all.ensures.ok a (begins g c) in
-    record { slots = is.0; through = is.1; end = account_committed is.2.mid is.2.since; planned = planned_ends a is.0 c.add_all.new.self c.add_all.new.trial is.2 c.push.new.self.items c.in_ok-push.ensures.items; tried = is.2.tried }
+    record { slots = is.0; all = is.1; end = account_committed is.2.mid is.2.since; planned = planned_ends a is.0 c.add_all.new.self c.add_all.new.trial is.2 c.push.new.self.items c.in_ok-push.ensures.items; tried = is.2.tried }
 
 pub returns-clause-grows : goal.returns-clause-grows
 returns-clause-grows g c =

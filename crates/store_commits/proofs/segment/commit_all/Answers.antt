@@ -32,9 +32,9 @@ commit_segment-requires-clause-ready g c =
     let l = c.loop-segment in
     let copy = target_of c.args.copy.now in
     let p = c.requires.prepared in
-    let come = subst (λ (rest : List Segment). HasCome disk c.args.journal.now p.0 copy p.4.slots p.4.end l.journal (target_of l.copy) rest l.said.items) c.in-Some.ensures.steps.0
-    (l.invariant.come p.0 p.4.slots p.4.end p.3 p.4.planned) in
-    next_ready disk g.met.D.SectorDevice.coherent c.args.journal.now l.journal p.0 copy (target_of l.copy) p.4.slots p.4.end l.said.items c.in-Some.segment (into_iter_items c.next.new.self) come
+    let come = subst (λ (rest : List Segment). HasCome disk c.args.journal.now p.0 copy p.3.slots p.3.end l.journal (target_of l.copy) rest l.said.items) c.in-Some.ensures.steps.0
+    (l.invariant.come p.0 p.3.slots p.3.end p.2 p.3.planned) in
+    next_ready disk g.met.D.SectorDevice.coherent c.args.journal.now l.journal p.0 copy (target_of l.copy) p.3.slots p.3.end l.said.items c.in-Some.segment (into_iter_items c.next.new.self) come
 
 pub loop-segment-preserved : goal.loop-segment-preserved
 loop-segment-preserved g c =
@@ -64,14 +64,14 @@ overflow_sub-seq g c =
     let journal = c.args.journal.now in
     let copy = target_of c.args.copy.now in
     let none = nil_from_length _ (sym l.segment-iterator.rest.ok.0 ∙ c.in-None.ensures.steps.0) in
-    let was = all_come g.D.SectorDevice.disk g.met.D.SectorDevice.coherent journal l.journal p.0 copy (target_of l.copy) p.4.slots p.4.end l.said.items _ none (l.invariant.come p.0 p.4.slots p.4.end p.3 p.4.planned) in
-    let many = how_many g.D.SectorDevice.disk g.met.D.SectorDevice.coherent journal l.journal p.0 copy (target_of l.copy) p.4.slots p.4.end l.said.items was p.3.held.seq in
+    let was = all_come g.D.SectorDevice.disk g.met.D.SectorDevice.coherent journal l.journal p.0 copy (target_of l.copy) p.3.slots p.3.end l.said.items _ none (l.invariant.come p.0 p.3.slots p.3.end p.2 p.3.planned) in
+    let many = how_many g.D.SectorDevice.disk g.met.D.SectorDevice.coherent journal l.journal p.0 copy (target_of l.copy) p.3.slots p.3.end l.said.items was p.2.held.seq in
     let seq = c.seq.ensures in
     let before = c.seq-before.ensures in
     omega (arith, many, seq, before)
 
 pub returns : goal.returns
-returns g c = λ s until_full cs stored prepared.
+returns g c = λ s cs stored prepared.
     let disk = g.D.SectorDevice.disk in
     let coherent = g.met.D.SectorDevice.coherent in
     let l = c.loop-segment in
@@ -86,4 +86,4 @@ returns g c = λ s until_full cs stored prepared.
     let before = c.seq-before.ensures in
     let oldest = c.seq.result - c.seq-before.result in
     let number : oldest ≡ length (all_changes (waiting was.told.first)) = omega (arith, many, seq, before) in
-    committed disk coherent journal l.journal s copy copied prepared.slots prepared.end replies was c.args.trial prepared.tried oldest number c.end.result (c.end.ensures ∙ c.keep.ensures.state) until_full cs prepared.through
+    committed disk coherent journal l.journal s copy copied prepared.slots prepared.end replies was c.args.trial prepared.tried oldest number c.end.result (c.end.ensures ∙ c.keep.ensures.state) cs prepared.all

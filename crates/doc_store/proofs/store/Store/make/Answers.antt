@@ -2,23 +2,16 @@ use Rattle.std.proofs.Common.{◌≡◌, IfOk, OnErr, map, subst}
 use Rattle.doc_machine.specs.Transaction.{transaction_of}
 use Rattle.store_commits.specs.Account.{StoreView}
 use Rattle.store_commits.specs.Copying.{target_of}
-use Rattle.store_commits.specs.Faults.{BatchedUntilFull}
 use Rattle.store_commits.specs.Inside.{store_view}
 use Rattle.store_commits.specs.Run.{Batched}
 use Rattle.store_commits.proofs.Standing.{standing}
 use Rattle.doc_store.proofs.store.Store.make.Goals as goal
 
-pub returns-clause-whole : goal.returns-clause-whole
-returns-clause-whole g c = λ no.
+pub returns-clause-batched : goal.returns-clause-batched
+returns-clause-batched g c =
     let new = c.commit_batch.new in
     let now = store_view new.journal new.machine (target_of new.copy) in
-    subst (λ (v : StoreView g.row.D.Denot). IfOk c.commit_batch.result (λ replies. Batched g.D.SectorDevice.disk v now (map transaction_of c.args.transactions.items) replies.items)) c.self.view_is (c.commit_batch.ensures.whole no)
-
-pub returns-clause-first : goal.returns-clause-first
-returns-clause-first g c = λ is_so.
-    let new = c.commit_batch.new in
-    let now = store_view new.journal new.machine (target_of new.copy) in
-    subst (λ (v : StoreView g.row.D.Denot). IfOk c.commit_batch.result (λ replies. BatchedUntilFull g.D.SectorDevice.disk v now (map transaction_of c.args.transactions.items) replies.items)) c.self.view_is (c.commit_batch.ensures.through is_so)
+    subst (λ (v : StoreView g.row.D.Denot). IfOk c.commit_batch.result (λ replies. Batched g.D.SectorDevice.disk v now (map transaction_of c.args.transactions.items) replies.items)) c.self.view_is c.commit_batch.ensures.batched
 
 pub returns-clause-memory : goal.returns-clause-memory
 returns-clause-memory g c =

@@ -1,9 +1,8 @@
-use Rattle.std.proofs.Common.{inl, subst, Bool, false}
+use Rattle.std.proofs.Common.{inl, subst}
 use Rattle.protocol.specs.Lines.{lines_of}
 use Rattle.sector_device.specs.Memory.{mem_disk}
 use Rattle.serve_lines.specs.Serve.{Serves}
 use Rattle.serve_lines.specs.declared.options.Options.{Options}
-use Rattle.jpstore.specs.Files.{options_of}
 use Rattle.jpstore.proofs.programs.mem.serve_memory.Goals as goal
 
 pub returns-clause-served : goal.returns-clause-served
@@ -21,6 +20,5 @@ returns-clause-served g c = λ is.
       consumed = s.1;
       at_end = s.2;
       count = s.3.0;
-      served = subst (λ (h : Bool). Serves mem_disk (options_of 1 0 false) c.in_ok-store.store (lines_of s.0) before closed after s.3.0 h) (s.3.2 is)
-          (subst (λ (o : Options). Serves mem_disk o c.in_ok-store.store (lines_of s.0) before closed after s.3.0 s.3.1) c.options_of.ensures s.3.4);
+      served = subst (λ (o : Options). Serves mem_disk o c.in_ok-store.store (lines_of s.0) before closed after s.3.0) c.options_of.ensures s.3.1;
     }

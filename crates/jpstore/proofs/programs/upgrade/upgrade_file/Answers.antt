@@ -1,5 +1,4 @@
-use Rattle.std.proofs.Common.{◌≡◌, Ok, subst}
-use Rattle.doc_store.specs.Account.{StoreView}
+use Rattle.std.proofs.Common.{subst}
 use Rattle.doc_store.specs.Formats.{format_of, number_of}
 use Rattle.doc_store.specs.declared.format.Format.{Format}
 use Rattle.jpstore.specs.Shown.{Shows}

@@ -1,5 +1,4 @@
-use Rattle.std.proofs.Common.{◌++◌, ◌∙◌, ap, sym}
-use Rattle.serve_lines.specs.declared.session.Session.{Session}
+use Rattle.std.proofs.Common.{◌++◌}
 use Rattle.serve_lines.proofs.Ending.{breaks_off_end}
 use Rattle.serve_lines.proofs.Telling.{any_err, tells_all}
 use Rattle.serve_lines.proofs.progress.Progress.finish.Goals as goal
@@ -26,5 +25,4 @@ returns-clause-ok g c = λ options start read before s.
         wrote = tells_all before (g.W.Write.contents c.deliver.new.writer) c.deliver.new.self.outbox _ c.in_ok-deliver.ensures.empty told.tells;
       };
       counted = told.counted;
-      halted_is = e.halted_is ∙ sym (c.is_halted.ensures ∙ ap (λ (x : Session). x.halted) c.in_ok-deliver.ensures.session ∙ c.in_ok-tell_rest.ensures.halted);
     }

@@ -14,7 +14,7 @@ returns-in_err-tell-clause-err g c = any_err c.from_residual.result (λ options 
     let h = one.hears options start now.0 now.2.replies now.2.hears in
     subst (λ (t : List ℕ). BreaksOff g.D.SectorDevice.disk options start t left c.next_reply.new.store)
     (sym (append_assoc (now.0 ++ one.taken) behind more) ∙ ap (λ (t : List ℕ). t ++ more) (append_assoc now.0 one.taken behind ∙ ap (λ (x : List ℕ). now.0 ++ x) one.split ∙ now.1))
-    (breaks_off g.D.SectorDevice.disk options start (now.0 ++ one.taken) (behind ++ more) left c.next_reply.new.store _ _ _ h.2.rest h.2.reached))
+    (breaks_off g.D.SectorDevice.disk options start (now.0 ++ one.taken) (behind ++ more) left c.next_reply.new.store _ _ h.2.rest h.2.reached))
 
 pub lines-preserved : goal.lines-preserved
 lines-preserved g c = λ options start read before s.

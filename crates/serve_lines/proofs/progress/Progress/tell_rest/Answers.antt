@@ -6,7 +6,6 @@ use Rattle.protocol.specs.Reply.{count_of, reply_lines}
 use Rattle.serve_lines.specs.Written.{HasWritten}
 use Rattle.serve_lines.specs.Progress.{HasReplied}
 use Rattle.serve_lines.specs.LineReplies.{AllSay}
-use Rattle.serve_lines.specs.declared.session.Session.{Session}
 use Rattle.serve_lines.proofs.Batching.{says_none}
 use Rattle.serve_lines.proofs.Hearing.{first_says}
 use Rattle.serve_lines.proofs.progress.Progress.tell_rest.Goals as goal
@@ -14,12 +13,10 @@ use Rattle.serve_lines.proofs.progress.Progress.tell_rest.Goals as goal
 pub replies-init : goal.replies-init
 replies-init g c = record {
   told = λ before said docs h t. ([], docs, refl, h, subst (λ (m : List Doc). HasReplied before (g.W.Write.contents c.args.writer.now) c.args.self.now m) (sym (append-nil said)) t);
-  halted = refl;
 }
 
 pub replies-preserved : goal.replies-preserved
 replies-preserved g c = record {
-  halted = ap (λ (s : Session). s.halted) c.in_ok-tell.ensures.session ∙ c.in-Some.ensures.1.halted ∙ c.replies.invariant.halted;
   told = λ before said docs h t.
       let now = c.replies.invariant.told before said docs h t in
       let first = first_says c.in-Some.reply c.ready_reply.new.self.ready.items now.1 (subst (λ (l : List Reply). AllSay l now.1) c.in-Some.ensures.0 now.3) in
@@ -32,12 +29,14 @@ replies-preserved g c = record {
       );
 }
 
-pub returns-clause-told : goal.returns-clause-told
-returns-clause-told g c = λ before said docs h t.
-    let now = c.replies.invariant.told before said docs h t in
-    let none = says_none now.1 (subst (λ (l : List Reply). AllSay l now.1) c.in_default.ensures.0 now.3) in
-    let all : said ++ now.0 ≡ said ++ docs = ap (λ (l : List Doc). said ++ l) (sym (now.2 ∙ ap (λ (l : List Doc). now.0 ++ l) none ∙ append-nil now.0)) in
-    record {
-      tells = subst (λ (m : List Doc). HasWritten before (g.W.Write.contents c.replies.writer) c.replies.self.outbox (reply_lines m)) all now.4.tells;
-      counted = now.4.counted ∙ ap count_of all;
-    }
+pub returns : goal.returns
+returns g c = record {
+  told = λ before said docs h t.
+      let now = c.replies.invariant.told before said docs h t in
+      let none = says_none now.1 (subst (λ (l : List Reply). AllSay l now.1) c.in_default.ensures.0 now.3) in
+      let all : said ++ now.0 ≡ said ++ docs = ap (λ (l : List Doc). said ++ l) (sym (now.2 ∙ ap (λ (l : List Doc). now.0 ++ l) none ∙ append-nil now.0)) in
+      record {
+        tells = subst (λ (m : List Doc). HasWritten before (g.W.Write.contents c.replies.writer) c.replies.self.outbox (reply_lines m)) all now.4.tells;
+        counted = now.4.counted ∙ ap count_of all;
+      };
+}

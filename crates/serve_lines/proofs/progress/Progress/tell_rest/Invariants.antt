@@ -8,7 +8,6 @@ abbrev pub invariant-replies : goal.invariant-replies
 invariant-replies g l = record {
   told : (before : Option (List ℕ)) (said docs : List Doc) → AllSay l.fn.self.session.ready.items docs → HasReplied before (g.W.Write.contents l.fn.writer) l.fn.self said
       → (given left : List Doc) × (docs ≡ given ++ left) × AllSay l.self.session.ready.items left × HasReplied before (g.W.Write.contents l.writer) l.self (said ++ given);
-  halted : l.self.session.halted ≡ l.fn.self.session.halted;
 }
 
 abbrev pub decreases-replies : goal.decreases-replies

@@ -20,4 +20,4 @@ returns-clause-taken g c = with_ok c.deliver.result c.deliver.ensures.session c.
 pub returns-clause-err : goal.returns-clause-err
 returns-clause-err g c = any_err c.deliver.result (λ options start read before s more left.
     let now = c.in_ok-take.ensures.ok options start read before s in
-    breaks_off g.D.SectorDevice.disk options start (read ++ c.args.piece.now) more left c.take.new.store _ _ _ now.hears.rest now.hears.reached)
+    breaks_off g.D.SectorDevice.disk options start (read ++ c.args.piece.now) more left c.take.new.store _ _ now.hears.rest now.hears.reached)

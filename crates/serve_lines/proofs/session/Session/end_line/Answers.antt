@@ -5,7 +5,7 @@ use Rattle.serve_lines.proofs.session.Session.end_line.Goals as goal
 
 pub returns-then-is_blank-clause-ends : goal.returns-then-is_blank-clause-ends
 returns-then-is_blank-clause-ends g c = λ line h.
-    ([], subst (λ (l : List Reply). AllSay l []) (sym c.requires.taken) tt, inl (sym (c.is_blank.ensures line h) ∙ c.if-is_blank.true, refl, refl, refl, refl))
+    ([], subst (λ (l : List Reply). AllSay l []) (sym c.requires.taken) tt, inl (sym (c.is_blank.ensures line h) ∙ c.if-is_blank.true, refl, refl, refl))
 
 pub returns-else-is_blank-clause-ends : goal.returns-else-is_blank-clause-ends
 returns-else-is_blank-clause-ends g c = λ line h.

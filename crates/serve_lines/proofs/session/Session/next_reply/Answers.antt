@@ -70,8 +70,8 @@ returns-clause-heard g c = λ options start read replies s.
     record {
       rest = h.rest ++ rest;
       ready = h.ready;
-      reached = subst (λ (t : List ℕ). HasCut disk options start t c.lines.store (replies ++ h.ready) (waiting_in c.lines.self) c.lines.self.halted (h.rest ++ rest)) (append_assoc read now.0 rest ∙ ap (λ (x : List ℕ). read ++ x) now.1)
-          (reaches_more disk options start (read ++ now.0) c.lines.store (replies ++ h.ready) (waiting_in c.lines.self) c.lines.self.halted h.rest rest h.reached);
+      reached = subst (λ (t : List ℕ). HasCut disk options start t c.lines.store (replies ++ h.ready) (waiting_in c.lines.self) (h.rest ++ rest)) (append_assoc read now.0 rest ∙ ap (λ (x : List ℕ). read ++ x) now.1)
+          (reaches_more disk options start (read ++ now.0) c.lines.store (replies ++ h.ready) (waiting_in c.lines.self) h.rest rest h.reached);
       kept = c.extend.ensures h.rest h.kept;
       goes_by = h.goes_by;
       says = h.says;

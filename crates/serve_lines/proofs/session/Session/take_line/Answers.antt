@@ -23,17 +23,15 @@ returns-clause-heard g c = λ options start read replies s.
     let kept = c.extend.ensures s.rest s.kept in
     let none = says_none s.ready (subst (λ (l : List Reply). AllSay l s.ready) c.requires.taken s.says) in
     let e = c.end_line.ensures.ends line kept in
-    let was = c.args.self.now.halted in
-    let is = c.end_line.new.self.halted in
-    let ends = subst (λ (o : Options). EndsLine disk o old cs was line e.0 new left is) s.goes_by e.2 in
+    let ends = subst (λ (o : Options). EndsLine disk o old cs line e.0 new left) s.goes_by e.2 in
     let all : (replies ++ s.ready) ++ e.0 ≡ replies ++ e.0 = ap (λ (l : List Doc). (replies ++ l) ++ e.0) none ∙ ap (λ (l : List Doc). l ++ e.0) (append-nil replies) in
     record {
       rest = [];
       ready = e.0;
-      reached = subst (λ (t : List ℕ). HasCut disk options start t new (replies ++ e.0) left is []) (append_assoc read end (line_feed ∷ []))
-          (subst (λ (rs : List Doc). HasCut disk options start ((read ++ end) ++ line_feed ∷ []) new rs left is []) all
-          (reaches_line disk options g.met.D.SectorDevice.coherent start (read ++ end) old new (replies ++ s.ready) e.0 cs left was is line kept.whole
-          (reaches_more disk options start read old (replies ++ s.ready) cs was s.rest end s.reached) ends));
+      reached = subst (λ (t : List ℕ). HasCut disk options start t new (replies ++ e.0) left []) (append_assoc read end (line_feed ∷ []))
+          (subst (λ (rs : List Doc). HasCut disk options start ((read ++ end) ++ line_feed ∷ []) new rs left []) all
+          (reaches_line disk options g.met.D.SectorDevice.coherent start (read ++ end) old new (replies ++ s.ready) e.0 cs left line kept.whole
+          (reaches_more disk options start read old (replies ++ s.ready) cs s.rest end s.reached) ends));
       kept = c.end_line.ensures.clear;
       goes_by = c.end_line.ensures.options ∙ s.goes_by;
       says = e.1;

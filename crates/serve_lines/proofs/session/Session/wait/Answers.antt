@@ -11,20 +11,19 @@ pub returns-then-is_full-clause-ends : goal.returns-then-is_full-clause-ends
 returns-then-is_full-clause-ends g c = λ line asks.
     let d = transaction_of c.args.transaction in
     let cs = waiting_in c.args.self.now in
-    let b = c.commit-self.ensures.batch in
+    let b = c.commit.ensures.batch in
     let all = ap (map transaction_of) c.hold.ensures.held ∙ map-append transaction_of c.args.self.now.waiting.items (c.args.transaction ∷ []) in (
       b.1,
       subst (λ (l : List Reply). AllSay l b.1) (sym (b.2 ∙ ap (λ (l : List Reply). l ++ b.0) c.requires.taken)) b.3,
       inr (inl (
-        c.requires.goes_on,
-        record {
-          c = d;
-          asks = asks;
-          full = omega (arith, length-map c.args.self.now.waiting.items transaction_of, c.len.ensures, c.hold.ensures.len, c.is_full.ensures.yes c.if-is_full.true);
-          batch = batch_of_some g.D.SectorDevice.disk c.args.self.now.options c.args.store.now c.commit-self.new.store cs d (map transaction_of c.hold.new.waiting.items) b.1 c.commit-self.result all b.4;
-          left_are = ap (map transaction_of) c.commit-self.ensures.none.0;
-        },
-      )),
+          record {
+            c = d;
+            asks = asks;
+            full = omega (arith, length-map c.args.self.now.waiting.items transaction_of, c.len.ensures, c.hold.ensures.len, c.is_full.ensures.yes c.if-is_full.true);
+            batch = batch_of_some g.D.SectorDevice.disk c.args.self.now.options c.args.store.now c.commit.new.store cs d (map transaction_of c.hold.new.waiting.items) b.1 all b.4;
+            left_are = ap (map transaction_of) c.commit.ensures.none.0;
+          }
+          )),
     )
 
 pub returns-else-is_full-clause-ends : goal.returns-else-is_full-clause-ends
@@ -32,15 +31,13 @@ returns-else-is_full-clause-ends g c = λ line asks. (
   [],
   subst (λ (l : List Reply). AllSay l []) (sym c.requires.taken) tt,
   inl (
-    c.requires.goes_on,
-    c.requires.goes_on,
-    record {
-      c = transaction_of c.args.transaction;
-      asks = asks;
-      fewer = omega (arith, length-map c.args.self.now.waiting.items transaction_of, c.len.ensures, c.hold.ensures.len, c.is_full.ensures.no c.if-is_full.false);
-      none = refl;
-      same = refl;
-      left_are = ap (map transaction_of) c.hold.ensures.held ∙ map-append transaction_of c.args.self.now.waiting.items (c.args.transaction ∷ []);
-    },
-  ),
+      record {
+        c = transaction_of c.args.transaction;
+        asks = asks;
+        fewer = omega (arith, length-map c.args.self.now.waiting.items transaction_of, c.len.ensures, c.hold.ensures.len, c.is_full.ensures.no c.if-is_full.false);
+        none = refl;
+        same = refl;
+        left_are = ap (map transaction_of) c.hold.ensures.held ∙ map-append transaction_of c.args.self.now.waiting.items (c.args.transaction ∷ []);
+      }
+      ),
 )
