@@ -1,6 +1,7 @@
 """Warnings of what the store accepts in silence, although it may not be what was meant."""
+import itertools
 import warnings
-from typing import Any, Iterator, List, Optional, Tuple
+from typing import Any, Dict, Iterator, List, Optional, Set, Tuple
 
 from .errors import JpstoreWarning
 from .wire.values import escaped
@@ -29,50 +30,95 @@ _EARLIER = {
     "$recursiveRef": "$ref", "additionalItems": "prefixItems` and `items", "dependencies": "dependentRequired",
 }
 
+# The most warnings of one schema and letters of a place, and the most words that are looked at: no schema that the
+# store accepts has more.
+_MOST_NOTICES, _MOST_LETTERS, _MOST_WORDS = 100, 1000, 1 << 16
+
+# A place in a schema: the one around it, and a name or an index. Its text is made only when it is told, as a schema may
+# have many places of long names.
+_Place = Optional[Tuple[Any, Any]]
+
 # Above this function are the request, the call of the store, and then the line that calls it.
 _CALLER = 4
 
 
 def notices_of_schema(schema: Any) -> List[str]:
-    """What may be a mistake in a schema that the store accepts, each with its place."""
-    return [notice for place, part in _subschemas(schema) for notice in _notices_of_part(place, part)]
+    """What may be a mistake in a schema that the store accepts, each with its place: the first 100 of it."""
+    words = ((place, word) for place, part in _subschemas(schema) for word in part)
+    told = (_notice_of(place, word) for place, word in itertools.islice(words, _MOST_WORDS))
+    return list(itertools.islice(filter(None, told), _MOST_NOTICES))
 
 
-def _notices_of_part(place: str, part: Any) -> Iterator[str]:
-    for word in part:
-        where = f"{place}/{escaped(word)}"
-        if word == "format":
-            yield f"schema {where}: `format` is not checked, as JSON Schema has it; other keywords, as `maxLength`, are"
-        elif word in _EARLIER:
-            yield f"schema {where}: `{word}` is a keyword of earlier drafts, and is ignored: use `{_EARLIER[word]}`"
-        elif word not in _KEYWORDS:
-            meant = next(filter(lambda known: _is_one_letter_away(word, known), sorted(_KEYWORDS)), None)
-            if meant:
-                yield f"schema {where}: `{word}` is not a keyword, and is ignored: perhaps `{meant}` is meant"
+def _notice_of(place: _Place, word: Any) -> Optional[str]:
+    meant = None if word in _KEYWORDS else _meant_by(word)
+    if not meant and word != "format" and word not in _EARLIER:
+        return None
+    where = f"schema {_pointer((place, word))}"
+    if word == "format":
+        return f"{where}: `format` is not checked, as JSON Schema has it; other keywords, as `maxLength`, are"
+    if word in _EARLIER:
+        return f"{where}: `{word}` is a keyword of earlier drafts, and is ignored: use `{_EARLIER[word]}`"
+    return f"{where}: `{word}` is not a keyword, and is ignored: perhaps `{meant}` is meant"
 
 
-def _subschemas(schema: Any) -> Iterator[Tuple[str, Any]]:
-    waiting = [("", schema)]
+def _pointer(place: _Place) -> str:
+    """The JSON Pointer of a place, whose begin is left out if it is very long."""
+    tokens = []
+    while place is not None:
+        place, token = place
+        tokens.append(f"/{escaped(str(token))}")
+    pointer = "".join(reversed(tokens))
+    return pointer if len(pointer) <= _MOST_LETTERS else f"..{pointer[-_MOST_LETTERS:]}"
+
+
+def _subschemas(schema: Any) -> Iterator[Tuple[_Place, Any]]:
+    waiting: List[Tuple[_Place, Any]] = [(None, schema)]
     while waiting:
         place, part = waiting.pop()
         if not isinstance(part, dict):
             continue
         yield place, part
         for word, value in part.items():
-            below = f"{place}/{escaped(word)}" if isinstance(word, str) else place
+            below = (place, word)
             if word in _OF_SCHEMA:
                 waiting.append((below, value))
             elif word in _OF_SCHEMAS and isinstance(value, (list, tuple)):
-                waiting.extend((f"{below}/{index}", item) for index, item in enumerate(value))
+                waiting.extend(((below, index), item) for index, item in enumerate(value))
             elif word in _OF_NAMED_SCHEMAS and isinstance(value, dict):
-                waiting.extend((f"{below}/{escaped(str(name))}", item) for name, item in value.items())
+                waiting.extend(((below, name), item) for name, item in value.items())
 
 
-def _is_one_letter_away(word: Any, known: str) -> bool:
-    """Whether a letter is changed, missing or too many, or two neighbours are exchanged; upper case does not count."""
-    if not isinstance(word, str) or abs(len(word) - len(known)) > 1:
+def _meant_by(word: Any) -> Optional[str]:
+    """The first keyword that is one letter away from a word; upper case does not count."""
+    if not isinstance(word, str) or len(word) > _LONGEST + 1:
+        return None
+    lower = word.lower()
+    near = {known for form in _forms(lower) & _BY_FORM.keys() for known in _BY_FORM[form]}
+    return min(filter(lambda known: _is_one_letter_away(lower, known.lower()), near), default=None)
+
+
+def _forms(word: str) -> Set[str]:
+    """A word, and the word without one letter. Two words have one in common if they are one letter away."""
+    return {word, *(word[:place] + word[place + 1:] for place in range(len(word)))}
+
+
+def _by_form() -> Dict[str, Set[str]]:
+    found: Dict[str, Set[str]] = {}
+    for known in _KEYWORDS:
+        for form in _forms(known.lower()):
+            found.setdefault(form, set()).add(known)
+    return found
+
+
+# The keywords that have a form, and the length of the longest.
+_BY_FORM, _LONGEST = _by_form(), max(map(len, _KEYWORDS))
+
+
+def _is_one_letter_away(word: str, known: str) -> bool:
+    """Whether a letter is changed, missing or too many, or two neighbours are exchanged."""
+    if abs(len(word) - len(known)) > 1:
         return False
-    short, long = sorted((word.lower(), known.lower()), key=len)
+    short, long = sorted((word, known), key=len)
     first = next((index for index, pair in enumerate(zip(short, long)) if pair[0] != pair[1]), len(short))
     if len(short) < len(long):
         return short[first:] == long[first + 1:]

@@ -1,5 +1,6 @@
 """What is accepted in silence is warned of, and what is wrong in a text is told with its place."""
 import asyncio
+import time
 import warnings
 
 import pytest
@@ -28,6 +29,18 @@ def test_what_is_no_mistake_is_not_told():
               "dependentRequired": {"tpye": []}}
     assert notices_of_schema(schema) == []
     assert notices_of_schema(True) == []
+
+
+def test_the_longest_schemas_take_little():
+    long = {"properties": {"x" * 500_000: {"allOf": [{"minimun": 1}] * 100_000}}}
+    told = notices_of_schema(long)
+    assert len(told) == 100
+    assert all(len(notice) < 1200 for notice in told)
+    # No word of these is near a keyword, but some begin as one.
+    begin = time.process_time()
+    assert notices_of_schema({f"abcde{number:06}": 1 for number in range(100_000)}) == []
+    assert notices_of_schema({"properties": {"x" * 500_000: {f"y{number}": 1 for number in range(100_000)}}}) == []
+    assert time.process_time() - begin < 5
 
 
 def test_format_is_told():
