@@ -181,8 +181,9 @@ def see_a_refused_document(page):
 
 def change_a_value(page):
     """A value is changed; the patch that is sent is shown before."""
+    assert not page.one("#edit-form").is_displayed()
     page.click(".leaf", "bolts")
-    page.one("#edit-panel > summary").click()
+    page.until(lambda: page.one("#edit-form").is_displayed(), "the panel of the edit")
     assert page.one("#pointer").get_attribute("value") == "/bolts"
     page.write("#value", "39")
     rev = page.text("#rev")
@@ -307,6 +308,37 @@ def change_the_schema(page):
     page.picture("schema")
 
 
+def see_a_warning(page):
+    """A schema with a misspelt keyword is stored, and the page warns of it."""
+    page.write("#schema", '{"minimun": 3}')
+    page.one("#schema-form button").click()
+    page.until(lambda: "perhaps `minimum` is meant" in page.text("#schema-result"), "the warning")
+    assert "is stored" in page.text("#schema-result")
+    page.picture("warning")
+    page.write("#schema", '{"type": "object"}')
+    page.one("#schema-form button").click()
+    page.until(lambda: "meant" not in page.text("#schema-result") and "is stored" in page.text("#schema-result"), "no warning")
+
+
+def make_one_as_another(page):
+    """A new document gets the schema of another."""
+    page.one("#new-panel > summary").click()
+    page.click("#new-as option", "as of shelf-1")
+    assert not page.one("#new-schema").is_displayed()
+    page.write("#new-name", "shelf-9")
+    page.write("#new-doc", "[]")
+    page.one("#new-form button").click()
+    page.until(lambda: "is not of type 'object'" in page.text("#new-result"), "the refusal by that schema")
+    page.write("#new-doc", "{}")
+    page.picture("as-another")
+    page.one("#new-form button").click()
+    page.until(lambda: page.text("#title") == "shelf-9", "the new document")
+    assert page.ask("GET", "schemas/shelf-9") == {"type": "object"}
+    page.click("#new-as option", "as written below")
+    assert page.one("#new-schema").is_displayed()
+    page.one("#new-panel > summary").click()
+
+
 def run_the_recipe(page):
     """The recipe for JavaScript in docs/use/HTTP.md runs on the page."""
     page.ask("PATCH", "documents/shelf-1", {"nuts": 10}, "application/merge-patch+json")
@@ -400,8 +432,8 @@ def ask_for_the_token(page):
 
 
 WITHOUT_TOKEN = [make_a_document, see_a_refused_document, change_a_value, see_a_refusal, see_the_change_of_another,
-                 keep_what_is_written, add_and_remove_a_value, see_a_transaction, query, change_the_schema,
-                 run_the_recipe, use_the_keyboard, use_a_phone, delete, no_errors_in_the_console]
+                 keep_what_is_written, add_and_remove_a_value, see_a_transaction, query, change_the_schema, see_a_warning,
+                 make_one_as_another, run_the_recipe, use_the_keyboard, use_a_phone, delete, no_errors_in_the_console]
 
 
 def tried(program, pictures, parts, with_token):

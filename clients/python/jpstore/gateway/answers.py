@@ -1,13 +1,17 @@
 """Answers, which a client may take as slowly as it likes within a limit of time."""
 import asyncio
+import itertools
 import json
-from typing import Any, Mapping, Optional
+from typing import Any, Dict, Iterable, Mapping, Optional
 
 from aiohttp import web
 
 from .bodies import JSON
 
-__all__ = ["answer", "answer_value", "begin", "write"]
+__all__ = ["answer", "answer_value", "begin", "done", "write"]
+
+# The most warnings of an answer.
+_MOST_WARNINGS = 100
 
 # The pieces in which a long answer is written, and how long a client may take for one, in seconds.
 _PIECE = 1 << 16
@@ -32,6 +36,12 @@ async def answer_value(request: web.Request, value: Any, *, status: int = 200,
     """An answer with a JSON value."""
     text = json.dumps(value, ensure_ascii=False).encode("utf-8", "replace") + b"\n"
     return await answer(request, text, status=status, headers=headers)
+
+
+def done(seq: int, warnings: Iterable[str] = ()) -> Dict[str, Any]:
+    """What is answered to an accepted change: its number, and what may be a mistake in its schema, if anything."""
+    told = list(itertools.islice(warnings, _MOST_WARNINGS))
+    return {"seq": seq, "warnings": told} if told else {"seq": seq}
 
 
 async def begin(request: web.Request, response: web.StreamResponse) -> None:

@@ -12,7 +12,9 @@ _Part = Dict[str, Any]
 _JSON, _SCHEMA, _PROBLEM = "application/json", "application/schema+json", "application/problem+json"
 _NAME = {"name": "name", "in": "path", "required": True, "description": "the name of the document",
          "schema": {"type": "string", "pattern": "^[A-Za-z0-9._-]{1,64}$"}}
-_SEQ = {_JSON: {"schema": {"type": "object", "properties": {"seq": {"type": "integer"}}, "required": ["seq"]}}}
+_WARNINGS = {"type": "array", "items": {"type": "string"}, "description": "likely mistakes in a schema, if any"}
+_SEQ = {_JSON: {"schema": {"type": "object", "required": ["seq"],
+                           "properties": {"seq": {"type": "integer"}, "warnings": _WARNINGS}}}}
 _MATCH = {"name": "If-Match", "in": "header", "description": "only if the document has this revision, such as \"17\"",
           "schema": {"type": "string"}}
 _NONE_MATCH = {"name": "If-None-Match", "in": "header", "schema": {"type": "string"},

@@ -8,10 +8,11 @@ from aiohttp import web
 from ..calls import ATTEMPTS
 from ..errors import Conflict, NotFound, Outdated, Unsendable
 from ..merge import operations_of_merge
+from ..notices import notices_of_schema
 from ..wire import commands, requests
 from ..wire.commands import Command
 from ..wire.texts import value_of_text
-from .answers import answer, answer_value
+from .answers import answer, answer_value, done
 from .bodies import JSON, PATCHES, check_kind, parameters, value_in
 from .changes import Changes
 from .conditions import Condition, condition_of, exists, tag_of
@@ -131,7 +132,7 @@ class Documents:
             if condition.only_new:
                 raise exists() from None
             raise
-        return await _changed(request, name, seq, 201)
+        return await _changed(request, name, seq, 201, schema)
 
     async def _schema_asked(self, request: web.Request, text: Optional[str]) -> Optional[Tuple[Any]]:
         """The schema that a new document is to have: in `?schema=`, or by `Link` that of another document."""
@@ -195,7 +196,8 @@ class Documents:
         parameters(request)
         check_kind(request, (SCHEMA, JSON))
         condition, schema = condition_of(request.headers), await value_in(request)
-        return await _changed(request, name, await self._change_if(condition, requests.set_schema(name, schema)))
+        seq = await self._change_if(condition, requests.set_schema(name, schema))
+        return await _changed(request, name, seq, schema=schema)
 
     async def options(self, request: web.Request) -> web.StreamResponse:
         """What may be done with a document."""
@@ -223,12 +225,13 @@ def _about(name: str, rev: int) -> Dict[str, str]:
     return {"ETag": tag_of(rev), "Link": f'</schemas/{name}>; rel="describedby"', "Accept-Patch": ", ".join(PATCHES)}
 
 
-async def _changed(request: web.Request, name: str, seq: int, status: int = 200) -> web.StreamResponse:
-    """The answer to an accepted change: its number, which is the document's revision now."""
+async def _changed(request: web.Request, name: str, seq: int, status: int = 200,
+                   schema: Any = True) -> web.StreamResponse:
+    """The answer to an accepted change: its number, which is the document's revision now, and warnings of a schema."""
     headers = _about(name, seq)
     if status == 201:
         headers["Location"] = f"/documents/{name}"
-    return await answer_value(request, {"seq": seq}, status=status, headers=headers)
+    return await answer_value(request, done(seq, notices_of_schema(schema)), status=status, headers=headers)
 
 
 def _whole(doc: Any) -> Command:

@@ -1,13 +1,14 @@
 """Several changes, all or none."""
-from typing import Any, List
+from typing import Any, Iterator, List
 
 from aiohttp import web
 
 from ..faults.command import fault_of_form
+from ..notices import notices_of_schema
 from ..wire import requests
 from ..wire.commands import Command, is_change
 from ..wire.forms import CHANGES
-from .answers import answer_value
+from .answers import answer_value, done
 from .bodies import JSON, check_kind, parameters, value_in
 from .changes import Changes
 from .conditions import condition_of
@@ -30,7 +31,13 @@ class Transactions:
             raise Problem(412, "condition", "a transaction has no revision: a patch in it that has `if_rev` and no "
                           "operations asks for that of a document")
         changes = _changes_in(await value_in(request))
-        return await answer_value(request, {"seq": await self._changes.make(requests.transaction(changes))})
+        seq = await self._changes.make(requests.transaction(changes))
+        return await answer_value(request, done(seq, _notices_of(changes)))
+
+
+def _notices_of(changes: List[Command]) -> Iterator[str]:
+    return (f"change {place}, counted from 0: {notice}" for place, change in enumerate(changes)
+            for notice in notices_of_schema(change.get("schema")))
 
 
 def _changes_in(body: Any) -> List[Command]:

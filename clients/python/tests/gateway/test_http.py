@@ -484,6 +484,17 @@ def test_schemas(gateway):
     is_problem(gateway.put("/schemas/counts", {"pattern": "x"}), 422, 41)
 
 
+def test_a_likely_mistake_in_a_schema_is_told(gateway):
+    said = "schema /minimun: `minimun` is not a keyword, and is ignored: perhaps `minimum` is meant"
+    made = gateway.put("/documents/warned?schema=%7B%22minimun%22%3A3%7D", 1)
+    assert (made.status, made.json()["warnings"]) == (201, [said])
+    assert gateway.put("/schemas/warned", {"minimun": 4}).json()["warnings"] == [said]
+    changes = changes_of(set_schema("warned", True), set_schema("warned", {"minimun": 5}))
+    answer = gateway.ask("POST", "/transactions", changes)
+    assert answer.json()["warnings"] == [f"change 1, counted from 0: {said}"]
+    assert list(gateway.put("/schemas/warned", {"minimum": 1}).json()) == ["seq"]
+
+
 def test_a_new_document_under_a_schema(gateway):
     text = "%7B%22type%22%3A%22object%22%7D"
     is_problem(gateway.put(f"/documents/under?schema={text}", 5), 422, 45)

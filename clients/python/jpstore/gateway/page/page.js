@@ -80,6 +80,11 @@ function told(place, good, ...children) {
   place.scrollIntoView({ block: "nearest" });
 }
 
+// A change that is stored, with the warnings of its schema.
+function toldDone(place, what, { warnings = [] }) {
+  told(place, true, what, ...warnings.map((warning) => element("p", { className: "warning" }, `Warning: ${warning}.`)));
+}
+
 function toldProblem(place, error) {
   const problem = error instanceof Refused ? error.problem
     : error instanceof SyntaxError ? { title: "This is not JSON yet.", detail: `${error.message}. A text needs double quotes: "bolts".` }
@@ -145,6 +150,7 @@ async function showStatus() {
 async function showNames() {
   state.names = await valueAt("/documents");
   listNames();
+  if ($("new-panel").open) offerSchemas();
 }
 
 function listNames() {
@@ -158,6 +164,22 @@ function listNames() {
   $("no-names").textContent = state.names.length ? "No name has this in it." : "No documents yet.";
   $("no-text").textContent = state.names.length ? "Choose one from the list, or create one." : "Create the first one.";
 }
+
+// The schemas that a new document may have: one that is written, or that of a document.
+function offerSchemas() {
+  const chosen = $("new-as").value;
+  const offered = state.names.map((name) => element("option", { value: name, selected: name === chosen }, `as of ${name}`));
+  $("new-as").replaceChildren($("new-as").firstElementChild, ...offered);
+  showSchemaField();
+}
+
+function showSchemaField() {
+  $("new-schema-field").hidden = $("new-as").value !== "";
+  $("new-schema").required = $("new-as").value === "";
+}
+
+$("new-panel").addEventListener("toggle", () => { if ($("new-panel").open) offerSchemas(); });
+$("new-as").addEventListener("change", showSchemaField);
 
 $("make").addEventListener("click", () => {
   $("new-panel").open = true;
@@ -174,14 +196,20 @@ function revealName() {
 
 $("filter").addEventListener("input", listNames);
 
+// Makes a document under the schema of another, or the one that is written.
+function create(name, doc, as) {
+  const fields = { "Content-Type": "application/json", "If-None-Match": "*" };
+  if (as) fields.Link = `<${schemaPath(as)}>; rel="describedby"`;
+  const schema = as ? "" : `?schema=${encodeURIComponent(textOf(parse($("new-schema").value)))}`;
+  return ask(documentPath(name) + schema, "PUT", textOf(doc), fields);
+}
+
 $("new-form").addEventListener("submit", async (event) => {
   event.preventDefault();
   const name = $("new-name").value;
   try {
-    const doc = parse($("new-doc").value), schema = textOf(parse($("new-schema").value));
-    await ask(`${documentPath(name)}?schema=${encodeURIComponent(schema)}`, "PUT", textOf(doc),
-      { "Content-Type": "application/json", "If-None-Match": "*" });
-    told($("new-result"), true, `${name} is created.`);
+    const response = await create(name, parse($("new-doc").value), $("new-as").value);
+    toldDone($("new-result"), `${name} is created.`, await response.json());
     $("new-name").value = "";
     await showNames();
     location.hash = `/${name}`;
@@ -277,7 +305,11 @@ function drawnLeaf(pointer, key, value) {
   const leaf = element("button", { type: "button", className: "leaf" }, keyOf(key),
     element("span", { className: kind }, textOf(value)));
   leaf.dataset.pointer = pointer;
-  leaf.addEventListener("click", () => chooseValue(pointer));
+  leaf.addEventListener("click", () => {
+    chooseValue(pointer);
+    $("edit-panel").open = true;
+    $("edit-panel").scrollIntoView({ block: "nearest" });
+  });
   return leaf;
 }
 
@@ -527,9 +559,9 @@ $("schema-form").addEventListener("submit", async (event) => {
   event.preventDefault();
   try {
     const response = await saveSchema(state.name, textOf(parse($("schema").value)));
-    const { seq } = await response.json();
+    const done = await response.json();
     await showSchema();
-    told($("schema-result"), true, `Done: change ${seq} is stored.`);
+    toldDone($("schema-result"), `Done: change ${done.seq} is stored.`, done);
     await showDocument(state.name);
   } catch (error) {
     toldProblem($("schema-result"), error);
