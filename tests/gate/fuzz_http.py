@@ -272,7 +272,7 @@ def judge_damaged(run, content, taken):
     run.failures += 500 in statuses
     if statuses - STATUSES - {500} or (taken and not statuses and not taken.startswith(b"HTTP/")):
         run.faults.append(f"{shown(content)}\nwas answered\n{shown(taken)}")
-    run.of_damaged += map(int, re.findall(rb'^\{"seq": (\d+)\}$', taken, re.M))
+    run.of_damaged += map(int, re.findall(rb'^\{"seq": (\d+)(?:, "warnings": \[.*\])?\}$', taken, re.M))
 
 
 async def follow(port, changes):
