@@ -10,6 +10,9 @@ standard input, its standard output and the store's file:
 - the reply to a change is written after the two syncs of its commit, and after the write of the commit sector;
 - no other sector is written between these syncs than sector 0.
 
+A batch makes few writes between its syncs. A change whose write or sync fails, or is made in part, is answered 61; those
+before it are there when the file is opened again.
+
 A store of format 1 is opened too: its snapshot in format 2 is written and synced before the commit sector, and that is synced
 before the first line is read. A file that is made is locked, written full of zeros but for a sparse one, and synced with its
 folder before its commit sector is written; that of a copy is written after a sync of its documents. One that can't be made is
@@ -19,10 +22,13 @@ is locked before anything of it is read, and an input that failed is not read ag
 The last line is `N passed, M failed`. If strace is missing, it installs Debian's package; without it there is nothing to look
 at, and the status is 2.
 """
+import json
 import os
 import pty
 import re
+import resource
 import shutil
+import signal
 import subprocess
 import sys
 import tempfile
@@ -63,6 +69,18 @@ FAILURES = {
 }
 
 
+# Calls that fail as a second change of three sectors is made, after the opening's write and two of the first change; a write
+# that has failed may be made once more as the store is closed.
+HAND_OVERS = {
+    "pwrite64:error=EIO:when=4": (False,),
+    "pwrite64:error=ENOSPC:when=4+": (False,),
+    "pwrite64:error=EIO:when=5": (False, True),
+    "pwrite64:error=ENOSPC:when=5+": (False,),
+    "fdatasync:error=EIO:when=5": (False,),
+    "fdatasync:error=EIO:when=6": (False, True),
+}
+
+
 # Errors of the system as a file is opened, and the cause that `--why` names for each, with its number.
 OPENING_FAULTS = {"EROFS": ("read-only", 30), "EMFILE": ("descriptors", 24), "ENFILE": ("descriptors", 23), "EIO": ("other", 5)}
 
@@ -81,7 +99,7 @@ def done(number):
 
 
 def events_of(trace):
-    """What the program did, in order: (`read`, bytes), (`reply`, bytes), (`write`, sector) and (`sync`, 0)."""
+    """What the program did, in order: (`read`, bytes), (`reply`, bytes), (`write`, its first sector) and (`sync`, 0)."""
     events, store = [], None
     for line in trace:
         call = CALL.match(line)
@@ -102,10 +120,10 @@ def events_of(trace):
     return events
 
 
-def traced(program, file, pieces):
+def traced(program, file, pieces, options=()):
     """The events of a session that is given these pieces, each once all before it were answered, and its output."""
     trace = file + ".trace"
-    words = ["strace", "-f", "-e", "trace=read,write,pwrite64,fdatasync,fsync,flock", "-o", trace, program, "serve", file]
+    words = ["strace", "-f", "-e", "trace=read,write,pwrite64,fdatasync,fsync,flock", "-o", trace, program, "serve", file, *options]
     with subprocess.Popen(words, stdin=subprocess.PIPE, stdout=subprocess.PIPE, text=True) as server:
         output = ""
         for piece in pieces:
@@ -151,6 +169,50 @@ def try_row(program, pieces):
         if output != "".join(done(number + 1) for number in range(text.count("\n"))):
             raise Wrong("the replies are %r" % output)
         look(events, text, output)
+
+
+def large(name):
+    """A document of its own, that takes sectors beside the commit sector."""
+    return '{"cmd":"create","doc":"%s","name":"%s","schema":true}\n' % ("x" * 1200, name)
+
+
+def try_group(program):
+    """A batch of 64 changes: few writes between its syncs, and the commit sector last and alone."""
+    with tempfile.TemporaryDirectory() as folder:
+        file = os.path.join(folder, "store")
+        subprocess.run([program, "format", file, "--sectors", "1024"], check=True, stdout=subprocess.DEVNULL)
+        text = "".join('{"cmd":"create","doc":"%s","name":"d%d","schema":true}\n' % ("x" * 70, number) for number in range(128))
+        events, output = traced(program, file, [text], ["--batch", "64"])
+        if output != "".join(done(number + 1) for number in range(128)):
+            raise Wrong("the replies are %r" % output)
+        first = events.index(next(event for event in events if event[0] == "read"))
+        between = " ".join(event for event, _ in events[first:] if event in ("write", "sync")).split("sync")
+        if max(part.count("write") for part in between) > 3 or not any("write" in part for part in between[1::2]):
+            raise Wrong("the writes between the syncs are %s" % [part.count("write") for part in between])
+
+
+def served(program, file, lines, fault=None, limit=None):
+    """The replies of a session that is given all lines at once, some of whose calls fail."""
+    def limited():
+        signal.signal(signal.SIGXFSZ, signal.SIG_IGN)
+        resource.setrlimit(resource.RLIMIT_FSIZE, (limit, limit))
+    words = ["strace", "-f", "-o", os.devnull, "-e", "inject=" + fault] if fault else []
+    ended = subprocess.run([*words, program, "serve", file], input="".join(lines), check=False, stdout=subprocess.PIPE, text=True,
+                           stderr=subprocess.DEVNULL, preexec_fn=limited if limit else None, restore_signals=False)
+    return ended.stdout.splitlines(True)
+
+
+def try_failed_hand_over(program, fault=None, limit=None, second=(False,)):
+    """Of two changes the writes of the second fail: it is answered 61, and the first is there when the file is opened again."""
+    with tempfile.TemporaryDirectory() as folder:
+        file = os.path.join(folder, "store")
+        subprocess.run([program, "format", file, "--sectors", "64"], check=True, stdout=subprocess.DEVNULL)
+        replies = served(program, file, [large("a"), large("b")], fault, limit)
+        if replies != [done(1), '{"error":"device","number":61,"ok":false}\n']:
+            raise Wrong("the replies are %s" % replies)
+        there = [json.loads(reply)["ok"] for reply in served(program, file, ['{"cmd":"get","name":"%s","path":""}\n' % name for name in "ab"])]
+        if not there[0] or there[1] not in second:
+            raise Wrong("when it is opened again, of both documents %s are there" % there)
 
 
 def try_migration(program):
@@ -293,6 +355,11 @@ def main():
     failed = 0
     program = os.path.abspath(sys.argv[1])
     rows = {name: lambda pieces=pieces: try_row(program, pieces) for name, pieces in ROWS.items()}
+    rows["a batch of 64 changes"] = lambda: try_group(program)
+    for fault, second in HAND_OVERS.items():
+        rows["a change fails: " + fault] = lambda fault=fault, second=second: try_failed_hand_over(program, fault, second=second)
+    # Half 0 begins at sector 1: the second run of three sectors is written in part.
+    rows["a change is written in part"] = lambda: try_failed_hand_over(program, limit=5 * SECTOR_BYTES)
     rows["a store of format 1 is opened"] = lambda: try_migration(program)
     rows["a store is made"] = lambda: try_making(program, [], MADE)
     rows["a sparse store is made"] = lambda: try_making(program, ["--sparse"], MADE_SPARSE)

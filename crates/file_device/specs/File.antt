@@ -1,4 +1,5 @@
 -- A file, as a device.
+use Rattle.std.specs.Prelude.{◌≡◌}
 use Rattle.sector_device.specs.Disk.{Disk, IsCoherent}
 use Rattle.sector_device.specs.History.{KeepsTo, disk_after}
 use Rattle.sector_device.specs.Coherence.{coherent_after}
@@ -10,3 +11,9 @@ file_disk device = disk_after device.sectors device.history device.failures
 
 pub file_coherent : (device : FileDevice) → KeepsTo device.sectors device.history → IsCoherent (file_disk device)
 file_coherent device = coherent_after device.sectors device.history device.failures
+
+-- For the clauses within the crate: nothing of what contracts say of it has changed.
+pub record IsSameDevice (old new : FileDevice) : Type 0 where
+  pub sectors : new.sectors ≡ old.sectors
+  pub failures : new.failures ≡ old.failures
+  pub history : new.history ≡ old.history

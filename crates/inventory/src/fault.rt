@@ -46,8 +46,11 @@ impl From<io::Error> for Fault {
 }
 
 impl From<FileFault> for Fault {
-    fn from(_fault: FileFault) -> Fault {
-        Fault::File
+    fn from(fault: FileFault) -> Fault {
+        match fault {
+            FileFault::Memory => Fault::Memory,
+            _ => Fault::File,
+        }
     }
 }
 

@@ -16,7 +16,15 @@ pub fn open_or_make<R: Files<File = File>>(
     sectors: u64,
 ) -> Result<Store<FileDevice>, Fault> {
     let rights = Rights::Mode(0o600);
-    let device = match FileDevice::create(rt, path, sectors, Blocks::Allocated, rights, &mut ()) {
+    let device = match FileDevice::create(
+        rt,
+        alloc,
+        path,
+        sectors,
+        Blocks::Allocated,
+        rights,
+        &mut (),
+    ) {
         Ok(mut made) => {
             format(&mut made)?;
             made
@@ -28,7 +36,7 @@ pub fn open_or_make<R: Files<File = File>>(
                     ..
                 },
             ),
-        ) => FileDevice::open(rt, path, Held::any(alloc))?,
+        ) => FileDevice::open(rt, alloc, path, Held::any(alloc))?,
         Err(fault) => return Err(Fault::from(fault)),
     };
     Ok(Store::open(alloc, device)?)

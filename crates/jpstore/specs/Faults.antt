@@ -1,7 +1,7 @@
 -- The fault that a program ends with.
 use Rattle.std.specs.Prelude.{ℕ, List, [], ◌∷◌, ◌++◌, Result, Ok, Err, codes, decimal, if◌then◌else◌}
 use Rattle.file_device.specs.declared.fault.FileFault.{FileFault}
-use Rattle.file_device.specs.declared.fault.FileFault.TheVariants.{InUse, NoSpace, File}
+use Rattle.file_device.specs.declared.fault.FileFault.TheVariants.{InUse, NoSpace, Memory, File}
 use Rattle.refusals.specs.Names.{name_of}
 use Rattle.refusals.specs.declared.numbers.TheConstants.{DEVICE}
 use Rattle.serve_lines.specs.declared.serving.Served.{Served}
@@ -17,6 +17,7 @@ use Rattle.jpstore.specs.declared.opening.Unopened.TheVariants.{NoFile, NoStore}
 abbrev pub told_of_file : FileFault → Fault
 told_of_file InUse = told.InUse
 told_of_file NoSpace = told.NoSpace
+told_of_file Memory = told.Memory
 told_of_file (File fault) = told.File fault
 
 -- of a new file that wasn't made beside the one that was opened

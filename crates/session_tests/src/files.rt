@@ -26,21 +26,27 @@ fn place(rt: &HostRuntime, abort: &impl Abort, name: &str) -> String {
     path.into_string()
 }
 
-fn create<R: Files<File = File> + Abort>(rt: &R, path: &str, sectors: u64) -> FileDevice {
-    FileDevice::create(rt, path, sectors, Blocks::Allocated, OWNER_ALONE, &mut ()).expect(
-        rt, "made",
-    )
+fn create<R: Files<File = File> + Abort>(
+    rt: &R,
+    alloc: Global,
+    path: &str,
+    sectors: u64,
+) -> FileDevice {
+    let blocks = Blocks::Allocated;
+    let made = FileDevice::create(rt, alloc, path, sectors, blocks, OWNER_ALONE, &mut ());
+    made.expect(rt, "made")
 }
 
 /// No file of `sectors` sectors is made.
-fn is_not_made<R: Files<File = File> + Abort>(rt: &R, path: &str, sectors: u64) {
-    let made = FileDevice::create(rt, path, sectors, Blocks::Allocated, OWNER_ALONE, &mut ());
+fn is_not_made<R: Files<File = File> + Abort>(rt: &R, alloc: Global, path: &str, sectors: u64) {
+    let blocks = Blocks::Allocated;
+    let made = FileDevice::create(rt, alloc, path, sectors, blocks, OWNER_ALONE, &mut ());
     assert!(rt; made.is_err());
 }
 
 /// Opens a file of which nothing is known.
 fn open<R: Files<File = File> + Abort>(rt: &R, alloc: Global, path: &str) -> FileDevice {
-    FileDevice::open(rt, path, Held::any(alloc)).expect(rt, "opened")
+    FileDevice::open(rt, alloc, path, Held::any(alloc)).expect(rt, "opened")
 }
 
 /// Why a file is not opened.
@@ -50,7 +56,10 @@ fn has_fault<R: Files<File = File> + Abort>(
     path: &str,
     fault: Option<FileFault>,
 ) {
-    assert_eq!(rt; FileDevice::open(rt, path, Held::any(alloc)).err(), fault);
+    assert_eq!(rt;
+        FileDevice::open(rt, alloc, path, Held::any(alloc)).err(),
+        fault
+    );
 }
 
 /// The file, opened for writing alone.
@@ -94,8 +103,8 @@ fn tells(rt: &impl Abort, device: &FileDevice, sectors: u64, failures: u64) {
 }
 
 /// Makes a file of three sectors, writes the last and the first of them, and settles that.
-fn write_two<R: Files<File = File> + Abort>(rt: &R, path: &str) {
-    let mut device = create(rt, path, 3);
+fn write_two<R: Files<File = File> + Abort>(rt: &R, alloc: Global, path: &str) {
+    let mut device = create(rt, alloc, path, 3);
     tells(rt, &device, 3, 0);
     fill(rt, &mut device, 2, 7);
     fill(rt, &mut device, 0, 5);
@@ -122,16 +131,68 @@ fn read_bytes(rt: &HostRuntime, abort: &impl Abort, path: &str) {
 #[test]
 fn written_sectors_are_read_back_when_the_file_is_opened_again(rt: HostRuntime) {
     let path = place(&rt, &rt, "sectors");
-    write_two(&rt, &path);
-    is_not_made(&rt, &path, 3);
+    write_two(&rt, rt.alloc(), &path);
+    is_not_made(&rt, rt.alloc(), &path, 3);
     read_three(&rt, rt.alloc(), &path);
     read_bytes(&rt, &rt, &path);
     remove(&rt, &path);
 }
 
+/// The file has three sectors, which begin with these bytes.
+fn begins_with(rt: &HostRuntime, abort: &impl Abort, path: &str, wanted: [u8; 3]) {
+    let bytes = fs::read(rt, path).expect(abort, "read");
+    assert!(abort; bytes.len() == 1536);
+    assert!(abort; [bytes[0], bytes[512], bytes[1024]] == wanted);
+}
+
+#[test]
+fn a_write_waits_for_its_neighbours_until_another_call(rt: HostRuntime) {
+    let path = place(&rt, &rt, "gathered");
+    let mut device = create(&rt, rt.alloc(), &path, 3);
+    fill(&rt, &mut device, 1, 5);
+    fill(&rt, &mut device, 2, 7);
+    begins_with(&rt, &rt, &path, [0, 0, 0]);
+    fill(&rt, &mut device, 0, 3);
+    begins_with(&rt, &rt, &path, [0, 5, 7]);
+    is_filled(&rt, &mut device, 0, 3);
+    begins_with(&rt, &rt, &path, [3, 5, 7]);
+    fill(&rt, &mut device, 0, 4);
+    is_filled(&rt, &mut device, 1, 5);
+    begins_with(&rt, &rt, &path, [4, 5, 7]);
+    fill(&rt, &mut device, 2, 8);
+    device.sync().expect(&rt, "settled");
+    begins_with(&rt, &rt, &path, [4, 5, 8]);
+    fill(&rt, &mut device, 2, 9);
+    drop(device);
+    begins_with(&rt, &rt, &path, [4, 5, 9]);
+    remove(&rt, &path);
+}
+
+/// Writes 100 sectors, each of its own byte.
+fn write_many<R: Files<File = File> + Abort>(rt: &R, alloc: Global, path: &str) {
+    let mut device = create(rt, alloc, path, 100);
+    for at in 0..100 {
+        fill(rt, &mut device, at, at as u8);
+    }
+    device.sync().expect(rt, "settled");
+}
+
+#[test]
+fn runs_longer_than_the_device_gathers_are_written_and_read(rt: HostRuntime) {
+    let path = place(&rt, &rt, "runs");
+    write_many(&rt, rt.alloc(), &path);
+    let mut again = open(&rt, rt.alloc(), &path);
+    for at in 0..100 {
+        is_filled(&rt, &mut again, at, at as u8);
+    }
+    is_filled(&rt, &mut again, 7, 7);
+    tells(&rt, &again, 100, 0);
+    remove(&rt, &path);
+}
+
 /// While a device has the file, no other has it, by any of its names.
 fn refuse_others<R: Files<File = File> + Abort>(rt: &R, alloc: Global, path: &str, link: &str) {
-    let made = create(rt, path, 3);
+    let made = create(rt, alloc, path, 3);
     has_fault(rt, alloc, path, Some(FileFault::InUse));
     drop(made);
     let opened = open(rt, alloc, path);
@@ -175,6 +236,7 @@ impl Progress for Told {
 /// Makes a file of 300 sectors, of which these reports are given.
 fn tells_of_a_new_file<R: Files<File = File> + Abort>(
     rt: &R,
+    alloc: Global,
     path: &str,
     blocks: Blocks,
     wanted: Told,
@@ -184,7 +246,7 @@ fn tells_of_a_new_file<R: Files<File = File> + Abort>(
         written: [0; 3],
         length: 0,
     };
-    let made = FileDevice::create(rt, path, 300, blocks, OWNER_ALONE, &mut told);
+    let made = FileDevice::create(rt, alloc, path, 300, blocks, OWNER_ALONE, &mut told);
     assert!(rt; made.is_ok());
     assert_eq!(rt; told, wanted);
     remove(rt, path);
@@ -198,13 +260,13 @@ fn a_new_file_is_written_piece_after_piece_unless_it_is_sparse(rt: HostRuntime) 
         written: [65_536, 131_072, 153_600],
         length: 153_600,
     };
-    tells_of_a_new_file(&rt, &path, Blocks::Allocated, pieces);
+    tells_of_a_new_file(&rt, rt.alloc(), &path, Blocks::Allocated, pieces);
     let nothing = Told {
         times: 0,
         written: [0; 3],
         length: 0,
     };
-    tells_of_a_new_file(&rt, &path, Blocks::Sparse, nothing);
+    tells_of_a_new_file(&rt, rt.alloc(), &path, Blocks::Sparse, nothing);
 }
 
 fn length_of<R: Files + Abort>(rt: &R, path: &str) -> u64 {
@@ -238,9 +300,9 @@ fn a_file_has_the_sectors_that_lie_whole_in_it(rt: HostRuntime) {
 #[test]
 fn no_file_is_longer_than_the_system_has_them(rt: HostRuntime) {
     let path = place(&rt, &rt, "long");
-    is_not_made(&rt, &path, 1 << 54);
+    is_not_made(&rt, rt.alloc(), &path, 1 << 54);
     is_missing(&rt, &path);
-    is_not_made(&rt, &path, 1 << 55);
+    is_not_made(&rt, rt.alloc(), &path, 1 << 55);
     is_missing(&rt, &path);
 }
 
@@ -250,8 +312,14 @@ fn mode_of<R: Files + Abort>(rt: &R, path: &str) -> u32 {
 }
 
 /// A new file with these rights has those permission bits.
-fn has_mode<R: Files<File = File> + Abort>(rt: &R, path: &str, rights: Rights, mode: u32) {
-    let made = FileDevice::create(rt, path, 3, Blocks::Sparse, rights, &mut ());
+fn has_mode<R: Files<File = File> + Abort>(
+    rt: &R,
+    alloc: Global,
+    path: &str,
+    rights: Rights,
+    mode: u32,
+) {
+    let made = FileDevice::create(rt, alloc, path, 3, Blocks::Sparse, rights, &mut ());
     assert!(rt; made.is_ok());
     assert_eq!(rt; mode_of(rt, path), mode);
     remove(rt, path);
@@ -260,23 +328,24 @@ fn has_mode<R: Files<File = File> + Abort>(rt: &R, path: &str, rights: Rights, m
 #[test]
 fn a_new_file_has_its_rights(rt: HostRuntime) {
     let path = place(&rt, &rt, "rights");
-    has_mode(&rt, &path, Rights::Mode(0o600), 0o600);
-    has_mode(&rt, &path, Rights::Mode(0o400), 0o400);
+    has_mode(&rt, rt.alloc(), &path, Rights::Mode(0o600), 0o600);
+    has_mode(&rt, rt.alloc(), &path, Rights::Mode(0o400), 0o400);
 }
 
 #[test]
 fn a_new_file_has_the_rights_of_another(rt: HostRuntime) {
     let path = place(&rt, &rt, "source");
     let copy = place(&rt, &rt, "copied");
-    let source = create(&rt, &path, 3);
-    has_mode_of(&rt, &source, &path, &copy, 0o604);
-    has_mode_of(&rt, &source, &path, &copy, 0o666);
+    let source = create(&rt, rt.alloc(), &path, 3);
+    has_mode_of(&rt, rt.alloc(), &source, &path, &copy, 0o604);
+    has_mode_of(&rt, rt.alloc(), &source, &path, &copy, 0o666);
     remove(&rt, &path);
 }
 
 /// A new file with the rights of another has the permission bits that this one is given.
 fn has_mode_of<R: Files<File = File> + Abort>(
     rt: &R,
+    alloc: Global,
     source: &FileDevice,
     path: &str,
     copy: &str,
@@ -285,13 +354,18 @@ fn has_mode_of<R: Files<File = File> + Abort>(
     let given = fs::set_permissions(rt, path, Permissions::from_mode(mode));
     assert!(rt; given.is_ok());
     let rights = source.rights().expect(rt, "known");
-    has_mode(rt, copy, rights, mode);
+    has_mode(rt, alloc, copy, rights, mode);
 }
 
 /// Reads a sector, which fails.
 fn fails_to_read(rt: &impl Abort, device: &mut FileDevice, at: u64) {
     assert!(rt; at < device.sectors());
     assert!(rt; device.read(at, &mut [9; 512]).is_err());
+}
+
+/// What was written can't be settled.
+fn fails_to_settle(rt: &impl Abort, device: &mut FileDevice) {
+    assert!(rt; device.sync().is_err());
 }
 
 /// Writes a sector, which fails.
@@ -301,8 +375,8 @@ fn fails_to_write(rt: &impl Abort, device: &mut FileDevice, at: u64) {
 }
 
 /// Of a file of two sectors that becomes too short for the second.
-fn fail_short<R: Files<File = File> + Abort>(rt: &R, path: &str) {
-    let mut device = create(rt, path, 2);
+fn fail_short<R: Files<File = File> + Abort>(rt: &R, alloc: Global, path: &str) {
+    let mut device = create(rt, alloc, path, 2);
     set_length(rt, path, 1000);
     fails_to_read(rt, &mut device, 1);
     tells(rt, &device, 2, 1);
@@ -312,18 +386,24 @@ fn fail_short<R: Files<File = File> + Abort>(rt: &R, path: &str) {
     tells(rt, &device, 2, 1);
 }
 
-/// Of a file that is open for writing alone, also past the end of all files.
+/// Of a file that is open for writing alone, also past the end of all files: what can't be handed over there stays in
+/// the way of each later call, but for a write to the next sector.
 fn fail_far<R: Files<File = File> + Abort>(rt: &R, alloc: Global, path: &str) {
-    let mut far = FileDevice::new(to_write(rt, path), u64::MAX, Held::any(alloc));
-    fails_to_write(rt, &mut far, 1 << 54);
+    let far = FileDevice::new(alloc, to_write(rt, path), u64::MAX, Held::any(alloc));
+    let mut far = far.expect(rt, "made");
     fails_to_read(rt, &mut far, 0);
-    tells(rt, &far, u64::MAX / 512, 2);
+    fill(rt, &mut far, 1 << 54, 7);
+    fails_to_settle(rt, &mut far);
+    fails_to_read(rt, &mut far, 0);
+    fails_to_write(rt, &mut far, 0);
+    fill(rt, &mut far, (1 << 54) + 1, 7);
+    tells(rt, &far, u64::MAX / 512, 4);
 }
 
 #[test]
 fn failed_calls_are_counted_and_later_ones_pass(rt: HostRuntime) {
     let path = place(&rt, &rt, "failures");
-    fail_short(&rt, &path);
+    fail_short(&rt, rt.alloc(), &path);
     fail_far(&rt, rt.alloc(), &path);
     remove(&rt, &path);
 }

@@ -57,7 +57,7 @@ pub fn copy_file<R: Files<File = File>, O: Write, P: Progress>(
     ensures refused { IfErr result (IsUnopenedIn held) }
     ensures unwritten { OnErr result (writer.new ≡ writer.old) }
 {
-    let device = FileDevice::open(rt, file, held)?;
+    let device = FileDevice::open(rt, alloc, file, held)?;
     let rights = device.rights()?;
     let store = store_on(alloc, device)?;
     let copied = copy_store(rt, alloc, &store, new, sectors, rights, writer, progress);
@@ -79,7 +79,7 @@ fn copy_store<R: Files<File = File>, O: Write, P: Progress>(
     ensures copied { IfOk result (IsCopiedFile sectors store.now.account) }
     ensures shown { Shows result (line_of (status_reply (status_of (account_copied store.now.account sectors)))) (O.contents writer.old) (O.contents writer.new) }
 {
-    let mut device = make_new(rt, new, sectors, rights, progress)?;
+    let mut device = make_new(rt, alloc, new, sectors, rights, progress)?;
     match fill(alloc, store, &mut device, sectors, writer) {
         Ok(()) => Ok(device),
         Err(fault) => {
@@ -92,6 +92,7 @@ fn copy_store<R: Files<File = File>, O: Write, P: Progress>(
 // Makes the file of a copy.
 fn make_new<R: Files<File = File>, P: Progress>(
     rt: &R,
+    alloc: Global,
     new: &str,
     sectors: u64,
     rights: Rights,
@@ -100,7 +101,7 @@ fn make_new<R: Files<File = File>, P: Progress>(
     ensures sectors { IfOk result (λ device. (file_disk device).sectors ≡ sectors) }
     ensures history { IfOk result (λ device. device.history ≡ Created sectors) }
 {
-    match FileDevice::create(rt, new, sectors, Blocks::Allocated, rights, progress) {
+    match FileDevice::create(rt, alloc, new, sectors, Blocks::Allocated, rights, progress) {
         Ok(device) => Ok(device),
         Err(fault) => Err(Fault::of_new(fault)),
     }
