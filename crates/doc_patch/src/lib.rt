@@ -45,7 +45,6 @@ mod read;
 mod spelling;
 mod undo;
 
-pub use doc_edits::index_within;
 pub use document::{Document, Reversal};
 pub use fault::PatchFault;
 pub use patch::Patch;

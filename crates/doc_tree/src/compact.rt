@@ -3,6 +3,7 @@
 //! It states nothing of what it answers: its callers compare the tree's text with the bytes (`Tree::strip_text`), and
 //! read with `Tree::read` if nothing is answered. So all that is proved here is that it ends and never panics, whatever
 //! the bytes are.
+use crate::strip::strip_byte;
 use crate::tree::Tree;
 use std::alloc::Global;
 use std::collections::BTreeMap;
@@ -18,8 +19,8 @@ impl Tree {
     /// A document whose compact text the bytes may begin with, and what follows it.
     ///
     /// Nothing is stated of the answer: `strip_text` says whether the bytes begin with that document's text. `None`
-    /// says nothing either. It is answered if there is no compact text, and also if that has an escape or the number
-    /// -2^63, is over 127 levels deep, or memory is refused.
+    /// says nothing either. It is answered if there is no compact text, as soon as a name doesn't come after the one
+    /// before it, and also if the text has an escape or the number -2^63, is over 127 levels deep, or memory is refused.
     pub fn read_compact(alloc: Global, bytes: &[u8]) -> Option<(Tree, &[u8])> {
         value(alloc, MOST_LEVELS, bytes)
     }
@@ -29,13 +30,17 @@ impl Tree {
 ///
 /// As with `Tree::read_compact`, nothing is stated of the answer: `strip_quoted` says.
 pub fn read_unescaped(alloc: Global, bytes: &[u8]) -> Option<(String, &[u8])> {
-    let inside = bytes.strip_prefix(b"\"")?;
+    let (text, rest) = unescaped(bytes)?;
+    Some((String::from_str(alloc, text).ok()?, rest))
+}
+
+// The same as a part of the bytes.
+fn unescaped(bytes: &[u8]) -> Option<(&str, &[u8])> {
+    let inside = strip_byte(b'"', bytes)?;
     let end = inside.iter().position(|byte| ends_plain(*byte))?;
     let (plain, rest) = inside.split_at(end);
-    let rest = rest.strip_prefix(b"\"")?;
-    let text = str::from_utf8(plain).ok()?;
-    let text = String::from_str(alloc, text).ok()?;
-    Some((text, rest))
+    let rest = strip_byte(b'"', rest)?;
+    Some((str::from_utf8(plain).ok()?, rest))
 }
 
 #[cycle(compact)]
@@ -58,44 +63,58 @@ fn value(alloc: Global, levels: u32, bytes: &[u8]) -> Option<(Tree, &[u8])> {
 #[cycle(compact)]
 fn elements(alloc: Global, levels: u32, bytes: &[u8]) -> Option<(Tree, &[u8])> {
     let mut items = Vec::new(alloc);
-    if let Some(rest) = bytes.strip_prefix(b"]") {
+    if let Some(rest) = strip_byte(b']', bytes) {
         return Some((Tree::List(items), rest));
     }
     let mut next = bytes;
     for _ in 0..bytes.len() {
         let (item, rest) = value(alloc, levels, next)?;
         items.push(item).ok()?;
-        if let Some(rest) = rest.strip_prefix(b"]") {
+        if let Some(rest) = strip_byte(b']', rest) {
             return Some((Tree::List(items), rest));
         }
-        next = rest.strip_prefix(b",")?;
+        next = strip_byte(b',', rest)?;
     }
     None
 }
 
-// The members after the opening brace.
+// The members after the opening brace, as long as their names come in order.
 #[cycle(compact)]
 fn members(alloc: Global, levels: u32, bytes: &[u8]) -> Option<(Tree, &[u8])> {
     let mut found = BTreeMap::new(alloc);
-    if let Some(rest) = bytes.strip_prefix(b"}") {
+    if let Some(rest) = strip_byte(b'}', bytes) {
         return Some((Tree::Object(found), rest));
     }
     let mut next = bytes;
+    let mut last = None;
     for _ in 0..bytes.len() {
-        let (name, rest) = read_unescaped(alloc, next)?;
-        let (member, rest) = value(alloc, levels, rest.strip_prefix(b":")?)?;
-        found.insert(name, member).ok()?;
-        if let Some(rest) = rest.strip_prefix(b"}") {
+        let (name, rest) = unescaped(next)?;
+        if !comes_after(name.as_bytes(), last) {
+            return None;
+        }
+        last = Some(name.as_bytes());
+        let (member, rest) = value(alloc, levels, strip_byte(b':', rest)?)?;
+        found
+            .insert(String::from_str(alloc, name).ok()?, member)
+            .ok()?;
+        if let Some(rest) = strip_byte(b'}', rest) {
             return Some((Tree::Object(found), rest));
         }
-        next = rest.strip_prefix(b",")?;
+        next = strip_byte(b',', rest)?;
     }
     None
+}
+
+fn comes_after(name: &[u8], last: Option<&[u8]>) -> bool {
+    match last {
+        Some(last) => last < name,
+        None => true,
+    }
 }
 
 // The number that the bytes begin with, also if it has a superfluous 0 in front.
 fn number(bytes: &[u8]) -> Option<(Tree, &[u8])> {
-    let (negative, unsigned) = match bytes.strip_prefix(b"-") {
+    let (negative, unsigned) = match strip_byte(b'-', bytes) {
         Some(unsigned) => (true, unsigned),
         None => (false, bytes),
     };

@@ -31,9 +31,9 @@ pub fn strip_quoted<'b>(text: &str, bytes: &'b [u8]) -> Option<&'b [u8]>
     if !is_plain(text.as_bytes()) {
         return None;
     }
-    let inside = strip_bytes(b"\"", bytes)?;
+    let inside = strip_byte(b'"', bytes)?;
     let rest = strip_bytes(text.as_bytes(), inside)?;
-    strip_bytes(b"\"", rest)
+    strip_byte(b'"', rest)
 }
 
 /// The rest of the second bytes after the first ones, if they begin with these.
@@ -41,6 +41,16 @@ pub fn strip_bytes<'b>(first: &[u8], bytes: &'b [u8]) -> Option<&'b [u8]>
     ensures { IfSome result (λ rest. bytes.now ≡ first.now ++ rest.now) }
 {
     bytes.strip_prefix(first)
+}
+
+/// What follows that byte, in bytes that begin with it.
+pub(crate) fn strip_byte(byte: u8, bytes: &[u8]) -> Option<&[u8]>
+    ensures { IfSome result (λ rest. bytes.now ≡ byte ∷ rest.now) }
+{
+    match bytes.split_first() {
+        Some((first, rest)) if *first == byte => Some(rest),
+        _ => None,
+    }
 }
 
 #[cycle(strip)]
@@ -53,8 +63,8 @@ fn strip_tree_text<'b>(tree: &Tree, bytes: &'b [u8]) -> Option<&'b [u8]>
         Tree::Bool(false) => strip_bytes(b"false", bytes),
         Tree::Int(n) => after_int(*n, bytes),
         Tree::Text(text) => strip_quoted(text.as_str(), bytes),
-        Tree::List(items) => after_elements(items, strip_bytes(b"[", bytes)?),
-        Tree::Object(members) => after_members(members, strip_bytes(b"{", bytes)?),
+        Tree::List(items) => after_elements(items, strip_byte(b'[', bytes)?),
+        Tree::Object(members) => after_members(members, strip_byte(b'{', bytes)?),
     }
 }
 
@@ -68,7 +78,7 @@ fn after_elements<'b>(items: &Vec<Tree>, bytes: &'b [u8]) -> Option<&'b [u8]>
         rest = strip_tree_text(item, after_comma(later, rest)?)?;
         later = true;
     }
-    strip_bytes(b"]", rest)
+    strip_byte(b']', rest)
 }
 
 #[cycle(strip)]
@@ -79,10 +89,10 @@ fn after_members<'b>(members: &BTreeMap<String, Tree>, bytes: &'b [u8]) -> Optio
     let mut later = false;
     for (name, member) in members.iter() {
         let named = strip_quoted(name.as_str(), after_comma(later, rest)?)?;
-        rest = strip_tree_text(member, strip_bytes(b":", named)?)?;
+        rest = strip_tree_text(member, strip_byte(b':', named)?)?;
         later = true;
     }
-    strip_bytes(b"}", rest)
+    strip_byte(b'}', rest)
 }
 
 // What follows the comma before all but the first.
@@ -90,7 +100,7 @@ fn after_comma(later: bool, bytes: &[u8]) -> Option<&[u8]>
     ensures { IfSome result (λ rest. bytes.now ≡ comma_if later ++ rest.now) }
 {
     if later {
-        strip_bytes(b",", bytes)
+        strip_byte(b',', bytes)
     } else {
         Some(bytes)
     }

@@ -1,15 +1,17 @@
 //! The requests of lines.
-ghost use Rattle.std.specs.Prelude.{◌≡◌, ◌≤◌, ◌↔◌, length, codes, IfOk, IsTrue, MatchOption};
+ghost use Rattle.std.specs.Prelude.{◌≡◌, ◌≤◌, ◌↔◌, length, codes, IfErr, IfOk, IsTrue, MatchOption};
 ghost use Rattle.doc_tree.specs.Cursor.{IsNext, ahead};
 ghost use Rattle.doc_tree.specs.Doc.{Elements, object};
+ghost use Rattle.doc_tree.specs.Fault.{IsFaultOf};
+ghost use Rattle.doc_tree.specs.Read.{document, read_of};
 ghost use Rattle.doc_tree.specs.TreeView.{elements_view, view};
 ghost use Rattle.protocol.specs.Read.{AreCommands, AsksWith, IsRequest, ReadsRequest, transaction_members};
 
 use crate::limits::{LINE_BYTES, PUMP_SECTORS};
 use doc_machine::limits::TRANSACTION_CHANGES;
 use doc_machine::{Command, Refusal, Transaction};
-use doc_tree::{MemberCursor, Tree};
-use record_text::{command_from, command_with};
+use doc_tree::{MemberCursor, Tree, TreeFault};
+use record_text::{command_from, command_with, plain_tree};
 use refusals::numbers::COMMAND;
 use std::alloc::{AllocError, Global};
 
@@ -44,9 +46,20 @@ pub fn read_request(alloc: Global, line: &[u8]) -> Result<Request, Refusal>
     requires { length line.now ≤ LINE_BYTES }
     ensures { ReadsRequest line.now result }
 {
-    match Tree::read(alloc, line) {
+    match document_in(alloc, line) {
         Ok(tree) => request_in(alloc, tree)?.ok_or(Refusal::plain(COMMAND)),
         Err(fault) => Err(Refusal::plain(fault.number)),
+    }
+}
+
+// The document that the line is. A line that is a compact text is read quickly, and `Tree::read` answers any other.
+fn document_in(alloc: Global, line: &[u8]) -> Result<Tree, TreeFault>
+    ensures ok { IfOk result (λ t. read_of line.now ≡ document (view t)) }
+    ensures err { IfErr result (λ e. IsFaultOf e (read_of line.now)) }
+{
+    match plain_tree(alloc, line) {
+        Some(tree) => Ok(tree),
+        None => Tree::read(alloc, line),
     }
 }
 

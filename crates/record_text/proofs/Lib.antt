@@ -4,3 +4,4 @@ pub mod Frames
 pub mod Spelling
 pub mod Parts
 mod Patches
+pub mod Bodies

@@ -3,4 +3,4 @@ pub mod Record
 pub mod Frame
 pub mod Fault
 pub mod Parts
-pub mod Creation
+pub mod Body

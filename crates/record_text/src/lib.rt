@@ -6,6 +6,7 @@
 //! (`laws`).
 #![tactic(auto)]
 
+mod body;
 mod command;
 mod fault;
 pub mod laws;
@@ -19,6 +20,7 @@ mod write;
 pub use command::Command;
 pub use fault::RecordFault;
 pub use lent::{PatchFrame, patch_frame};
+pub use plain::plain_tree;
 pub use read::{read_frame, read_frame_1};
 pub use shape::{command_from, command_of, command_with};
 pub use write::{creation_frame, frame, frame_1};

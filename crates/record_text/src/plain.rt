@@ -41,10 +41,14 @@ pub(crate) fn plain_patch(alloc: Global, body: &[u8]) -> Option<Command>
     })
 }
 
-/// The tree whose compact text the bytes are.
-pub(crate) fn plain_tree(alloc: Global, bytes: &[u8]) -> Option<Tree>
+/// The tree whose compact text the bytes are, if it is at most 127 high.
+pub fn plain_tree(alloc: Global, bytes: &[u8]) -> Option<Tree>
     ensures { IfSome result (λ t. IsTextOf bytes.now (view t)) }
 {
+    // The quick reader would give up there, maybe late.
+    if bytes.contains(&b'\\') {
+        return None;
+    }
     let (tree, _) = Tree::read_compact(alloc, bytes)?;
     if !tree.strip_text(bytes)?.is_empty() || tree.height() > TEXT_HEIGHT {
         return None;

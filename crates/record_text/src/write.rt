@@ -1,17 +1,22 @@
 //! The frame of a command, written.
-ghost use Rattle.std.specs.Prelude.{◌≡◌, ◌≤◌, ◌<◌, ◌^◌, ◌++◌, length, IfOk, MatchResult};
+ghost use Rattle.std.specs.Prelude.{◌≡◌, ◌≤◌, ◌<◌, ◌^◌, ◌∷◌, ◌++◌, drop, length, IfOk, MatchResult};
 ghost use Rattle.std.specs.Int.{w32, to_be_bytes};
 ghost use Rattle.doc_tree.specs.Sound.{IsSound};
 ghost use Rattle.doc_tree.specs.TreeView.{view};
-ghost use Rattle.record_text.specs.Change.{AsksNone, change_of, create, object_of};
+ghost use Rattle.record_text.specs.Change.{AsksNone, IsSpelled, change_of, create, object_of};
 ghost use Rattle.record_text.specs.Fault.{IsLong, IsWriteFault, IsWriteFault_1};
 ghost use Rattle.record_text.specs.Frame.{body_of, entry, frame_of, frame_1_of};
 
-use crate::command::{Command, Creation};
+use crate::body::{put_command, put_create};
+use crate::command::Command;
 use crate::fault::RecordFault;
 use crate::limits::BODY_LIMIT;
 use doc_tree::Tree;
+use json::Writer;
 use std::alloc::{AllocError, Global};
+
+// Bytes for which a frame has room at first.
+const FIRST_ROOM: usize = 140;
 
 /// The command's frame with that seq, in format 2: the length of its body in 4 bytes and the seq in 8, the
 /// highest first, and the body, the compact text of the command's object.
@@ -27,8 +32,7 @@ pub fn frame(alloc: Global, command: &Command, seq: u64) -> Result<Vec<u8>, Reco
     if !command.is_spelled() {
         return Err(RecordFault::Shape);
     }
-    let body = body_text(alloc, command)?;
-    Ok(framed(alloc, &seq.to_be_bytes(), &body)?)
+    framed(alloc, &seq.to_be_bytes(), command)
 }
 
 /// The command's frame in format 1, which has no seq.
@@ -45,8 +49,7 @@ pub fn frame_1(alloc: Global, command: &Command) -> Result<Vec<u8>, RecordFault>
     if !command.asks_none() {
         return Err(RecordFault::Shape);
     }
-    let body = body_text(alloc, command)?;
-    Ok(framed(alloc, &[], &body)?)
+    framed(alloc, &[], command)
 }
 
 /// The frame, with that revision, of the command that makes a document of that name, with that schema and value. None
@@ -62,38 +65,74 @@ pub fn creation_frame(
     ensures { IfOk result (λ bytes. bytes.items
         ≡ frame_of (entry revision (create name.now (view schema.now) (view doc.now)))) }
 {
-    let creation = Creation { name, schema, doc };
-    let Ok(body) = serde_json::to_vec(alloc, &creation) else {
-        return Err(AllocError);
-    };
-    framed(alloc, &revision.to_be_bytes(), &body)
+    let head = head_of(alloc, &revision.to_be_bytes())?;
+    let whole = with_creation(head, name, schema, doc)?;
+    let len = (whole.len() - 12) as u32;
+    Ok(with_length(whole, len))
 }
 
-// The compact text of a command's object, if the revision that it asks for can be spelled.
-fn body_text(alloc: Global, command: &Command) -> Result<Vec<u8>, RecordFault>
-    ensures body { MatchResult result (λ bytes. bytes.items ≡ body_of (change_of command.now))
-        (λ e. IsLong e (body_of (change_of command.now))) }
-    ensures small { IfOk result (λ bytes. length bytes.items ≤ 4194304) }
+// The frame of a command, if the revision that it asks for can be spelled. Its text is written once, after the head.
+fn framed(alloc: Global, stamp: &[u8], command: &Command) -> Result<Vec<u8>, RecordFault>
+    requires stamp { length stamp.now ≤ 8 }
+    requires spelled { IsSpelled (change_of command.now) }
+    ensures frame { let body = body_of (change_of command.now) in MatchResult result
+        (λ bytes. bytes.items ≡ to_be_bytes w32 (length body) ++ stamp.now ++ body) (λ e. IsLong e body) }
+    ensures small { IfOk result (λ _. length (body_of (change_of command.now)) ≤ 4194304) }
     ensures sound { IfOk result (λ _. IsSound (object_of (change_of command.now))) }
 {
-    let Ok(body) = serde_json::to_vec(alloc, command) else {
-        return Err(RecordFault::Memory);
-    };
-    if body.len() > BODY_LIMIT {
+    let head = head_of(alloc, stamp)?;
+    let whole = with_body(head, command)?;
+    let len = whole.len() - 4 - stamp.len();
+    if len > BODY_LIMIT {
         return Err(RecordFault::Long);
     }
-    Ok(body)
+    Ok(with_length(whole, len as u32))
 }
 
-// A body after its length, and what is between the two.
-fn framed(alloc: Global, stamp: &[u8], body: &[u8]) -> Result<Vec<u8>, AllocError>
-    requires stamp { length stamp.now ≤ 8 }
-    requires small { length body.now ≤ 4194304 }
-    ensures { IfOk result (λ bytes. bytes.items ≡ to_be_bytes w32 (length body.now) ++ stamp.now ++ body.now) }
+// Room for a length, and what is between it and the body.
+fn head_of(alloc: Global, stamp: &[u8]) -> Result<Vec<u8>, AllocError>
+    ensures { IfOk result (λ bytes. bytes.items ≡ 0 ∷ 0 ∷ 0 ∷ 0 ∷ stamp.now) }
 {
-    let mut bytes = Vec::with_capacity(alloc, 4 + stamp.len() + body.len())?;
-    bytes.extend_from_slice(&(body.len() as u32).to_be_bytes())?;
+    let mut bytes = Vec::with_capacity(alloc, FIRST_ROOM)?;
+    bytes.extend_from_slice(&[0, 0, 0, 0])?;
     bytes.extend_from_slice(stamp)?;
-    bytes.extend_from_slice(body)?;
     Ok(bytes)
+}
+
+// The head, and after it the compact text of a command's object.
+fn with_body(head: Vec<u8>, command: &Command) -> Result<Vec<u8>, AllocError>
+    requires { IsSpelled (change_of command.now) }
+    ensures body { IfOk result (λ bytes. bytes.items ≡ head.items ++ body_of (change_of command.now)) }
+    ensures sound { IfOk result (λ _. IsSound (object_of (change_of command.now))) }
+{
+    let mut out = Writer::new(head);
+    put_command(command, &mut out)?;
+    Ok(out.into_inner())
+}
+
+// The same for the creation of a document.
+fn with_creation(
+    head: Vec<u8>,
+    name: &str,
+    schema: &Tree,
+    doc: &Tree,
+) -> Result<Vec<u8>, AllocError>
+    ensures { IfOk result (λ bytes. bytes.items
+        ≡ head.items ++ body_of (create name.now (view schema.now) (view doc.now))) }
+{
+    let mut out = Writer::new(head);
+    put_create(name, schema, doc, &mut out)?;
+    Ok(out.into_inner())
+}
+
+// The bytes with that length in the room for it.
+fn with_length(bytes: Vec<u8>, len: u32) -> Vec<u8>
+    requires { 4 ≤ length bytes.items }
+    ensures { result.items ≡ to_be_bytes w32 len ++ drop 4 bytes.items }
+{
+    let mut whole = bytes;
+    if let Some(first) = whole.as_mut_slice().first_chunk_mut::<4>() {
+        *first = len.to_be_bytes();
+    }
+    whole
 }

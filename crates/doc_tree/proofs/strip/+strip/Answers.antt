@@ -25,7 +25,7 @@ after_elements-returns t c =
     let goes : (more : List ℕ) → l.rest.now ≡ 93 ∷ more → c.args.bytes.now ≡ elements_text false (elements_view c.args.items.now.items) ++ more =
     λ more is. l.invariant more (is ∙ ap (λ ys. elements_text l.later (elements_view ys) ++ more) (sym none))
     ∙ ap (λ ys. elements_text false (elements_view ys) ++ more) c.deref-item-items.ensures.value in
-    ended 93 (elements_text false (elements_view c.args.items.now.items)) c.args.bytes.now l.rest.now c.strip_bytes.result goes c.strip_bytes.ensures
+    ended 93 (elements_text false (elements_view c.args.items.now.items)) c.args.bytes.now l.rest.now c.strip_byte.result goes c.strip_byte.ensures
 
 pub after_members-loop-name-preserved : goal.after_members-loop-name-preserved
 after_members-loop-name-preserved t c = λ more rest.
@@ -34,7 +34,7 @@ after_members-loop-name-preserved t c = λ more rest.
     let name = subst (λ k. c.in_ok-after_comma.field-0.now ≡ quoted k ++ c.in_ok-named.named.now) c.as_str.ensures.value c.in_ok-named.ensures in
     let after = c.in_ok-after_comma.field-0.now in
     let here = one_member l.later (string_bytes c.in-Some.name.now) (view c.in-Some.member.now) left l.rest.now after c.in_ok-named.named.now
-    c.in_ok-strip_bytes.field-0.now c.in_ok-rest.rest.now more c.in_ok-after_comma.ensures name c.in_ok-strip_bytes.ensures c.in_ok-rest.ensures rest in
+    c.in_ok-strip_byte.field-0.now c.in_ok-rest.rest.now more c.in_ok-after_comma.ensures name c.in_ok-strip_byte.ensures c.in_ok-rest.ensures rest in
     l.invariant more (here ∙ ap (λ ys. members_text_of l.later (members_view ys) ++ more) (sym c.in-Some.ensures.steps))
 
 pub after_members-returns : goal.after_members-returns
@@ -44,4 +44,4 @@ after_members-returns t c =
     let goes : (more : List ℕ) → l.rest.now ≡ 125 ∷ more → c.args.bytes.now ≡ members_text_of false (members_view c.args.members.now.entries) ++ more =
     λ more is. l.invariant more (is ∙ ap (λ ys. members_text_of l.later (members_view ys) ++ more) (sym c.in-None.ensures.steps.0))
     ∙ ap (λ ys. members_text_of false (members_view ys) ++ more) all in
-    ended 125 (members_text_of false (members_view c.args.members.now.entries)) c.args.bytes.now l.rest.now c.strip_bytes-2.result goes c.strip_bytes-2.ensures
+    ended 125 (members_text_of false (members_view c.args.members.now.entries)) c.args.bytes.now l.rest.now c.strip_byte-2.result goes c.strip_byte-2.ensures

@@ -1,0 +1,20 @@
+use Rattle.std.proofs.Common.{[], ◌∷◌, ◌++◌, codes}
+use Rattle.std.proofs.lemmas.Result.{on_ok_weaker}
+use Rattle.json.specs.Token.{begin_object, end_object, key, string}
+use Rattle.record_text.proofs.Bodies.{both}
+use Rattle.record_text.proofs.Objects.{IsSound-delete}
+use Rattle.record_text.proofs.body.put_delete.Goals as goal
+
+pub returns-clause-adds : goal.returns-clause-adds
+returns-clause-adds c =
+    let end = c.end_object.new.self in
+    let closed = end_object ∷ [] in
+    let head = begin_object ∷ key (codes "cmd") ∷ string (codes "delete") ∷ [] in
+    let name = key (codes "name") ∷ string c.args.name.now ∷ [] in
+    on_ok_weaker c.end_object.result (λ last.
+    both head (name ++ closed) c.args.out.now c.begin.new.out end c.in_ok-begin.ensures
+    (both name closed c.begin.new.out c.put_name.new.out end c.in_ok-put_name.ensures
+    (c.end_object.ensures.room.0, last))) c.end_object.ensures.ok
+
+pub returns-clause-sound : goal.returns-clause-sound
+returns-clause-sound c = on_ok_weaker c.end_object.result (λ _. IsSound-delete _ c.utf8.name) c.end_object.ensures.ok

@@ -1,7 +1,0 @@
-use Rattle.std.proofs.lemmas.Result.{on_ok_weaker}
-use Rattle.std.proofs.lemmas.Str.{IsUtf8-string_bytes}
-use Rattle.record_text.proofs.Objects.{IsSound-set_schema}
-use Rattle.record_text.proofs.command.send_schema.Goals as goal
-
-pub returns-clause-sound : goal.returns-clause-sound
-returns-clause-sound g c = on_ok_weaker c.end_map.result (λ _. IsSound-set_schema _ _ (IsUtf8-string_bytes c.args.name.now) c.in_ok-serialize.ensures.1) c.end_map.ensures
