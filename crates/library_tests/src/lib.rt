@@ -15,6 +15,8 @@ mod frames;
 #[cfg(test)]
 mod lives;
 #[cfg(test)]
+mod members;
+#[cfg(test)]
 mod nodelists;
 #[cfg(test)]
 mod patches;
