@@ -3,8 +3,8 @@
 
     memory_of_documents.py PROGRAM
 
-A store gets three documents of some 1,000,000 bytes each. The figure is the growth of the resident memory, divided by the
-length of the three texts. README and the guide have these figures.
+A store gets twelve documents of some 1,000,000 bytes each. The figure is the growth of the resident memory, divided by the
+length of the twelve texts. README and the guide have these figures.
 """
 import json
 import pathlib
@@ -13,7 +13,7 @@ import subprocess
 import sys
 import tempfile
 
-DOCUMENTS = 3
+DOCUMENTS = 12
 FORMS = {
     "one long text": "x" * 1_000_000,
     "records with longer texts": [{"host": f"server-{i}.example.org", "port": 8080, "note": "x" * 200} for i in range(3_800)],
@@ -40,7 +40,7 @@ def answer(process, command):
 
 def times(program, file, doc):
     """The memory of the documents, as a multiple of their texts."""
-    subprocess.run([program, "format", file, "--sectors", "32768", "--sparse"], check=True, stdout=subprocess.DEVNULL)
+    subprocess.run([program, "format", file, "--sectors", "65536", "--sparse"], check=True, stdout=subprocess.DEVNULL)
     with subprocess.Popen([program, "serve", file], stdin=subprocess.PIPE, stdout=subprocess.PIPE) as process:
         answer(process, {"cmd": "status"})
         before = resident(process)

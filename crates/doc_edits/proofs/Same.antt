@@ -1,5 +1,5 @@
 -- A child written over by itself changes nothing.
-use Rattle.std.proofs.Common.{◌≡◌, ℕ, zero, suc, List, Option, Some, None, option_and_then, Ordering, Less, Equal, Greater, Result, Ok, Err, OnErr, nat_cmp, String, Global, BTreeMap, refl, sym, ap, ◌∙◌}
+use Rattle.std.proofs.Common.{◌≡◌, ℕ, zero, suc, List, Option, Some, None, option_and_then, Ordering, Less, Equal, Greater, Result, Ok, Err, OnErr, nat_cmp, String, Global, refl, sym, ap, ◌∙◌}
 use Rattle.std.specs.Cmp.Lexicographic.{slice_cmp}
 use Rattle.std.specs.Ordering.{match_ordering}
 use Rattle.doc_tree.specs.Doc.{Doc, list, object, Elements, no_elements, element, Members, no_members, member, get_member, get_element}
@@ -11,6 +11,7 @@ use Rattle.doc_pointer.specs.Place.{child_named}
 use Rattle.doc_edits.specs.Edit.{Token, elements_len, index_below, set_element, set_member, with_child, set_at}
 use Rattle.doc_edits.proofs.Indices.{child_named-list}
 use Rattle.doc_edits.specs.declared.fault.OperationFault.{OperationFault}
+use Rattle.name_map.specs.Entries.{Entries}
 
 set_same_at : (o : Ordering) (l : List ℕ) (c d : Doc) (g : Option Doc) (ms ns : Members) → match_ordering o g (Some d) g ≡ Some c → (g ≡ Some c → ns ≡ ms) → match_ordering o (member l d ns) (member l c ms) (member l d ns) ≡ member l d ms
 set_same_at Less l c d g ms ns h rest = ap (member l d) (rest h)
@@ -45,5 +46,5 @@ object_is ms (object ns) h = let same : ms ≡ ns = cc in ap object same
 object_is ms _ h = absurd (cc)
 
 -- an object in which nothing was found is as it was
-pub looked_in : (d : Doc) (m n : BTreeMap (String Global) Tree) → n ≡ m → Some (members_view m.entries) ≡ as_object d → view (Object n) ≡ d
-looked_in d m n same h = view-Object n ∙ ap (λ (x : BTreeMap (String Global) Tree). object (members_view x.entries)) same ∙ object_is (members_view m.entries) d h
+pub looked_in : (d : Doc) (m n : Entries Tree) → n ≡ m → Some (members_view m.entries) ≡ as_object d → view (Object n) ≡ d
+looked_in d m n same h = view-Object n ∙ ap (λ (x : Entries Tree). object (members_view x.entries)) same ∙ object_is (members_view m.entries) d h

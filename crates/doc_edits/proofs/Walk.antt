@@ -1,5 +1,5 @@
 -- One step of the walk: what is done in a child, seen from its parent.
-use Rattle.std.proofs.Common.{◌≡◌, ℕ, ◌-◌, ◌<◌, ◌≤◌, List, [], ◌∷◌, length, get_or, take, drop, take_all, String, string_bytes, Vec, BTreeMap, Global, nat_cmp, option_and_then, slice_set, arith, Option, Some, None, option_map, Result, MatchResult, inl, inr, sym, ap, ◌∙◌, Ok, Err}
+use Rattle.std.proofs.Common.{◌≡◌, ℕ, ◌-◌, ◌<◌, ◌≤◌, List, [], ◌∷◌, length, get_or, take, drop, take_all, String, string_bytes, Vec, Global, nat_cmp, option_and_then, slice_set, arith, Option, Some, None, option_map, Result, MatchResult, inl, inr, sym, ap, ◌∙◌, Ok, Err}
 use Rattle.std.specs.Cmp.Lexicographic.{slice_cmp}
 use Rattle.std.specs.Map.{lookup, set_value}
 use Rattle.std.specs.BTreeMap.{is_at}
@@ -15,6 +15,7 @@ use Rattle.doc_edits.specs.Edit.{Token, Tokens, elements_len, index_below}
 use Rattle.doc_edits.proofs.Indices.{child_named-list, index_in}
 use Rattle.doc_edits.proofs.Views.{members_view-set_value, elements_view-set}
 use Rattle.doc_edits.specs.declared.fault.OperationFault.{OperationFault}
+use Rattle.name_map.specs.Entries.{Entries}
 
 abbrev pub Does : Type 0
 Does = Token → Doc → Option Doc
@@ -52,11 +53,11 @@ child_of_object : (t : Token) (d : Doc) (ms : Members) → Some ms ≡ as_object
 child_of_object t (object ns) ms e = let same : ms ≡ ns = cc in ap (get_member t) (sym same)
 child_of_object t _ ms e = absurd (cc)
 
-pub found_in_object : (t : Token) (d : Doc) (m : BTreeMap (String Global) Tree) (child : Tree) → Some (members_view m.entries) ≡ as_object d
+pub found_in_object : (t : Token) (d : Doc) (m : Entries Tree) (child : Tree) → Some (members_view m.entries) ≡ as_object d
     → Some child ≡ lookup (is_at (λ k. slice_cmp nat_cmp t (string_bytes k))) m.entries → child_named t d ≡ Some (view child)
 found_in_object t d m child e h = child_of_object t d _ e ∙ sym (view-lookup t m.entries) ∙ ap (option_map view) (sym h)
 
-pub not_in_object : (t : Token) (d : Doc) (m : BTreeMap (String Global) Tree) → Some (members_view m.entries) ≡ as_object d
+pub not_in_object : (t : Token) (d : Doc) (m : Entries Tree) → Some (members_view m.entries) ≡ as_object d
     → None ≡ lookup (is_at (λ k. slice_cmp nat_cmp t (string_bytes k))) m.entries → child_named t d ≡ None
 not_in_object t d m e h = child_of_object t d _ e ∙ sym (view-lookup t m.entries) ∙ ap (option_map view) (sym h)
 
@@ -64,7 +65,7 @@ object_with_child : (t : Token) (v d : Doc) (ms : Members) → Some ms ≡ as_ob
 object_with_child t v (object ns) ms e = let same : ms ≡ ns = cc in ap (λ m. object (set_member t v m)) same
 object_with_child t v _ ms e = absurd (cc)
 
-pub written_in_object : (t : Token) (d : Doc) (m n : BTreeMap (String Global) Tree) (new : Tree) → Some (members_view m.entries) ≡ as_object d
+pub written_in_object : (t : Token) (d : Doc) (m n : Entries Tree) (new : Tree) → Some (members_view m.entries) ≡ as_object d
     → n.entries ≡ set_value (is_at (λ k. slice_cmp nat_cmp t (string_bytes k))) m.entries new → view (Object n) ≡ with_child t (view new) d
 written_in_object t d m n new e h = view-Object n ∙ ap (λ es. object (members_view es)) h ∙ ap object (members_view-set_value t m.entries new) ∙ object_with_child t (view new) d _ e
 

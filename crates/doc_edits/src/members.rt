@@ -15,14 +15,14 @@ use crate::change::Made;
 use crate::fault::{MISSING, OperationFault};
 use crate::limits::DOCUMENT_BYTES;
 use doc_tree::{Tree, quoted_len_within};
+use name_map::NameMap;
 use std::alloc::Global;
-use std::collections::BTreeMap;
 use std::mem;
 
 /// Adds a new member, or replaces the value of one that is there (RFC 6902, section 4.1).
 pub fn add(
     alloc: Global,
-    members: &mut BTreeMap<String, Tree>,
+    members: &mut NameMap<Tree>,
     name: &str,
     value: Tree,
 ) -> Result<Made, OperationFault>
@@ -50,7 +50,7 @@ pub fn add(
 }
 
 /// Removes a member that is there (RFC 6902, section 4.2).
-pub fn remove(members: &mut BTreeMap<String, Tree>, name: &str) -> Result<Made, OperationFault>
+pub fn remove(members: &mut NameMap<Tree>, name: &str) -> Result<Made, OperationFault>
     ensures made { let made = edit.remove_member name.now (members_view members.old.entries) in
         MatchResult result (λ _. made ≡ Some (members_view members.new.entries)) (IsMissing made) }
     ensures taken { IfOk result (λ m. option_map view m.old
@@ -70,11 +70,7 @@ pub fn remove(members: &mut BTreeMap<String, Tree>, name: &str) -> Result<Made, 
 }
 
 /// Replaces the value of a member that is there (RFC 6902, section 4.3).
-pub fn replace(
-    members: &mut BTreeMap<String, Tree>,
-    name: &str,
-    value: Tree,
-) -> Result<Made, OperationFault>
+pub fn replace(members: &mut NameMap<Tree>, name: &str, value: Tree) -> Result<Made, OperationFault>
     ensures made { let made = edit.replace_member (view value) name.now (members_view members.old.entries) in
         MatchResult result (λ _. made ≡ Some (members_view members.new.entries)) (IsMissing made) }
     ensures sized { IfOk result (λ m. Grows (change.Replace value) m

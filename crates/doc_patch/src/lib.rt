@@ -24,10 +24,10 @@
 //!   what is found goes with it, so that the operation that takes it from there walks over nothing. A value that it
 //!   replaces goes, and is walked over.
 //! - `test`: a comparison up to the first difference.
-//! - in an array `add`, `remove` and `move` shift all elements after the index, as a `Vec` does:
-//!   an insertion at the front of 500,000 elements moves some 16 MB.
+//! - in an array `add`, `remove` and `move` shift all elements after the index, and in an object all members after the
+//!   name, as a `Vec` does: an insertion at the front of 500,000 elements moves some 16 MB.
 //! - if it can be taken back, what an operation replaces is copied first, to be put back. The first `remove` or
-//!   `move` of a patch copies the whole document: a `BTreeMap` may need memory to take a member again, which taking back
+//!   `move` of a patch copies the whole document: an object may need memory to take a member again, which taking back
 //!   can't ask for.
 #![tactic(auto)]
 

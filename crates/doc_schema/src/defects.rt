@@ -8,8 +8,8 @@ ghost use Rattle.doc_schema.specs.Positions.{positions};
 ghost use Rattle.doc_schema.specs.Schemas.{schemas_in, schemas_each, schemas_named, schemas_below};
 
 use doc_tree::Tree;
+use name_map::NameMap;
 use schema_rules::{Keyword, Shape, has_form, is_dangling, is_left_out, keyword_named, shape_of};
-use std::collections::BTreeMap;
 
 /// A defect of a position.
 #[derive(Clone, Copy, Drop, PartialEq, Eq)]
@@ -46,12 +46,7 @@ fn is_defective(defect: Defect, root: &Tree, at_root: bool, schema: &Tree) -> bo
     }
 }
 
-fn some_member_is_wrong(
-    defect: Defect,
-    root: &Tree,
-    at_root: bool,
-    members: &BTreeMap<String, Tree>,
-) -> bool
+fn some_member_is_wrong(defect: Defect, root: &Tree, at_root: bool, members: &NameMap<Tree>) -> bool
     ensures { result ≡ some_member (is_wrong defect (view root.now) at_root) (members_view members.now.entries) }
 {
     for (name, value) in members.iter() {
@@ -112,7 +107,7 @@ fn defective_each(schemas: &Vec<Tree>, defect: Defect, root: &Tree) -> bool
 
 #[cycle(defects)]
 #[tactic(auto, using(crate::proofs::Anywhere::any_append))]
-fn defective_named(schemas: &BTreeMap<String, Tree>, defect: Defect, root: &Tree) -> bool
+fn defective_named(schemas: &NameMap<Tree>, defect: Defect, root: &Tree) -> bool
     ensures { result ≡ list_any (is_defective defect (view root.now) false) (schemas_named (members_view schemas.now.entries)) }
 {
     for (_, schema) in schemas.iter() {
@@ -126,7 +121,7 @@ fn defective_named(schemas: &BTreeMap<String, Tree>, defect: Defect, root: &Tree
 // Whether some schema below a schema object with these members has the defect.
 #[cycle(defects)]
 #[tactic(auto, using(crate::proofs::Anywhere::any_append))]
-fn defective_below(members: &BTreeMap<String, Tree>, defect: Defect, root: &Tree) -> bool
+fn defective_below(members: &NameMap<Tree>, defect: Defect, root: &Tree) -> bool
     ensures { result ≡ list_any (is_defective defect (view root.now) false) (schemas_below (members_view members.now.entries)) }
 {
     for (name, value) in members.iter() {

@@ -15,8 +15,8 @@ use crate::parts::{
     after, elements_of, is_enough, is_named, is_within, items_of, members_of, prefix_len,
 };
 use doc_tree::Tree;
+use name_map::NameMap;
 use schema_rules::{Instance, Keyword, asserts, keyword_named, member_named, target};
-use std::collections::BTreeMap;
 
 /// Whether the instance passes a schema of the whole one, `root`.
 #[cycle(judge)]
@@ -34,7 +34,7 @@ pub(crate) fn accepts_at(root: &Tree, schema: &Tree, instance: Instance<'_>) -> 
 
 // All members of a schema object apply together.
 #[cycle(judge)]
-fn members_hold(root: &Tree, members: &BTreeMap<String, Tree>, instance: Instance<'_>) -> bool
+fn members_hold(root: &Tree, members: &NameMap<Tree>, instance: Instance<'_>) -> bool
     requires no_loop { IsLoopedSchema (view root.now) → ⊥ }
     requires placed { In (object (members_view members.now.entries)) (schemas (view root.now)) }
     ensures { let ms = members_view members.now.entries in
@@ -52,7 +52,7 @@ fn members_hold(root: &Tree, members: &BTreeMap<String, Tree>, instance: Instanc
 #[cycle(judge)]
 fn member_holds(
     root: &Tree,
-    siblings: &BTreeMap<String, Tree>,
+    siblings: &NameMap<Tree>,
     keyword: Keyword,
     value: &Tree,
     instance: Instance<'_>,
@@ -182,7 +182,7 @@ fn how_many_accepted(root: &Tree, schema: &Tree, items: &[Tree]) -> usize
 #[cycle(judge)]
 fn contains_accepted(
     root: &Tree,
-    siblings: &BTreeMap<String, Tree>,
+    siblings: &NameMap<Tree>,
     schema: &Tree,
     instance: Instance<'_>,
 ) -> bool
@@ -235,7 +235,7 @@ fn placed_accepted(root: &Tree, schemas: &[Tree], items: &[Tree]) -> bool
 
 // Whether each member that this value of `properties` names passes the schema of its name.
 #[cycle(judge)]
-fn properties_accepted(root: &Tree, value: &Tree, members: &BTreeMap<String, Tree>) -> bool
+fn properties_accepted(root: &Tree, value: &Tree, members: &NameMap<Tree>) -> bool
     requires no_loop { IsLoopedSchema (view root.now) → ⊥ }
     requires placed { ArePlaced (view root.now) (each_named (view value.now) (members_view members.now.entries)) }
     ensures { result ≡ every (told (verdict (view root.now)) (each_named (view value.now) (members_view members.now.entries))) }
@@ -248,7 +248,7 @@ fn properties_accepted(root: &Tree, value: &Tree, members: &BTreeMap<String, Tre
 
 // Whether the schema accepts each member's name.
 #[cycle(judge)]
-fn names_accepted(root: &Tree, schema: &Tree, members: &BTreeMap<String, Tree>) -> bool
+fn names_accepted(root: &Tree, schema: &Tree, members: &NameMap<Tree>) -> bool
     requires no_loop { IsLoopedSchema (view root.now) → ⊥ }
     requires placed { ArePlaced (view root.now) (of_names (view schema.now) (members_view members.now.entries)) }
     ensures { result ≡ every (told (verdict (view root.now)) (of_names (view schema.now) (members_view members.now.entries))) }
@@ -263,11 +263,7 @@ fn names_accepted(root: &Tree, schema: &Tree, members: &BTreeMap<String, Tree>) 
 
 // Whether each member that is named passes the schema of its name.
 #[cycle(judge)]
-fn named_accepted(
-    root: &Tree,
-    schemas: &BTreeMap<String, Tree>,
-    members: &BTreeMap<String, Tree>,
-) -> bool
+fn named_accepted(root: &Tree, schemas: &NameMap<Tree>, members: &NameMap<Tree>) -> bool
     requires no_loop { IsLoopedSchema (view root.now) → ⊥ }
     requires placed { ArePlaced (view root.now) (by_name (members_view schemas.now.entries) (members_view members.now.entries)) }
     ensures { result ≡ every (told (verdict (view root.now)) (by_name (members_view schemas.now.entries) (members_view members.now.entries))) }
@@ -288,9 +284,9 @@ fn named_accepted(
 #[cycle(judge)]
 fn others_accepted(
     root: &Tree,
-    siblings: &BTreeMap<String, Tree>,
+    siblings: &NameMap<Tree>,
     schema: &Tree,
-    members: &BTreeMap<String, Tree>,
+    members: &NameMap<Tree>,
 ) -> bool
     requires no_loop { IsLoopedSchema (view root.now) → ⊥ }
     requires placed { ArePlaced (view root.now) (of_others (members_in (beside (codes "properties") (members_view siblings.now.entries))) (view schema.now) (members_view members.now.entries)) }

@@ -10,8 +10,8 @@ ghost use Rattle.schema_rules.specs.Rules.{or_one};
 ghost use Rattle.schema_rules.specs.Parts.{beside, elements_in, members_in};
 
 use doc_tree::Tree;
+use name_map::NameMap;
 use schema_rules::{Instance, at_least, at_most, member_named};
-use std::collections::BTreeMap;
 
 // The elements; none if it is no array.
 pub(crate) fn elements_of(value: &Tree) -> &[Tree]
@@ -34,7 +34,7 @@ pub(crate) fn items_of<'t>(instance: Instance<'t>) -> &'t [Tree]
 }
 
 // The members of an instance, if it is an object.
-pub(crate) fn members_of<'t>(instance: Instance<'t>) -> Option<&'t BTreeMap<String, Tree>>
+pub(crate) fn members_of<'t>(instance: Instance<'t>) -> Option<&'t NameMap<Tree>>
     ensures { MatchOption result (members_in (seen instance.entry) ≡ no_members) (λ m. members_view m.now.entries ≡ members_in (seen instance.entry)) }
 {
     match instance {
@@ -43,7 +43,7 @@ pub(crate) fn members_of<'t>(instance: Instance<'t>) -> Option<&'t BTreeMap<Stri
     }
 }
 
-fn members_of_value(value: &Tree) -> Option<&BTreeMap<String, Tree>>
+fn members_of_value(value: &Tree) -> Option<&NameMap<Tree>>
     ensures { MatchOption result (members_in (view value.now) ≡ no_members) (λ m. members_view m.now.entries ≡ members_in (view value.now)) }
 {
     match value {
@@ -53,7 +53,7 @@ fn members_of_value(value: &Tree) -> Option<&BTreeMap<String, Tree>>
 }
 
 // How many elements `prefixItems` has in the same schema object.
-pub(crate) fn prefix_len(siblings: &BTreeMap<String, Tree>) -> usize
+pub(crate) fn prefix_len(siblings: &NameMap<Tree>) -> usize
     ensures { result
         ≡ length (elements_list (elements_in (beside (codes "prefixItems") (members_view siblings.now.entries)))) }
 {
@@ -75,7 +75,7 @@ pub(crate) fn after(items: &[Tree], count: usize) -> &[Tree]
 }
 
 // Whether `properties` has a schema of that name in the same schema object.
-pub(crate) fn is_named(siblings: &BTreeMap<String, Tree>, name: &str) -> bool
+pub(crate) fn is_named(siblings: &NameMap<Tree>, name: &str) -> bool
     ensures { result
         ≡ is_some (get_member name.now (members_in (beside (codes "properties") (members_view siblings.now.entries)))) }
 {

@@ -2,20 +2,14 @@
 use denote.RattleType.{RattleType}
 use Rattle.std.specs.contracts.alloc.Global as global
 use Rattle.std.specs.contracts.vec.Vec as vec
-use Rattle.std.specs.contracts.string.String as text
-use Rattle.std.specs.contracts.collections.BTreeMap as tree
 use Rattle.std.specs.contracts.impls.GlobalAllocator.TheImpl.{ghosts}
-use Rattle.std.specs.contracts.impls.StringOrd.TheImpl as ord
-use Rattle.std.specs.contracts.impls.StringPartialEq.TheImpl as eq
-use Rattle.std.specs.contracts.impls.StringPartialOrd.TheImpl as partial_ord
+use Rattle.name_map.specs.contracts.map.NameMap as names
 use Rattle.doc_tree.specs.contracts.tree.Tree.{the_row}
 
 -- `Vec<Tree>`
 abbrev pub list_row : RattleType
 list_row = vec.the_row the_row global.the_row ghosts
 
--- `BTreeMap<String, Tree>`
+-- `NameMap<Tree>`
 abbrev pub map_row : RattleType
-map_row =
-    tree.the_row (text.the_row global.the_row ghosts) the_row global.the_row (ord.ghosts global.the_row ghosts ord.no_dict ord.no_dict)
-    (eq.ghosts global.the_row ghosts eq.no_dict eq.no_dict) (partial_ord.ghosts global.the_row ghosts partial_ord.no_dict partial_ord.no_dict) ghosts
+map_row = names.the_row the_row

@@ -32,6 +32,6 @@ view = fold-Tree Doc view_step
 abbrev pub elements_view : List Tree → Elements
 elements_view ts = elements_of (map view ts)
 
--- of a `BTreeMap`'s entries
+-- of a `NameMap`'s entries
 abbrev pub members_view : List (String Global × Tree) → Members
 members_view ms = members_of (map (λ m. (m.0, view m.1)) ms)

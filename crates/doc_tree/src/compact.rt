@@ -5,8 +5,8 @@
 //! the bytes are.
 use crate::strip::strip_byte;
 use crate::tree::Tree;
+use name_map::NameMap;
 use std::alloc::Global;
-use std::collections::BTreeMap;
 use std::str;
 
 // How deep lists and objects may nest: as deep as `Tree::read` reads.
@@ -71,6 +71,7 @@ fn elements(alloc: Global, levels: u32, bytes: &[u8]) -> Option<(Tree, &[u8])> {
         let (item, rest) = value(alloc, levels, next)?;
         items.push(item).ok()?;
         if let Some(rest) = strip_byte(b']', rest) {
+            items.shrink_to_fit();
             return Some((Tree::List(items), rest));
         }
         next = strip_byte(b',', rest)?;
@@ -81,7 +82,7 @@ fn elements(alloc: Global, levels: u32, bytes: &[u8]) -> Option<(Tree, &[u8])> {
 // The members after the opening brace, as long as their names come in order.
 #[cycle(compact)]
 fn members(alloc: Global, levels: u32, bytes: &[u8]) -> Option<(Tree, &[u8])> {
-    let mut found = BTreeMap::new(alloc);
+    let mut found = NameMap::new(alloc);
     if let Some(rest) = strip_byte(b'}', bytes) {
         return Some((Tree::Object(found), rest));
     }
@@ -94,10 +95,9 @@ fn members(alloc: Global, levels: u32, bytes: &[u8]) -> Option<(Tree, &[u8])> {
         }
         last = Some(name.as_bytes());
         let (member, rest) = value(alloc, levels, strip_byte(b':', rest)?)?;
-        found
-            .insert(String::from_str(alloc, name).ok()?, member)
-            .ok()?;
+        found.add_last(String::from_str(alloc, name).ok()?, member)?;
         if let Some(rest) = strip_byte(b'}', rest) {
+            found.shrink();
             return Some((Tree::Object(found), rest));
         }
         next = strip_byte(b',', rest)?;

@@ -4,7 +4,7 @@ ghost use Rattle.doc_tree.specs.Same.{same, same_elements, same_members};
 ghost use Rattle.doc_tree.specs.TreeView.{view, elements_view, members_view};
 
 use crate::tree::Tree;
-use std::collections::BTreeMap;
+use name_map::NameMap;
 
 impl Tree {
     /// Whether the two are one document: RFC 6902, section 4.6, by which arrays are equal element by
@@ -63,7 +63,7 @@ fn are_elements_same(a: &Vec<Tree>, b: &Vec<Tree>) -> bool
 }
 
 #[cycle(same)]
-fn are_members_same(a: &BTreeMap<String, Tree>, b: &BTreeMap<String, Tree>) -> bool
+fn are_members_same(a: &NameMap<Tree>, b: &NameMap<Tree>) -> bool
     ensures { result ≡ same_members (members_view a.now.entries) (members_view b.now.entries) }
 {
     let mut others = b.iter();

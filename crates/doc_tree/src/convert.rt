@@ -8,6 +8,7 @@ ghost use Rattle.doc_tree.specs.TreeView.{view, elements_view, members_view};
 
 use crate::fault::TreeFault;
 use crate::tree::Tree;
+use name_map::NameMap;
 use refusals::numbers::NUMBER;
 use serde_json::Value;
 use std::alloc::Global;
@@ -47,16 +48,13 @@ fn elements_of(alloc: Global, items: Vec<Value>) -> Result<Vec<Tree>, TreeFault>
 }
 
 #[cycle(tree_of)]
-fn members_of(
-    alloc: Global,
-    members: BTreeMap<String, Value>,
-) -> Result<BTreeMap<String, Tree>, TreeFault>
+fn members_of(alloc: Global, members: BTreeMap<String, Value>) -> Result<NameMap<Tree>, TreeFault>
     ensures members { MatchResult result
         (λ m. members_from (data_members members.entries) ≡ Some (members_view m.entries))
         (λ e. IsRefusalOf e (members_from (data_members members.entries))) }
     ensures sound { IfOk result (λ m. MembersAreSound (members_view m.entries)) }
 {
-    let mut found = BTreeMap::new(alloc);
+    let mut found = NameMap::with_capacity(alloc, members.len())?;
     for (name, member) in members {
         let tree = tree_of(alloc, member)?;
         drop(found.insert(name, tree)?);

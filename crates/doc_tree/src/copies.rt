@@ -4,8 +4,8 @@ ghost use Rattle.doc_tree.specs.Sound.{IsSound, AreSound, MembersAreSound};
 ghost use Rattle.doc_tree.specs.TreeView.{view, elements_view, members_view};
 
 use crate::tree::Tree;
+use name_map::NameMap;
 use std::alloc::{AllocError, Global};
-use std::collections::BTreeMap;
 
 impl Tree {
     /// A tree of its own for the same document, which is sound as every tree of memory is.
@@ -45,14 +45,11 @@ fn copy_elements(items: &Vec<Tree>, alloc: Global) -> Result<Vec<Tree>, AllocErr
 }
 
 #[cycle(copy)]
-fn copy_members(
-    members: &BTreeMap<String, Tree>,
-    alloc: Global,
-) -> Result<BTreeMap<String, Tree>, AllocError>
+fn copy_members(members: &NameMap<Tree>, alloc: Global) -> Result<NameMap<Tree>, AllocError>
     ensures same { IfOk result (λ m. members_view m.entries ≡ members_view members.now.entries) }
     ensures sound { IfOk result (λ _. MembersAreSound (members_view members.now.entries)) }
 {
-    let mut copies = BTreeMap::new(alloc);
+    let mut copies = NameMap::with_capacity(alloc, members.len())?;
     for (key, member) in members.iter() {
         let name = String::from_str(alloc, key.as_str())?;
         drop(copies.insert(name, copy_tree(member, alloc)?)?);

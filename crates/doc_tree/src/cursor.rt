@@ -5,12 +5,12 @@ ghost use Rattle.doc_tree.specs.Doc.{Doc, Members, as_object, int, member, no_me
 ghost use Rattle.doc_tree.specs.TreeView.{view};
 
 use crate::tree::Tree;
-use std::collections::BTreeMap;
+use name_map::NameMap;
 
 /// A walk over the members of an object, in the order of their names, that hands out their values.
 #[derive(Drop)]
 pub struct MemberCursor {
-    left: BTreeMap<String, Tree>,
+    left: NameMap<Tree>,
 }
 
 impl MemberCursor {

@@ -1,6 +1,6 @@
 //! The members or elements of a tree, lent for writing in place.
 use crate::tree::Tree;
-use std::collections::BTreeMap;
+use name_map::NameMap;
 
 impl Tree {
     ghost use Rattle.std.specs.Prelude.{◌≡◌, option_map};
@@ -12,7 +12,7 @@ impl Tree {
     ghost use Rattle.doc_tree.specs.TreeView.{view, elements_view, members_view};
 
     /// The members of an object, to be changed in place; `None` for any other value.
-    pub fn as_object_mut(&mut self) -> Option<&mut BTreeMap<String, Tree>>
+    pub fn as_object_mut(&mut self) -> Option<&mut NameMap<Tree>>
         ensures* writes_back { sem 𝓛 (LendsIf the_row map_row self.entry result Object self.old) }
         ensures value { option_map (λ m. members_view m.now.entries) result
             ≡ as_object (view self.old) }

@@ -6,7 +6,7 @@ ghost use Rattle.doc_tree.specs.Place.{place_of};
 ghost use Rattle.doc_tree.specs.TreeView.{view, elements_view, members_view};
 
 use crate::tree::{Step, Tree};
-use std::collections::BTreeMap;
+use name_map::NameMap;
 
 impl Tree {
     /// The value at the end of the steps: the tree itself for no steps, `None` if a step leads nowhere.
@@ -66,7 +66,7 @@ fn item_at(items: &Vec<Tree>, index: u64) -> Option<&Tree>
     }
 }
 
-fn member_named<'t>(members: &'t BTreeMap<String, Tree>, name: &str) -> Option<&'t Tree>
+fn member_named<'t>(members: &'t NameMap<Tree>, name: &str) -> Option<&'t Tree>
     ensures { option_map (λ t. view t.now) result
         ≡ get_member name.now (members_view members.now.entries) }
 {

@@ -5,7 +5,7 @@ ghost use Rattle.doc_tree.specs.Sound.{IsSound, AreSound, MembersAreSound};
 ghost use Rattle.doc_tree.specs.TreeView.{view, elements_view, members_view};
 
 use crate::tree::Tree;
-use std::collections::BTreeMap;
+use name_map::NameMap;
 
 impl Tree {
     /// How deep lists and objects nest: 0 for a scalar, 1 for an empty container; `u64::MAX` if it is more. The walk
@@ -49,7 +49,7 @@ fn height_over(items: &Vec<Tree>) -> u64
 }
 
 #[cycle(height)]
-fn height_over_members(members: &BTreeMap<String, Tree>) -> u64
+fn height_over_members(members: &NameMap<Tree>) -> u64
     ensures height { result
         ≡ min (members_height (members_view members.now.entries)) 0xffff_ffff_ffff_ffff }
     ensures sound { MembersAreSound (members_view members.now.entries) }

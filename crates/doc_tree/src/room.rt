@@ -8,7 +8,7 @@ ghost use Rattle.doc_tree.specs.Text.{text_of, elements_text, members_text_of};
 ghost use Rattle.doc_tree.specs.TreeView.{view, elements_view, members_view};
 
 use crate::tree::Tree;
-use std::collections::BTreeMap;
+use name_map::NameMap;
 
 impl Tree {
     /// The length in bytes of the compact text; `None` if it is over the limit.
@@ -62,7 +62,7 @@ fn room_after_elements(items: &Vec<Tree>, room: u64) -> Option<u64>
 }
 
 #[cycle(room)]
-fn room_after_members(members: &BTreeMap<String, Tree>, room: u64) -> Option<u64>
+fn room_after_members(members: &NameMap<Tree>, room: u64) -> Option<u64>
     ensures { let len = length (members_text_of false (members_view members.now.entries)) in
         MatchOption result (room < len) (λ left. left + len ≡ room) }
 {

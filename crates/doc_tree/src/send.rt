@@ -9,9 +9,9 @@ ghost use Rattle.doc_tree.specs.Text.{data_of, items_of, members_of};
 ghost use Rattle.doc_tree.specs.TreeView.{view, elements_view, members_view};
 
 use crate::tree::Tree;
+use name_map::NameMap;
 use serde::{Described, Serialize, Serializer};
 use serde_json::Number;
-use std::collections::BTreeMap;
 
 impl Described for Tree {
     // Only a sound document is sent, so that what is written is UTF-8.
@@ -61,10 +61,7 @@ fn send_items<S: Serializer>(items: &Vec<Tree>, out: &mut S) -> Result<(), S::Er
 }
 
 #[cycle(send)]
-fn send_members<S: Serializer>(
-    members: &BTreeMap<String, Tree>,
-    out: &mut S,
-) -> Result<(), S::Error>
+fn send_members<S: Serializer>(members: &NameMap<Tree>, out: &mut S) -> Result<(), S::Error>
     ensures events { OnOk result (SendsValue (object (members_of (members_view members.now.entries)))
         (S.written out.old) (S.written out.new)) }
     ensures sound { OnOk result (MembersAreSound (members_view members.now.entries)) }

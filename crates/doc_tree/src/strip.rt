@@ -8,7 +8,7 @@ ghost use Rattle.doc_tree.specs.Text.{text_of, elements_text, members_text_of};
 ghost use Rattle.doc_tree.specs.TreeView.{view, elements_view, members_view};
 
 use crate::tree::Tree;
-use std::collections::BTreeMap;
+use name_map::NameMap;
 
 impl Tree {
     /// What follows the compact text of the document, in bytes that begin with it. It takes no memory.
@@ -82,7 +82,7 @@ fn after_elements<'b>(items: &Vec<Tree>, bytes: &'b [u8]) -> Option<&'b [u8]>
 }
 
 #[cycle(strip)]
-fn after_members<'b>(members: &BTreeMap<String, Tree>, bytes: &'b [u8]) -> Option<&'b [u8]>
+fn after_members<'b>(members: &NameMap<Tree>, bytes: &'b [u8]) -> Option<&'b [u8]>
     ensures { IfSome result (λ rest. bytes.now ≡ members_text_of false (members_view members.now.entries) ++ rest.now) }
 {
     let mut rest = bytes;

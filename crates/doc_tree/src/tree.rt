@@ -1,5 +1,5 @@
 //! A document in memory, and the steps by which its parts are named.
-use std::collections::BTreeMap;
+use name_map::NameMap;
 
 /// A JSON value (RFC 8259, section 3) whose numbers are 64-bit whole numbers.
 #[derive(Drop)]
@@ -11,7 +11,7 @@ pub enum Tree {
     /// An array, element by element.
     List(Vec<Tree>),
     /// An object; its members are in the order of their names' UTF-8 bytes.
-    Object(BTreeMap<String, Tree>),
+    Object(NameMap<Tree>),
 }
 
 /// A step from a document to one of its children.

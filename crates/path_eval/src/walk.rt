@@ -11,6 +11,7 @@ ghost use Rattle.path_select.specs.ChildView.{children_of};
 ghost use Rattle.path_grammar.specs.Lent.{lent_place};
 
 use doc_tree::Tree;
+use name_map::NameMap;
 use path_grammar::LentStep;
 use path_plans::passing::all_taken;
 use path_plans::plan::PlanSelector;
@@ -19,7 +20,6 @@ use path_select::limits::NODES;
 use path_select::paths::{Mark, Walk, back, with_child};
 use path_select::stop::Stop;
 use std::alloc::Global;
-use std::collections::BTreeMap;
 
 /// The nodes that are listed, and the children of the value at the place; `Stop::TooMany` if they are too many for a
 /// list.
@@ -146,7 +146,7 @@ fn below_elements<'t>(
 
 #[cycle(walk)]
 fn below_members<'t>(
-    members: &'t BTreeMap<String, Tree>,
+    members: &'t NameMap<Tree>,
     place: usize,
     choices: &Vec<PlanSelector<'_>>,
     alloc: Global,

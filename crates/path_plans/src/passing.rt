@@ -18,6 +18,7 @@ ghost use Rattle.path_select.specs.ChildView.{child_of, children_of, doc_if, doc
 
 use crate::plan::{Plan, PlanComparable, PlanFilter, PlanSegment, PlanSelector, Way};
 use doc_tree::Tree;
+use name_map::NameMap;
 use path_grammar::{CompareOp, LentStep};
 use path_select::below::values_below;
 use path_select::children::{Child, children};
@@ -26,7 +27,6 @@ use path_select::gather::{and_children, and_values};
 use path_select::select::{and_one, indexed, named, sliced};
 use path_select::stop::Stop;
 use std::alloc::Global;
-use std::collections::BTreeMap;
 
 /// Whether the value passes the test.
 #[cycle(passing)]
@@ -189,7 +189,7 @@ fn filtered_elements<'t>(
 fn filtered_members<'t>(
     test: &PlanFilter<'_>,
     alloc: Global,
-    members: &'t BTreeMap<String, Tree>,
+    members: &'t NameMap<Tree>,
 ) -> Result<Vec<Child<'t>>, Stop>
     ensures { let t = test_view test.now in let cs = member_children (members_view members.now.entries) in
         Gives (λ all. children_of all.items) result (list_any (λ c. planned.test_refused t c.1) cs) (filter (λ c. planned.passes t c.1) cs) }

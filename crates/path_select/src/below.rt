@@ -7,8 +7,8 @@ ghost use Rattle.path_select.specs.Values.{values};
 ghost use Rattle.path_select.specs.ChildView.{docs_of};
 
 use doc_tree::Tree;
+use name_map::NameMap;
 use std::alloc::{AllocError, Global};
-use std::collections::BTreeMap;
 
 /// The value itself and its descendants in preorder: a value before its children, children in order.
 pub fn values_below<'t>(alloc: Global, value: &'t Tree) -> Result<Vec<&'t Tree>, AllocError>
@@ -49,7 +49,7 @@ fn and_below_elements<'t>(
 #[cycle(below)]
 #[tactic(auto, using(crate::proofs::Descents::child_by_child))]
 fn and_below_members<'t>(
-    members: &'t BTreeMap<String, Tree>,
+    members: &'t NameMap<Tree>,
     before: Vec<&'t Tree>,
 ) -> Result<Vec<&'t Tree>, AllocError>
     ensures { IfOk result (λ all. docs_of all.items

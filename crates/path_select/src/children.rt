@@ -6,9 +6,9 @@ ghost use Rattle.path_select.specs.Nodes.{element_children, member_children};
 ghost use Rattle.path_select.specs.ChildView.{children_of};
 
 use doc_tree::Tree;
+use name_map::NameMap;
 use path_grammar::LentStep;
 use std::alloc::{AllocError, Global};
-use std::collections::BTreeMap;
 
 /// A child of a value, and the step to it.
 #[derive(Clone, Copy, Drop)]
@@ -41,10 +41,7 @@ fn elements<'t>(alloc: Global, items: &'t Vec<Tree>) -> Result<Vec<Child<'t>>, A
     Ok(found)
 }
 
-fn members<'t>(
-    alloc: Global,
-    entries: &'t BTreeMap<String, Tree>,
-) -> Result<Vec<Child<'t>>, AllocError>
+fn members<'t>(alloc: Global, entries: &'t NameMap<Tree>) -> Result<Vec<Child<'t>>, AllocError>
     ensures { IfOk result (λ found. children_of found.items ≡ member_children (members_view entries.now.entries)) }
 {
     let mut found = Vec::with_capacity(alloc, entries.len())?;

@@ -15,9 +15,9 @@ use crate::children::Child;
 use crate::index::{Index, Span};
 use crate::paths::Spot;
 use doc_tree::Tree;
+use name_map::NameMap;
 use path_grammar::LentStep;
 use std::alloc::{AllocError, Global};
-use std::collections::BTreeMap;
 
 /// The span of the node's children.
 pub fn span_of(index: &Index<'_>, number: usize) -> Span
@@ -72,7 +72,7 @@ pub fn numbers_of_children(
 }
 
 /// The place of the member of that name among the members.
-fn place_of(members: &BTreeMap<String, Tree>, name: &str) -> usize
+fn place_of(members: &NameMap<Tree>, name: &str) -> usize
     ensures { (d : Doc) → get_member name.now (members_view members.now.entries) ≡ Some d
         → slice_get (member_children (members_view members.now.entries)) result ≡ Some (doc.name name.now, d) }
 {

@@ -9,12 +9,12 @@ ghost use Rattle.path_select.specs.ChildView.{child_of, children_of};
 
 use crate::children::Child;
 use doc_tree::Tree;
+use name_map::NameMap;
 use path_grammar::LentStep;
 use std::alloc::{AllocError, Global};
-use std::collections::BTreeMap;
 
 /// The member of that name, with the name as the document has it.
-fn entry<'t>(name: &str, members: &'t BTreeMap<String, Tree>) -> Option<Child<'t>>
+fn entry<'t>(name: &str, members: &'t NameMap<Tree>) -> Option<Child<'t>>
     ensures { option_to_list (option_map child_of result)
         ≡ selectors.found (place.name name.now) (get_member name.now (members_view members.now.entries)) }
 {

@@ -1,4 +1,4 @@
--- Tokens that are added to a buffer, for the clauses within the crate.
+-- For the clauses within the crate: tokens that are added to a buffer.
 use Rattle.std.specs.Prelude.{◌≡◌, List, ◌++◌}
 use Rattle.json.specs.Token.{Token}
 use Rattle.json.specs.Tree.{items_tokens, json_tokens, members_tokens}

@@ -9,8 +9,8 @@ ghost use Rattle.record_text.specs.Change.{IsSpelled, change_of, create, delete,
 use crate::command::Command;
 use doc_tree::Tree;
 use json::Writer;
+use name_map::NameMap;
 use std::alloc::AllocError;
-use std::collections::BTreeMap;
 
 /// Adds the object of a command.
 pub(crate) fn put_command(command: &Command, out: &mut Writer) -> Result<(), AllocError>
@@ -141,7 +141,7 @@ fn put_elements(items: &Vec<Tree>, out: &mut Writer) -> Result<(), AllocError>
 }
 
 #[cycle(put)]
-fn put_members(members: &BTreeMap<String, Tree>, out: &mut Writer) -> Result<(), AllocError>
+fn put_members(members: &NameMap<Tree>, out: &mut Writer) -> Result<(), AllocError>
     ensures adds { OnOk result
         (Adds (begin_object ∷ members_tokens_of (members_view members.now.entries)) out.old out.new) }
     ensures sound { OnOk result (MembersAreSound (members_view members.now.entries)) }

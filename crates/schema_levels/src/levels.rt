@@ -19,8 +19,8 @@ use crate::counts::{tally, weigh, width};
 use crate::named::{fold_names, judge_name};
 use crate::node::{ChildPlace, Node};
 use doc_tree::Tree;
+use name_map::NameMap;
 use schema_rules::Instance;
-use std::collections::BTreeMap;
 
 // How many words a block has: enough for one level of any schema, and for eight of the largest.
 const BLOCK: usize = 36_864;
@@ -250,7 +250,7 @@ fn fold_each_item(
 fn lower_members(
     nodes: &[Node],
     counters: &Counters,
-    members: &BTreeMap<String, Tree>,
+    members: &NameMap<Tree>,
     asked: &[u64],
     passed: &mut [u64],
     free: &mut [u64],
@@ -271,7 +271,7 @@ fn lower_members(
 fn fold_members(
     nodes: &[Node],
     counters: &Counters,
-    members: &BTreeMap<String, Tree>,
+    members: &NameMap<Tree>,
     asked: &[u64],
     passed: &mut [u64],
     free: &mut [u64],
@@ -305,7 +305,7 @@ fn fold_members(
 fn fold_each_member(
     nodes: &[Node],
     counters: &Counters,
-    members: &BTreeMap<String, Tree>,
+    members: &NameMap<Tree>,
     asked: &[u64],
     passed: &mut [u64],
     below_asked: &mut [u64],

@@ -12,8 +12,8 @@ use crate::closure::close;
 use crate::conclude::conclude;
 use crate::node::{ChildPlace, Node};
 use doc_tree::Tree;
+use name_map::NameMap;
 use schema_rules::Instance;
-use std::collections::BTreeMap;
 
 /// Judges the asked nodes on a name, as a text.
 pub(crate) fn judge_name(nodes: &[Node], name: &str, asked: &mut [u64], passed: &mut [u64])
@@ -32,7 +32,7 @@ pub(crate) fn judge_name(nodes: &[Node], name: &str, asked: &mut [u64], passed: 
 /// Judges the name of each member, if anything is asked of names, and joins what is said of it. Two sets are needed.
 pub(crate) fn fold_names(
     nodes: &[Node],
-    members: &BTreeMap<String, Tree>,
+    members: &NameMap<Tree>,
     asked: &[u64],
     passed: &mut [u64],
     free: &mut [u64],
@@ -54,7 +54,7 @@ pub(crate) fn fold_names(
 // The same is asked of each name, so that it is collected once.
 fn fold_each_name(
     nodes: &[Node],
-    members: &BTreeMap<String, Tree>,
+    members: &NameMap<Tree>,
     asked: &[u64],
     passed: &mut [u64],
     below_asked: &mut [u64],

@@ -8,9 +8,9 @@ ghost use Rattle.schema_nodes.specs.Edges.{AreEdges, edges_at, edges_in};
 use crate::entries::Entry;
 use crate::rules::{Targets, target_number};
 use doc_tree::Tree;
+use name_map::NameMap;
 use schema_rules::{Keyword, keyword_named};
 use std::alloc::{AllocError, Global};
-use std::collections::BTreeMap;
 
 /// The graph of the entries: each leads to those that it applies to the instance itself.
 pub(crate) fn edges_of(
@@ -44,7 +44,7 @@ fn edges_from(
 }
 
 fn edges_in(
-    members: &BTreeMap<String, Tree>,
+    members: &NameMap<Tree>,
     rows: &[Vec<usize>],
     targets: &Targets,
     root: &Tree,

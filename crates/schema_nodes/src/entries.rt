@@ -8,9 +8,9 @@ ghost use Rattle.schema_rules.specs.declared.keyword.Shape.TheVariants as shapes
 ghost use Rattle.schema_nodes.specs.Entries.{Adds, AddsAll, Makes};
 
 use doc_tree::Tree;
+use name_map::NameMap;
 use schema_rules::{Shape, keyword_named, shape_of};
 use std::alloc::{AllocError, Global};
-use std::collections::BTreeMap;
 
 /// A schema, and for each of its members the numbers of the schemas that it holds.
 #[derive(Drop)]
@@ -76,7 +76,7 @@ fn with_rows<'t>(
 
 #[cycle(entries)]
 fn with_members<'t>(
-    members: &'t BTreeMap<String, Tree>,
+    members: &'t NameMap<Tree>,
     root: &Tree,
     alloc: Global,
     before: Vec<Entry<'t>>,
@@ -149,7 +149,7 @@ fn with_each<'t>(
 
 #[cycle(entries)]
 fn with_named<'t>(
-    named: &'t BTreeMap<String, Tree>,
+    named: &'t NameMap<Tree>,
     root: &Tree,
     alloc: Global,
     before: Grown<'t>,

@@ -11,6 +11,7 @@ use crate::names::{numbers_under, prefix_len};
 use crate::ranks::moved_rows;
 use crate::rules::{Targets, rules_of};
 use doc_tree::Tree;
+use name_map::NameMap;
 use schema_levels::{Node, Rule};
 use std::alloc::{AllocError, Global};
 use std::collections::BTreeMap;
@@ -73,7 +74,7 @@ fn node_of(
 }
 
 fn node_of_object(
-    members: &BTreeMap<String, Tree>,
+    members: &NameMap<Tree>,
     rows: &[Vec<usize>],
     root: &Tree,
     targets: &Targets,

@@ -10,6 +10,7 @@ ghost use Rattle.schema_nodes.specs.Nodes.{AreNamed, HaveRows};
 ghost use Rattle.schema_nodes.specs.Fits.{row_named, single_number};
 
 use doc_tree::Tree;
+use name_map::NameMap;
 use schema_rules::member_named;
 use std::alloc::{AllocError, Global};
 use std::collections::BTreeMap;
@@ -17,7 +18,7 @@ use std::collections::BTreeMap;
 /// The numbers of the schemas in the member of that name, by their names.
 pub(crate) fn numbers_under(
     name: &str,
-    members: &BTreeMap<String, Tree>,
+    members: &NameMap<Tree>,
     rows: &[Vec<usize>],
     alloc: Global,
 ) -> Result<BTreeMap<String, usize>, AllocError>
@@ -44,11 +45,7 @@ fn numbers_in(
 }
 
 // The row of the member of that name.
-fn row_named<'r>(
-    name: &str,
-    members: &BTreeMap<String, Tree>,
-    rows: &'r [Vec<usize>],
-) -> &'r [usize]
+fn row_named<'r>(name: &str, members: &NameMap<Tree>, rows: &'r [Vec<usize>]) -> &'r [usize]
     ensures { result.now ≡ row_named name.now (members_view members.now.entries) rows.now }
 {
     for ((key, _), row) in members.iter().zip(rows) {
@@ -60,7 +57,7 @@ fn row_named<'r>(
 }
 
 fn numbers_named(
-    named: &BTreeMap<String, Tree>,
+    named: &NameMap<Tree>,
     row: &[usize],
     alloc: Global,
 ) -> Result<BTreeMap<String, usize>, AllocError>
@@ -77,7 +74,7 @@ fn numbers_named(
 /// The number of the schema that the member of that name is, if there is one.
 pub(crate) fn single_number(
     name: &str,
-    members: &BTreeMap<String, Tree>,
+    members: &NameMap<Tree>,
     rows: &[Vec<usize>],
 ) -> Option<usize>
     ensures { result ≡ single_number name.now (members_view members.now.entries) rows.now }
@@ -98,7 +95,7 @@ fn first_in(row: &[usize]) -> Option<usize>
 }
 
 /// How many elements `prefixItems` has.
-pub(crate) fn prefix_len(members: &BTreeMap<String, Tree>) -> usize
+pub(crate) fn prefix_len(members: &NameMap<Tree>) -> usize
     ensures { result ≡ length (elements_list (elements_in (beside (codes "prefixItems") (members_view members.now.entries)))) }
 {
     match member_named(members, "prefixItems") {

@@ -10,6 +10,7 @@ ghost use Rattle.schema_nodes.specs.Fits.{Fits, AreFitting, AsMany, AreSorted, A
 use crate::names::single_number;
 use crate::ranks::rank_of;
 use doc_tree::Tree;
+use name_map::NameMap;
 use schema_levels::Rule;
 use schema_rules::{Assertion, Keyword, keyword_named, member_named, target};
 use std::alloc::{AllocError, Global};
@@ -37,7 +38,7 @@ pub struct Near<'s> {
 
 /// The rules, one for each member.
 pub(crate) fn rules_of(
-    members: &BTreeMap<String, Tree>,
+    members: &NameMap<Tree>,
     rows: &[Vec<usize>],
     root: &Tree,
     targets: &Targets,
@@ -66,7 +67,7 @@ pub(crate) fn rules_of(
     Ok(rules)
 }
 
-fn near_in<'s>(members: &'s BTreeMap<String, Tree>, rows: &[Vec<usize>]) -> Near<'s>
+fn near_in<'s>(members: &'s NameMap<Tree>, rows: &[Vec<usize>]) -> Near<'s>
     ensures { known_near result ≡ around (members_view members.now.entries) rows.now }
 {
     Near {

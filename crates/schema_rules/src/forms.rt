@@ -9,7 +9,7 @@ use crate::distinct::are_distinct;
 use crate::keyword::Keyword;
 use crate::types::is_type_name;
 use doc_tree::Tree;
-use std::collections::BTreeMap;
+use name_map::NameMap;
 
 /// Whether the value has the keyword's form, at the root of a schema or below it (JSON Schema Validation, section 6;
 /// Core, sections 8 and 10). A value that is itself a schema has, and so has that of a left-out keyword.
@@ -127,7 +127,7 @@ fn is_object_of_lists(value: &Tree) -> bool
     }
 }
 
-fn are_lists_of_texts(members: &BTreeMap<String, Tree>) -> bool
+fn are_lists_of_texts(members: &NameMap<Tree>) -> bool
     ensures { result ≡ list_all (is_list_of_distinct is_text) (values_list (members_view members.now.entries)) }
 {
     for (_, value) in members.iter() {

@@ -5,8 +5,8 @@ ghost use Rattle.doc_tree.specs.TreeView.{view, elements_view, members_view};
 ghost use Rattle.schema_rules.specs.Order.{doc_cmp, elements_cmp, members_cmp, kind_rank};
 
 use doc_tree::Tree;
+use name_map::NameMap;
 use std::cmp::Ordering;
-use std::collections::BTreeMap;
 
 /// The order of two trees: by their kinds, numbers by value, texts by their bytes, arrays and objects part by part.
 #[cycle(order)]
@@ -46,7 +46,7 @@ fn compare_elements(a: &Vec<Tree>, b: &Vec<Tree>) -> Ordering
 }
 
 #[cycle(order)]
-fn compare_members(a: &BTreeMap<String, Tree>, b: &BTreeMap<String, Tree>) -> Ordering
+fn compare_members(a: &NameMap<Tree>, b: &NameMap<Tree>) -> Ordering
     ensures { result ≡ members_cmp (members_view a.now.entries) (members_view b.now.entries) }
 {
     let mut others = b.iter();

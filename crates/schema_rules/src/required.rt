@@ -9,7 +9,7 @@ ghost use Rattle.schema_rules.specs.Parts.{members_in};
 
 use crate::members::member_named;
 use doc_tree::Tree;
-use std::collections::BTreeMap;
+use name_map::NameMap;
 
 /// Whether an object has a member of each name.
 pub(crate) fn has_each(value: &Tree, instance: &Tree) -> bool
@@ -21,7 +21,7 @@ pub(crate) fn has_each(value: &Tree, instance: &Tree) -> bool
     }
 }
 
-fn are_members(names: &Vec<Tree>, members: &BTreeMap<String, Tree>) -> bool
+fn are_members(names: &Vec<Tree>, members: &NameMap<Tree>) -> bool
     ensures { result ≡ list_all (λ name. is_member name (members_view members.now.entries)) (elements_list (elements_view names.now.items)) }
 {
     for name in names {
@@ -32,7 +32,7 @@ fn are_members(names: &Vec<Tree>, members: &BTreeMap<String, Tree>) -> bool
     true
 }
 
-fn is_member(name: &Tree, members: &BTreeMap<String, Tree>) -> bool
+fn is_member(name: &Tree, members: &NameMap<Tree>) -> bool
     ensures { result ≡ is_member (view name.now) (members_view members.now.entries) }
 {
     match name {
@@ -51,7 +51,7 @@ pub(crate) fn has_dependents(value: &Tree, instance: &Tree) -> bool
     }
 }
 
-fn has_each_dependent(dependents: &BTreeMap<String, Tree>, instance: &Tree) -> bool
+fn has_each_dependent(dependents: &NameMap<Tree>, instance: &Tree) -> bool
     ensures { result ≡ each_dependent (members_view dependents.now.entries) (view instance.now) }
 {
     for (name, names) in dependents.iter() {
