@@ -11,9 +11,8 @@ use Rattle.store_commits.specs.Account.{Account}
 use Rattle.store_commits.specs.Snapshot.{snapshot_bytes}
 use Rattle.store_commits.proofs.Migrating.{snapshot_holds}
 use Rattle.store_commits.proofs.Snapshots.{remakes_all}
-use Rattle.doc_store.specs.Copied.{IsCopied, IsCopyOf, copied_of}
-use Rattle.doc_store.specs.Opening.{IsOpenedFrom}
-use Rattle.doc_store.specs.Status.{status_of}
+use Rattle.doc_store.specs.Opening.{IsCopied, IsCopyOf, copied_of, IsOpenedFrom}
+use Rattle.doc_store.specs.Formats.{status_of}
 use Rattle.doc_store.specs.declared.status.Status.{Status}
 use Rattle.doc_store.proofs.Opened.{one_state}
 

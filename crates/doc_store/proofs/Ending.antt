@@ -12,18 +12,18 @@ use Rattle.doc_machine.specs.Transaction.{Transaction}
 use Rattle.doc_changes.specs.State.{State}
 use Rattle.store_commits.specs.Account.{StoreView}
 use Rattle.store_commits.specs.Folds.{after_each}
+use Rattle.store_commits.specs.Run.{dones_of, hits_of}
 use Rattle.doc_store.specs.Opening.{OldOrStands, OpenFailed, carried_after, opening_cost}
 use Rattle.store_commits.specs.Snapshot.{snapshot_bytes}
 use Rattle.store_commits.specs.Images.{Stands}
-use Rattle.doc_store.specs.Ending.{HasSpent, Leaves, MayLackRoom, TimedIf, all_with_kept, began_or, next_of, with_kept}
+use Rattle.doc_store.specs.Ending.{HasSpent, Leaves, TimedIf, all_with_kept, began_or, next_of, with_kept, Told}
+use Rattle.doc_store.specs.Opening.{MayLackRoom}
 use Rattle.doc_store.specs.Lives.{IsLives, IsOpened, TellsNothing, accepted_of, events_of, replies_of}
-use Rattle.doc_store.specs.Telling.{Told}
 use Rattle.doc_store.specs.Timed.{IsLate, IsTimely, Left, Timed, left}
 use Rattle.doc_store.specs.declared.life.Life.{Life}
 use Rattle.doc_store.specs.declared.life.Part.{Part}
 use Rattle.store_commits.proofs.Changes.{after_append, seq_counts}
 use Rattle.doc_store.proofs.Opened.{one_carried, one_state, after_version}
-use Rattle.doc_store.proofs.Telling.{run_tells}
 
 -- with each image that is left an opened life leaves what the image stands for
 pub leaves_opened : {D : Type 0} (disk : D → Disk) (given : Disk) (start end : StoreView D) (faults : ℕ) (settled : Bool) (s : State) (life : Life) (p : Part) (began : ℕ) → Told disk start end (events_of life) p
@@ -31,29 +31,28 @@ pub leaves_opened : {D : Type 0} (disk : D → Disk) (given : Disk) (start end :
     → ((t : State) → HasSpent life.stop 0 given → IsTimely (left s given.seen settled) life.stop faults (events_of life) (replies_of p) start.account end.account (left t image true))
     → Leaves given (left s given.seen settled) life (record p { opened = true; kept = began; disk_faults = faults }) image
 leaves_opened disk given start end faults settled s life p began told honest works no_copy begins began_is image left_so timely =
-    let ran = told.ran in
-    let stands = ran.at_end honest works image left_so in
-    let kept = ran.dones ++ stands.kept in
+    let events = events_of life in
+    let dones = dones_of events (replies_of p) in
+    let hits = hits_of events (replies_of p) in
+    let lasts = told.ran.lasts in
+    let stands = lasts.at_end honest works image left_so in
+    let kept = dones ++ stands.kept in
     let now = after_each end.account.state stands.kept in
-    let tells = run_tells start.account end.account (events_of life) (replies_of p) ran.dones ran.in_doubt ran.run in
-    let accepted : accepted_of p ≡ ran.dones ++ ran.in_doubt = told.accepted ∙ (λ i. sym tells.dones_are i ++ sym tells.hits_are i) in
-    let acknowledged : p.acknowledged ≡ length ran.dones = told.acknowledged ∙ ap length (sym tells.dones_are) in
-    let parts : accepted_of p ≡ kept ++ stands.rest =
-    accepted ∙ ap (λ (l : List Transaction). ran.dones ++ l) (sym stands.parts) ∙ sym (append_assoc ran.dones stands.kept stands.rest) in
-    let count = length-append ran.dones stands.kept in
+    let parts : accepted_of p ≡ kept ++ stands.rest = told.accepted ∙ ap (λ (l : List Transaction). dones ++ l) (sym stands.parts) ∙ sym (append_assoc dones stands.kept stands.rest) in
+    let count = length-append dones stands.kept in
+    let acknowledged = told.acknowledged in
     let state : now ≡ after_each s kept =
-    ap (λ (x : State). after_each x stands.kept) (ran.state_is ∙ ap (λ (x : State). after_each x ran.dones) begins) ∙ sym (after_append s ran.dones stands.kept) in
+    ap (λ (x : State). after_each x stands.kept) (lasts.state_is ∙ ap (λ (x : State). after_each x dones) begins) ∙ sym (after_append s dones stands.kept) in
     let seq = ap (λ (x : State). x.seq) state ∙ seq_counts s kept in
-    let opened : IsOpened start.account end.account s (events_of life) (record p { opened = true; kept = now.seq - began; disk_faults = faults }) now = record {
-      dones = ran.dones;
-      in_doubt = ran.in_doubt;
+    let opened : IsOpened start.account end.account s events (record p { opened = true; kept = now.seq - began; disk_faults = faults }) now = record {
       opened = refl;
       begins = begins;
       works = works;
       no_copy = no_copy;
-      run = ran.run;
-      accepted_are = accepted;
-      acknowledged_are = acknowledged;
+      commits = told.ran.commits;
+      run = told.ran.run;
+      accepted_are = told.accepted;
+      acknowledged_are = told.acknowledged;
       kept_ones = kept;
       lost = stands.rest;
       parts = sym parts;

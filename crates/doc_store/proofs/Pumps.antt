@@ -1,6 +1,8 @@
 -- A snapshot, or a step of a copy: what is left of the journal and of the copy, and what a crash leaves where a fault hit it.
-use Rattle.std.proofs.Common.{◌≡◌, inl, inr, ℕ, ◌<◌, ◌≤◌, List, [], length, take, refl, sym, ◌∙◌, ap, subst, arith, true, false, Option, None, Some, ◌↔◌, take_all, ⊎_elim, ◌-◌, Result, Ok, Err}
-use Rattle.std.proofs.lemmas.Bool.{cases_lt}
+use Rattle.std.proofs.Common.{◌≡◌, inl, inr, ℕ, ◌<◌, ◌≤◌, List, [], length, take, refl, sym, ◌∙◌, ap, subst, arith, true, false, Bool, Option, None, Some, ◌↔◌, take_all, ⊎_elim, ◌-◌, Result, Ok, Err, OnOk, IfErr, if◌then◌else◌, nat_le, nat_eq}
+use Rattle.std.proofs.lemmas.Bool.{cases_lt, eq-eqb, le-leb, lt-leb, ne_eqb}
+use Rattle.std.proofs.lemmas.List.{append-nil}
+use Rattle.sector_device.specs.Charges.{Made, Failed}
 use Rattle.sector_device.specs.Disk.{Disk, Image, IsCoherent, LeavesOnly}
 use Rattle.sector_device.proofs.Moments.{leaves_weaker, left_now}
 use Rattle.store_journal.specs.Calls.{BeginsWith, Broke}
@@ -10,26 +12,21 @@ use Rattle.store_journal.specs.JournalView.{JournalView, IsKept, carried_of}
 use Rattle.doc_changes.proofs.Framed.{framed_storable}
 use Rattle.doc_changes.specs.declared.refusal.Refusal.{Refusal}
 use Rattle.doc_changes.specs.State.{State}
-use Rattle.store_commits.specs.Account.{Copy, account_broken, with_copy}
-use Rattle.store_commits.specs.Copying.{IsBegun, IsCopied, IsCopying, Target, copy_of, count_of}
+use Rattle.refusals.specs.declared.numbers.TheConstants.{DEVICE}
+use Rattle.store_commits.specs.Account.{Account, Copy, StoreView, account_broken, with_copy, EndsWith, Extent, IsStandingAs, StandsAs, extent_of}
+use Rattle.store_commits.specs.Batch.{FailedCommit, PassedCommit, to_snapshot}
+use Rattle.store_commits.specs.Copying.{IsBegun, IsCopied, IsCopying, Target, copy_of, count_of, HasStepped, IsPumped, PumpAnswers, account_stepped, calls_of_pump, calls_of_step, copy_at, standing_after}
 use Rattle.store_commits.specs.Inside.{IsHeld, IsStored, account_of}
-use Rattle.store_commits.specs.SnapshotAnswers.{account_with_snapshot}
-use Rattle.store_commits.specs.Pumping.{copy_at, standing_after, written_of}
 use Rattle.store_commits.specs.Images.{Holds}
-use Rattle.store_commits.specs.Stands.{StandsAfter}
-use Rattle.store_commits.specs.Stepping.{HasStepped}
+use Rattle.store_commits.specs.Run.{to_step}
+use Rattle.store_commits.specs.Snapshot.{RemakesAll, snapshot_bytes, account_with_snapshot}
+use Rattle.store_commits.specs.Folds.{StandsAfter}
 use Rattle.store_commits.specs.declared.pump.Pump.{Pump}
+use Rattle.store_commits.proofs.Extents.{as_it_was, broken_as, counted, ending_as, switched_as}
 use Rattle.store_commits.proofs.Migrating.{snapshot_holds}
+use Rattle.store_commits.proofs.SnapshotOutcomes.{WasCommitted, WasNotCommitted, held_snapped, snapped_is}
 use Rattle.store_commits.proofs.Snapshots.{remakes_all}
 use Rattle.store_commits.proofs.Standing.{stands_by, stands_now}
-use Rattle.store_commits.specs.Events.{snapshot, reply_of, pump}
-use Rattle.store_commits.specs.declared.event.Reply.TheVariants.{Snapped}
-use Rattle.store_commits.specs.Extents.{StandsAs}
-use Rattle.doc_store.specs.Leaving.{LeavesThen, MayStandAs}
-use Rattle.store_commits.specs.declared.pump.CopyState.TheVariants.{Switched}
-use Rattle.store_commits.specs.Snapshot.{snapshot_bytes}
-use Rattle.store_commits.proofs.Extents.{as_it_was, broken_as, counted, switched_as}
-use Rattle.store_commits.proofs.SnapshotOutcomes.{WasNotCommitted}
 
 -- ---- the copy that a step goes on with
 
@@ -106,43 +103,104 @@ broke_is old new before now state calls broke = λ i. record {
   copy = None;
 }
 
+-- ---- its commit
+
+-- an image of the state, whatever its bytes end with
+pub ends_somehow : (l : Extent) (image : Image) → StandsAs l image → EndsWith [] l image
+ends_somehow l image stands = record { stands = stands; front = stands.bytes; ends = sym (append-nil stands.bytes) }
+
+-- the account after a step, by whether a half has room and whether the sectors were the last
+abbrev stepped_by : Account → ℕ → Bool → Bool → Account
+stepped_by a most fits whole =
+    if fits
+    then (if whole then record a { used = (copy_at a).target; half = 1 - a.half; copy = None } else record a { copy = Some (record (copy_at a) { standing = standing_after (copy_at a) most }) })
+    else record a { copy = None }
+
+module _ (a : Account) (most : ℕ) where
+  abbrev fits_there : Bool
+  fits_there = nat_le (copy_at a).target (capacity_of a.sectors)
+
+  abbrev whole_there : Bool
+  whole_there = nat_eq (standing_after (copy_at a) most) (copy_at a).target
+
+  turned_is : (copy_at a).target ≤ capacity_of a.sectors → standing_after (copy_at a) most ≡ (copy_at a).target → account_stepped a most ≡ stepped_by a most true true
+  turned_is fits whole = (λ i. stepped_by a most (le-leb (copy_at a).target (capacity_of a.sectors) fits i) (eq-eqb (standing_after (copy_at a) most) (copy_at a).target whole i))
+
+  pub stepped_is : (p : Pump) (b : Account) → IsPumped a most p b → b ≡ account_stepped a most
+  stepped_is p b (inl off) = off.1.new_is ∙ (λ i. stepped_by a most (sym (lt-leb (copy_at a).target (capacity_of a.sectors) off.1.over) i) whole_there)
+  stepped_is p b (inr (inl on)) =
+      let ne : standing_after (copy_at a) most ≡ (copy_at a).target → ⊥ = (λ e. let lt = on.less in omega (arith, lt, e)) in
+      on.new_is ∙ (λ i. stepped_by a most (sym (le-leb (copy_at a).target (capacity_of a.sectors) on.can.fits) i) (sym (ne_eqb (standing_after (copy_at a) most) (copy_at a).target ne) i))
+  stepped_is p b (inr (inr over)) = over.new_is ∙ sym (turned_is over.can.fits over.whole)
+
+  pub calls_are : (copy_at a).target ≤ capacity_of a.sectors → calls_of_pump a most ≡ calls_of_step (copy_at a) most
+  calls_are fits = ap (λ (b : Bool). if b then calls_of_step (copy_at a) most else 0) (le-leb (copy_at a).target (capacity_of a.sectors) fits)
+
+-- a step passed
+pub step_passed : {D : Type 0} (disk : D → Disk) (x y : StoreView D) (most : ℕ) (r : Result Pump Refusal) → PumpAnswers x.account most r y.account → OnOk r (Made (disk x.device) (disk y.device) (calls_of_pump x.account most))
+    → IsStandingAs (disk y.device) y.account → OnOk r (PassedCommit disk x.device y.device (to_step x.account most))
+step_passed disk x y most (Err r) is made stands = tt
+step_passed disk x y most (Ok p) is made stands =
+    let works = ⊎_elim (λ off. ap (λ (a : Account). a.broken) off.1.new_is ∙ off.1.works)
+    (⊎_elim (λ on. ap (λ (a : Account). a.broken) on.new_is ∙ on.can.works) (λ over. ap (λ (a : Account). a.broken) over.new_is ∙ over.can.works)) is in
+    record {
+      passed = made;
+      leaves = λ honest image left. subst (λ (b : Account). EndsWith [] (extent_of b) image) (stepped_is x.account most p y.account is) (ends_somehow (extent_of y.account) image (stands honest works image left));
+    }
+
 -- a snapshot, or a step of a copy: the other half may count, with the target
 module _ {D : Type 0} (disk : D → Disk) (coherent : (device : D) → (disk device).honest → IsCoherent (disk device)) (before now : JournalView D) (state : State) (held : IsHeld (disk before.device) before state)
     (same : (disk before.device).honest ↔ (disk now.device).honest) (kept : IsKept (disk now.device) now) (k : Option Copy) where
-  pub stood_snapshot : (r : Result ℕ Refusal) → WasNotCommitted disk before now (snapshot_bytes state.documents) r
-      → ((disk before.device).honest → LeavesOnly (disk before.device) (disk now.device) (EitherCarried (carried_of before) (switched (carried_of before) (snapshot_bytes state.documents))))
-      → LeavesThen (disk now.device) (with_copy (account_of before state) k) snapshot (reply_of Snapped r) (with_copy (account_of now state) None)
-  stood_snapshot (Ok used) was leaves = tt
-  stood_snapshot (Err refusal) was leaves = λ is honest image left.
-      let a = with_copy (account_of before state) k in
-      ⊎_elim (λ old. inl (broken_as a (with_copy (account_of now state) None) image (broke_is (disk before.device) (disk now.device) before now state _ was.1) old)) (λ new. inr (account_with_snapshot a, refl, new.stands))
-      (switched_as disk coherent before now state held same kept was.1.stays.sectors (snapshot_bytes state.documents) (snapshot_holds state state.seq refl (remakes_all framed_storable state held.good)) leaves honest image left)
+  abbrev a : Account
+  a = with_copy (account_of before state) k
 
-  pub stood_pump : (calls : ℕ) → Broke (disk before.device) (disk now.device) calls before now → (most : ℕ) (t : Target) → Holds 2 state.seq t.bytes state.documents → copy_at (with_copy (account_of before state) k) ≡ count_of t
-      → before.broken ≡ false → length t.bytes ≤ capacity_of before.sectors → ((disk before.device).honest → LeavesOnly (disk before.device) (disk now.device) (EitherCarried (carried_of before) (switched (carried_of before) t.bytes)))
+  abbrev bytes : List ℕ
+  bytes = snapshot_bytes state.documents
+
+  remakes : RemakesAll state
+  remakes = remakes_all framed_storable state held.good
+
+  -- the account of a journal that the device broke leaves what was there
+  broken_leaves : (calls : ℕ) → Broke (disk before.device) (disk now.device) calls before now → (image : Image) → StandsAs (extent_of (account_of before state)) image → StandsAs (extent_of (with_copy (account_of now state) None)) image
+  broken_leaves calls broke image old = broken_as a (with_copy (account_of now state) None) image (broke_is (disk before.device) (disk now.device) before now state calls broke) old
+
+  pub snapshot_passed : before.broken ≡ false → (r : Result ℕ Refusal) → WasCommitted disk before now bytes r → OnOk r (PassedCommit disk before.device now.device (to_snapshot a))
+  snapshot_passed works (Err r) was = tt
+  snapshot_passed works (Ok used) was = record {
+    passed = was.0.made;
+    leaves = ending_as (disk now.device) now state (coherent now.device) (held_snapped (disk before.device) (disk now.device) before now state remakes held same kept was.0) was.0.works [] bytes (λ honest. was.0.bytes (same.1 honest)) (account_with_snapshot a)
+        (ap extent_of (snapped_is (disk before.device) (disk now.device) before now state remakes held same kept k works was.0));
+  }
+
+  pub snapshot_failed : (r : Result ℕ Refusal) → WasNotCommitted disk before now bytes r → ((disk before.device).honest → LeavesOnly (disk before.device) (disk now.device) (EitherCarried (carried_of before) (switched (carried_of before) bytes)))
+      → IfErr r (λ refusal. refusal.number ≡ DEVICE → FailedCommit disk before.device now.device (to_snapshot a) (with_copy (account_of now state) None))
+  snapshot_failed (Ok used) was leaves = tt
+  snapshot_failed (Err refusal) was leaves = λ is. record {
+    failed = was.1.failed;
+    leaves = λ honest image left. ⊎_elim (λ old. inl (broken_leaves _ was.1 image old)) (λ new. inr new)
+        (switched_as disk coherent before now state held same kept was.1.stays.sectors bytes (snapshot_holds state state.seq refl remakes) leaves honest image left);
+  }
+
+  pub step_failed : (most : ℕ) (t : Target) → Broke (disk before.device) (disk now.device) (calls_of_step (count_of t) most) before now → Holds 2 state.seq t.bytes state.documents → copy_at a ≡ count_of t
+      → length t.bytes ≤ capacity_of before.sectors → ((disk before.device).honest → LeavesOnly (disk before.device) (disk now.device) (EitherCarried (carried_of before) (switched (carried_of before) t.bytes)))
       → ((disk before.device).honest → standing_after (count_of t) most < length t.bytes → LeavesOnly (disk before.device) (disk now.device) (Carries (carried_of before)))
-      → (disk now.device).honest → (image : Image) → (disk now.device).left image → MayStandAs (with_copy (account_of before state) k) (pump most) (with_copy (account_of now state) None) image
-  stood_pump calls broke most t holds at works fits leaves before_last honest image left =
-      let a = with_copy (account_of before state) k in
-      let old = broken_as a (with_copy (account_of now state) None) image (broke_is (disk before.device) (disk now.device) before now state calls broke) in
-      ⊎_elim (λ less. inl (old (as_it_was (disk before.device) before state held image (counted disk coherent before now state held same kept broke.stays.sectors honest image left) (same.1 honest)
-      (left_now (disk before.device) (disk now.device) (Carries (carried_of before)) (coherent now.device honest) (before_last (same.1 honest) less) image left))))
-      (λ all. (
-      let whole : standing_after (count_of t) most ≡ length t.bytes = omega (arith, all) in
-      ⊎_elim (λ stands. inl (old stands))
-      (λ new. inr (
-        record a { used = (copy_at a).target; half = 1 - before.half; copy = None },
-        (
-          record { written = written_of (copy_at a) most; copy = Switched },
-          record {
-            can = record { works = works; fits = subst (λ (x : Copy). x.target ≤ capacity_of before.sectors) (sym at) fits };
-            whole = subst (λ (x : Copy). standing_after x most ≡ x.target) (sym at) whole;
-            pump_is = refl;
-            new_is = refl;
-          },
-        ),
-        subst (λ (x : Copy). StandsAs (record { state = state; used = x.target; half = 1 - before.half; rides = before.rides; sectors = before.sectors }) image) (sym at) new.stands,
-      ))
-      (switched_as disk coherent before now state held same kept broke.stays.sectors t.bytes holds leaves honest image left)
-      ))
-      (cases_lt (standing_after (count_of t) most) (length t.bytes))
+      → FailedCommit disk before.device now.device (to_step a most) (with_copy (account_of now state) None)
+  step_failed most t broke holds at fits leaves before_last = record {
+    failed = subst (Failed (disk before.device) (disk now.device)) (ap (λ (c : Copy). calls_of_step c most) (sym at) ∙ sym (calls_are a most fits_at)) broke.failed;
+    leaves = λ honest image left.
+        ⊎_elim (λ less. inl (broken_leaves _ broke image (as_it_was (disk before.device) before state held image (counted disk coherent before now state held same kept broke.stays.sectors honest image left) (same.1 honest)
+        (left_now (disk before.device) (disk now.device) (Carries (carried_of before)) (coherent now.device honest) (before_last (same.1 honest) less) image left))))
+        (λ all. ⊎_elim (λ old. inl (broken_leaves _ broke image old)) (λ new. inr (turned (omega (arith, all)) image new.stands))
+        (switched_as disk coherent before now state held same kept broke.stays.sectors t.bytes holds leaves honest image left))
+        (cases_lt (standing_after (count_of t) most) (length t.bytes));
+  }
+    where
+      fits_at : (copy_at a).target ≤ capacity_of a.sectors
+      fits_at = subst (λ (x : Copy). x.target ≤ capacity_of before.sectors) (sym at) fits
+
+      turned : standing_after (count_of t) most ≡ length t.bytes → (image : Image) → StandsAs (record { state = state; used = length t.bytes; half = 1 - before.half; rides = before.rides; sectors = before.sectors }) image
+          → EndsWith [] (extent_of (account_stepped a most)) image
+      turned whole image new =
+          let there = turned_is a most fits_at (subst (λ (x : Copy). standing_after x most ≡ x.target) (sym at) whole) in
+          subst (λ (b : Account). EndsWith [] (extent_of b) image) (sym there) (ends_somehow (extent_of (stepped_by a most true true)) image
+          (subst (λ (x : Copy). StandsAs (record { state = state; used = x.target; half = 1 - before.half; rides = before.rides; sectors = before.sectors }) image) (sym at) new))

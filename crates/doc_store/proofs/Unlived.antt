@@ -5,8 +5,8 @@ use Rattle.sector_device.specs.declared.memory.MemDisk.{MemDisk}
 use Rattle.doc_changes.specs.Refusals.{plain}
 use Rattle.doc_changes.specs.State.{State}
 use Rattle.refusals.specs.declared.numbers.TheConstants.{DEVICE, MEMORY, NO_ROOM}
-use Rattle.doc_store.specs.Ending.{MayLackRoom}
-use Rattle.doc_store.specs.LivesRefused.{AreRefused, refusal_of_lives}
+use Rattle.doc_store.specs.Opening.{MayLackRoom}
+use Rattle.doc_store.specs.Lives.{AreRefused, refusal_of_lives}
 use Rattle.doc_store.specs.declared.life.Life.{Life}
 use Rattle.doc_store.specs.declared.whole.LivesFault.{LivesFault}
 use Rattle.doc_store.specs.declared.whole.LivesFault.TheVariants.{InALife, AtLast}

@@ -1,17 +1,16 @@
--- The ends of lives, before it is known what the crash kept.
-use Rattle.std.specs.Prelude.{◌≡◌, ℕ, ◌-◌, ◌≤◌, List, [], ◌∷◌, true, if◌then◌else◌, Some}
+-- For the clauses within the crate: the part of a life as its events are answered, and the ends of lives, before it is known what the crash kept.
+use Rattle.std.specs.Prelude.{◌≡◌, ℕ, ◌-◌, ◌≤◌, List, [], ◌∷◌, true, if◌then◌else◌, Some, ◌+◌, ◌++◌, length, vec_len, vec_capacity}
 use Rattle.sector_device.specs.Disk.{Disk, Image}
 use Rattle.doc_changes.specs.State.{State}
 use Rattle.store_commits.specs.Images.{Stands}
-use Rattle.doc_store.specs.Lives.{LivesSo}
-use Rattle.doc_store.specs.Opening.{LacksRoom}
+use Rattle.doc_store.specs.Lives.{LivesSo, accepted_of, replies_of}
 use Rattle.doc_store.specs.Timed.{IsByClock, Left, left}
 use Rattle.doc_store.specs.declared.life.Life.{Life}
 use Rattle.doc_store.specs.declared.life.Part.{Part}
-
--- a crash may leave an image for whose migration a half has no room
-abbrev pub MayLackRoom : Disk → Type 0
-MayLackRoom disk = (image : Image) × disk.left image × LacksRoom image
+use Rattle.store_commits.specs.Account.{StoreView}
+use Rattle.store_commits.specs.Events.{done_by, hit_by}
+use Rattle.store_commits.specs.Run.{Event, Ran, dones_of, hits_of}
+use Rattle.store_commits.specs.declared.event.Reply.{Reply}
 
 -- a part that has what was kept, if the next opened life began with this number of accepted changes, and this one with
 -- the number in that place
@@ -48,3 +47,22 @@ pub record Leaves (given : Disk) (l : Left) (life : Life) (part : Part) (image :
   pub lived : TimedIf (HasSpent life.stop 0 given) l (life ∷ []) (with_kept part state.seq ∷ []) (left state image true)
   pub began : began_or part state.seq ≡ l.state.seq
   pub stands : Stands state image
+
+-- there is room for `n` events more
+pub record HasPlaces (n : ℕ) (p : Part) : Type 0 where
+  pub replies : vec_len p.replies + n ≤ vec_capacity p.replies
+  pub accepted : vec_len p.accepted + n ≤ vec_capacity p.accepted
+  pub acknowledged : p.acknowledged + n ≤ vec_capacity p.accepted
+
+-- the part now has the transaction that such a reply accepts, and not the reply itself yet
+pub record Grows (e : Event) (r : Reply) (old new : Part) : Type 0 where
+  pub replies : new.replies ≡ old.replies
+  pub accepted : accepted_of new ≡ (accepted_of old ++ done_by e r) ++ hit_by e r
+  pub acknowledged : new.acknowledged ≡ old.acknowledged + length (done_by e r)
+  pub room : (n : ℕ) → HasPlaces (n + 1) old → HasPlaces n new
+
+-- The events are a run of the store, and this is their part.
+pub record Told {D : Type 0} (disk : D → Disk) (start end : StoreView D) (events : List Event) (p : Part) : Type 0 where
+  pub ran : Ran disk start end events (replies_of p)
+  pub accepted : accepted_of p ≡ dones_of events (replies_of p) ++ hits_of events (replies_of p)
+  pub acknowledged : p.acknowledged ≡ length (dones_of events (replies_of p))

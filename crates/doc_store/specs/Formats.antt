@@ -1,13 +1,30 @@
--- The format of a store, and what brings it to another.
-use Rattle.std.specs.Prelude.{◌≡◌, ◌≢◌, ◌⊎◌, ℕ, Bool, true, false, length, Result, Ok, Err, if◌then◌else◌}
-use Rattle.sector_device.specs.Disk.{Image}
+-- The status of a store; its format, and what brings it to another.
+use Rattle.std.specs.Prelude.{length, ◌≡◌, ◌≢◌, ◌⊎◌, ℕ, Bool, true, false, Result, Ok, Err, if◌then◌else◌}
+use Rattle.store_journal.specs.Layout.{capacity_of}
+use Rattle.store_commits.specs.Account.{Account, account_broken}
+use Rattle.doc_store.specs.declared.status.Status.{Status}
+use Rattle.sector_device.specs.Disk.{Image, Disk}
 use Rattle.doc_changes.specs.Refusals.{plain}
 use Rattle.doc_changes.specs.declared.refusal.Refusal.{Refusal}
 use Rattle.refusals.specs.declared.numbers.TheConstants.{BROKEN, DEVICE}
-use Rattle.store_commits.specs.Account.{Account, account_broken}
 use Rattle.store_commits.specs.Images.{Stands}
 use Rattle.doc_store.specs.declared.format.Format.{Format}
 use Rattle.doc_store.specs.declared.format.Format.TheVariants.{Two, Three}
+use Rattle.store_journal.specs.Calls.{Became}
+use Rattle.store_journal.specs.JournalView.{JournalView, carried_of}
+
+-- the account, without the documents themselves
+abbrev pub status_of : Account → Status
+status_of a = record {
+  documents = length a.state.documents;
+  seq = a.state.seq;
+  opens = a.opens;
+  used = a.used;
+  capacity = capacity_of a.sectors;
+  sectors = a.sectors;
+  half = a.half;
+  broken = a.broken;
+}
 
 -- its number, as the commit sector names it
 abbrev pub number_of : Format → ℕ
@@ -53,3 +70,10 @@ pub record IsImageOf (a : Account) (image : Image) : Type 0 where
 -- so in the account's format or in another
 abbrev pub InEither : Account → Format → Image → Type 0
 InEither a format image = IsImageOf a image ⊎ IsImageOf (account_in format a) image
+
+-- small commits ride or not; nothing else of the journal has changed
+pub record IsNamed {D : Type 0} (disk new_disk : Disk) (old new : JournalView D) (rides : Bool) : Type 0 where
+  pub became : Became disk new_disk old new (record (carried_of old) { rides = rides }) (length old.bytes) (if rides then 2 else 3)
+  pub open became use *
+  pub copied : disk.honest → new.copied ≡ old.copied
+  pub size : length new.copied ≡ length old.copied

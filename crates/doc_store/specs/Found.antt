@@ -1,5 +1,5 @@
--- For the clauses within the crate: the bytes that were read of a device, and their replay.
-use Rattle.std.specs.Prelude.{◌≡◌, ℕ, List, length, false}
+-- For the clauses within the crate: the bytes that were read of a device, their replay, and an opened journal whose opening is counted.
+use Rattle.std.specs.Prelude.{◌≡◌, ℕ, List, length, false, ◌⊎◌, ◌<◌, ◌≤◌}
 use Rattle.sector_device.specs.Disk.{Disk}
 use Rattle.sector_device.specs.Sectors.{KeepsImages}
 use Rattle.store_journal.specs.Carries.{Carried}
@@ -7,6 +7,13 @@ use Rattle.store_journal.specs.Opening.{Loaded}
 use Rattle.store_journal.specs.JournalView.{JournalView, carried_of}
 use Rattle.doc_changes.specs.State.{Good, State}
 use Rattle.store_commits.specs.Images.{Holds}
+use Rattle.store_journal.specs.Layout.{capacity_of}
+use Rattle.store_journal.specs.Calls.{Became, Broke}
+use Rattle.refusals.specs.declared.numbers.TheConstants.{DEVICE, MEMORY, NO_ROOM}
+use Rattle.doc_changes.specs.Refusals.{plain}
+use Rattle.doc_changes.specs.declared.refusal.Refusal.{Refusal}
+use Rattle.store_commits.specs.Snapshot.{snapshot_bytes}
+use Rattle.doc_store.specs.Opening.{calls_to_settle, carried_after}
 
 -- what the device carries, by a journal and its bytes as they were read
 abbrev pub carried_in : {D : Type 0} → JournalView D → List ℕ → Carried
@@ -24,3 +31,15 @@ pub record WasFound {D : Type 0} (disk : D → Disk) (device : D) (journal : Jou
   pub holds : Holds journal.version journal.seq bytes state.documents
   pub keeps : (disk journal.device).honest → KeepsImages (disk device) (disk journal.device)
   pub honest : (disk journal.device).honest → (disk device).honest
+
+-- it is seen to carry what the opening makes of what was read
+abbrev pub IsSettled : {D : Type 0} → Disk → Disk → Carried → JournalView D → JournalView D → State → Type 0
+IsSettled disk new_disk was old new state = Became disk new_disk old new (carried_after was state) (length (carried_after was state).bytes) (calls_to_settle was state)
+
+-- Why it isn't counted: memory was refused, or bytes of format 1 are in a half that has no room for the snapshot of the
+-- state, and then nothing was done; or the device failed, if a half has room.
+abbrev pub IsNotSettled : {D : Type 0} → Disk → Disk → Carried → JournalView D → JournalView D → State → Refusal → Type 0
+IsNotSettled disk new_disk was old new state r =
+    ((r ≡ plain MEMORY) × (new ≡ old))
+    ⊎ ((r ≡ plain NO_ROOM) × ((old.version ≡ 1) × (capacity_of old.sectors < length (snapshot_bytes state.documents))) × (new ≡ old))
+    ⊎ ((r ≡ plain DEVICE) × (old.version ≡ 1 → length (snapshot_bytes state.documents) ≤ capacity_of old.sectors) × Broke disk new_disk (calls_to_settle was state) old new)

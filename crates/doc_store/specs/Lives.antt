@@ -1,5 +1,5 @@
 -- Lives: each is opened with what the one before left, is asked its events, and ends in a crash.
-use Rattle.std.specs.Prelude.{◌≡◌, ◌≤◌, List, [], ◌∷◌, ◌++◌, length, map, true, false, Option, Some, None, ⊤}
+use Rattle.std.specs.Prelude.{◌≡◌, ◌≤◌, List, [], ◌∷◌, ◌++◌, length, map, true, false, Option, Some, None, ⊤, ◌⊎◌, ℕ}
 use Rattle.sector_device.specs.Disk.{Disk, Image}
 use Rattle.sector_device.specs.History.{left_after}
 use Rattle.sector_device.specs.Memory.{mem_disk}
@@ -8,12 +8,20 @@ use Rattle.doc_changes.specs.State.{State}
 use Rattle.doc_machine.specs.Transaction.{Transaction, transaction_of}
 use Rattle.store_commits.specs.Account.{Account}
 use Rattle.store_commits.specs.Folds.{after_each, all_changes}
-use Rattle.store_commits.specs.Run.{Event, IsRun}
+use Rattle.store_commits.specs.Batch.{Commit}
+use Rattle.store_commits.specs.Run.{Event, IsRun, dones_of, hits_of}
 use Rattle.store_commits.specs.declared.event.Reply.{Reply}
 use Rattle.store_commits.specs.Images.{Stands}
 use Rattle.store_commits.specs.Events.{event_of}
 use Rattle.doc_store.specs.declared.life.Life.{Life}
 use Rattle.doc_store.specs.declared.life.Part.{Part}
+use Rattle.store_journal.specs.declared.fault.OpenFault.{OpenFault}
+use Rattle.doc_changes.specs.Refusals.{plain}
+use Rattle.doc_changes.specs.declared.refusal.Refusal.{Refusal}
+use Rattle.refusals.specs.declared.numbers.TheConstants.{DEVICE, MEMORY, NO_ROOM}
+use Rattle.doc_store.specs.Opening.{MayLackRoom, NotOpened}
+use Rattle.doc_store.specs.declared.whole.LivesFault.{LivesFault}
+use Rattle.doc_store.specs.declared.whole.LivesFault.TheVariants.{InALife, AtLast}
 
 -- what the store is asked in a life
 abbrev pub events_of : Life → List Event
@@ -30,18 +38,17 @@ accepted_of part = map transaction_of part.accepted.items
 -- A life that was opened, from its first account to its last: it began with a state, was asked these events, gave this
 -- part, and left another state.
 pub record IsOpened (first last : Account) (s : State) (events : List Event) (part : Part) (t : State) : Type 0 where
-  pub dones : List Transaction
-  pub in_doubt : List Transaction
   -- it was opened with the state, and no copy ran
   pub opened : part.opened ≡ true
   pub begins : first.state ≡ s
   pub works : first.broken ≡ false
   pub no_copy : first.copy ≡ None
   -- its replies are those of a run of its events
-  pub run : IsRun first events (replies_of part) dones in_doubt last
+  pub commits : List Commit
+  pub run : IsRun first events (replies_of part) commits last
   -- accepted are those that were done and those that a fault of the device hit, acknowledged are those that were done
-  pub accepted_are : accepted_of part ≡ dones ++ in_doubt
-  pub acknowledged_are : part.acknowledged ≡ length dones
+  pub accepted_are : accepted_of part ≡ dones_of events (replies_of part) ++ hits_of events (replies_of part)
+  pub acknowledged_are : part.acknowledged ≡ length (dones_of events (replies_of part))
   -- the crash kept the first of the accepted ones, each whole, and all that were acknowledged; `kept` is the number of
   -- their changes
   pub kept_ones : List Transaction
@@ -82,3 +89,30 @@ AllStand disk s = (image : Image) → disk.left image → Stands s image
 -- the same of a disk in memory, by its history
 abbrev pub DiskStands : MemDisk → State → Type 0
 DiskStands disk s = (image : Image) → left_after disk.history image → Stands s image
+
+-- the failures that a disk counts after lives, by those that it counted before: a crash leaves none
+abbrev pub failures_after : List Life → ℕ → ℕ
+failures_after [] failures = failures
+failures_after (life ∷ lives) failures = 0
+
+-- The lives had these parts and left a state, which every image of the disk after them holds. The last opening of that disk, which counts as many
+-- failures as the lives leave, was refused for what the disk then was, or did.
+pub record IsRefusedAtLast (s : State) (lives : List Life) (disk : MemDisk) (fault : OpenFault MemDisk) : Type 0 where
+  pub parts : List Part
+  pub state : State
+  pub lived : IsLives s lives parts state
+  pub before : MemDisk
+  pub counts : (mem_disk before).failures ≡ failures_after lives (mem_disk disk).failures
+  pub stand : AllStand (mem_disk before) state
+  pub why : NotOpened (mem_disk before) (mem_disk fault.device) fault.number
+  pub number : (fault.number ≡ MEMORY) ⊎ (fault.number ≡ DEVICE) ⊎ ((fault.number ≡ NO_ROOM) × MayLackRoom (mem_disk disk))
+
+-- memory was refused in a life, or an opening of one for lack of room; or the last opening was refused
+abbrev pub AreRefused : State → List Life → MemDisk → LivesFault → Type 0
+AreRefused s lives disk (InALife refusal) = (refusal ≡ plain MEMORY) ⊎ ((refusal ≡ plain NO_ROOM) × MayLackRoom (mem_disk disk))
+AreRefused s lives disk (AtLast fault) = IsRefusedAtLast s lives disk fault
+
+-- its refusal
+abbrev pub refusal_of_lives : LivesFault → Refusal
+refusal_of_lives (InALife refusal) = refusal
+refusal_of_lives (AtLast fault) = plain fault.number

@@ -1,39 +1,29 @@
 -- Lives by the clock of their device: each call counts one, and the fuse stops it after `stop` calls.
-use Rattle.std.specs.Prelude.{◌≡◌, ℕ, ◌+◌, ◌≤◌, ◌<◌, List, [], ◌∷◌, ◌++◌, length, Bool, true, false, Option, Some, None}
+use Rattle.std.specs.Prelude.{◌≡◌, ◌⊎◌, ℕ, ◌+◌, ◌≤◌, ◌<◌, List, [], ◌∷◌, length, Bool, true, false, Option, Some, None, ⊤}
 use Rattle.sector_device.specs.Disk.{Disk, Image}
 use Rattle.store_journal.specs.Carries.{EitherCarried}
 use Rattle.doc_changes.specs.State.{State}
-use Rattle.refusals.specs.declared.numbers.TheConstants.{DEVICE}
-use Rattle.store_commits.specs.Account.{Account}
-use Rattle.store_commits.specs.Charged.{Answered, cost_of}
-use Rattle.doc_store.specs.Leaving.{Hit, IsLeftAs, hit_with}
+use Rattle.store_commits.specs.Account.{Account, StandsAs, extent_of}
+use Rattle.store_commits.specs.Batch.{Commit, failed, passed}
 use Rattle.doc_store.specs.Lives.{LivesSo, events_of, replies_of}
 use Rattle.doc_store.specs.Opening.{IsOpenedFrom, carried_after, opening_cost}
-use Rattle.store_commits.specs.Run.{Event}
+use Rattle.store_commits.specs.Run.{Event, IsRun}
 use Rattle.store_commits.specs.declared.event.Reply.{Reply}
-use Rattle.store_commits.specs.declared.event.Reply.TheVariants.{Refused}
 use Rattle.store_commits.specs.Images.{Stands}
 use Rattle.doc_store.specs.declared.life.Life.{Life}
 use Rattle.doc_store.specs.declared.life.Part.{Part}
 
--- An event after `spent` calls: done, all its calls were within the stop; hit, though the disk itself never failed,
--- they pass it.
-abbrev pub IsInTime : ℕ → ℕ → ℕ → Account → Event → Reply → Type 0
-IsInTime stop faults spent a e (Refused r) = r.number ≡ DEVICE → faults ≡ 0 → stop < spent + cost_of a e
-IsInTime stop faults spent a e r = spent + cost_of a e ≤ stop
+-- Commits after `spent` calls. All calls of one that passed were within the stop. Those of one that failed, though the disk itself never failed, pass it, and no commit follows.
+abbrev pub AreInTime : ℕ → ℕ → ℕ → List Commit → Type 0
+AreInTime stop faults spent [] = ⊤
+AreInTime stop faults spent (passed k ∷ commits) = (spent + k.calls ≤ stop) × AreInTime stop faults (spent + k.calls) commits
+AreInTime stop faults spent (failed k kept ∷ commits) = (faults ≡ 0 → stop < spent + k.calls) × (commits ≡ [])
 
--- the calls once it was answered: one that was refused made none, and after one that was hit none follow
-abbrev pub spent_with : ℕ → Account → Event → Reply → ℕ
-spent_with spent a e (Refused r) = spent
-spent_with spent a e r = spent + cost_of a e
-
--- Events one after another, from an account that was opened by `opening` calls, and at the end the one that a fault
--- hit, if any.
-pub data AreInTime (stop faults opening : ℕ) (first : Account) : List Event → List Reply → ℕ → Account → Option Hit → Type 0 where
-  opened : AreInTime stop faults opening first [] [] opening first None
-  and_more : (es : List Event) (rs : List Reply) (spent : ℕ) (a : Account) (e : Event) (r : Reply) (b : Account) (hit : Option Hit)
-      → AreInTime stop faults opening first es rs spent a hit → Answered a e r b → IsInTime stop faults spent a e r
-      → AreInTime stop faults opening first (es ++ e ∷ []) (rs ++ r ∷ []) (spent_with spent a e r) b (hit_with hit a e r)
+-- an image that is left after commits: as the last account, or, if a commit failed, as it kept or as it was to make
+abbrev pub IsLeftBy : List Commit → Account → Image → Type 0
+IsLeftBy [] last image = StandsAs (extent_of last) image
+IsLeftBy (passed k ∷ commits) last image = IsLeftBy commits last image
+IsLeftBy (failed k kept ∷ commits) last image = StandsAs (extent_of kept) image ⊎ StandsAs (extent_of k.made) image
 
 -- what a crash leaves: a state, the image that holds it, and whether a crash may leave no other
 pub record Left : Type 0 where
@@ -48,17 +38,17 @@ left s image settled = record { state = s; image = image; settled = settled }
 abbrev pub HasOneImage : Disk → Type 0
 HasOneImage disk = (image : Image) → disk.left image → image ≡ disk.seen
 
--- An opened life: its first account is what the image carries, the calls of its opening were within the stop, each event is in time, and the crash leaves the last account, or what the commit makes that was hit.
+-- An opened life: its first account is what the image carries, the calls of its opening were within the stop, each commit is in time, and the crash leaves what these leave.
 pub record IsTimely (l : Left) (stop faults : ℕ) (events : List Event) (replies : List Reply) (first last : Account) (t : Left) : Type 0 where
   pub found : IsOpenedFrom l.image first
   pub sectors : first.sectors ≡ length l.image
   pub within : opening_cost found.stands.carried first.state ≤ stop
-  pub spent : ℕ
-  pub hit : Option Hit
-  pub timely : AreInTime stop faults (opening_cost found.stands.carried first.state) first events replies spent last hit
+  pub commits : List Commit
+  pub run : IsRun first events replies commits last
+  pub timely : AreInTime stop faults (opening_cost found.stands.carried first.state) commits
   -- if the store works at the end, the disk itself had no fault
   pub none : last.broken ≡ false → faults ≡ 0
-  pub leaves : IsLeftAs hit last t.image
+  pub leaves : IsLeftBy commits last t.image
   pub settles : t.settled ≡ true
 
 -- One that was not opened: though the disk itself never failed, the calls that open the image pass the stop; and the crash leaves as many sectors, with what they carry as it is, or as the opening makes it.

@@ -5,7 +5,7 @@ ghost use Rattle.sector_device.specs.Disk.{LeavesOnly};
 ghost use Rattle.doc_changes.specs.Refusals.{plain};
 ghost use Rattle.refusals.specs.declared.numbers.TheConstants.{MEMORY};
 ghost use Rattle.store_journal.specs.Filling.{FillRefusal, NoneOrAll};
-ghost use Rattle.doc_store.specs.Copied.{IsCopied, IsCopyOf, copied_of};
+ghost use Rattle.doc_store.specs.Opening.{IsCopied, IsCopyOf, copied_of};
 
 use crate::store::Store;
 use doc_machine::Refusal;

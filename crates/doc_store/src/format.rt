@@ -9,8 +9,7 @@ ghost use Rattle.doc_changes.specs.State.{Good};
 ghost use Rattle.doc_changes.specs.Refusals.{plain};
 ghost use Rattle.refusals.specs.declared.numbers.TheConstants.{DEVICE};
 ghost use Rattle.store_commits.specs.Account.{IsStanding};
-ghost use Rattle.doc_store.specs.Formats.{FormatAnswers, InEither, IsImageOf, account_in, calls_between, format_of, number_of, rides_in};
-ghost use Rattle.doc_store.specs.Naming.{IsNamed};
+ghost use Rattle.doc_store.specs.Formats.{FormatAnswers, InEither, IsImageOf, account_in, calls_between, format_of, number_of, rides_in, IsNamed};
 
 use crate::store::Store;
 use doc_machine::Refusal;

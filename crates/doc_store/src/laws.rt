@@ -4,9 +4,9 @@ ghost use Rattle.doc_changes.specs.State.{State, Good};
 ghost use Rattle.doc_store.specs.Promise.{KeepsPromise};
 ghost use Rattle.store_commits.specs.Account.{IsStanding, StoreView};
 ghost use Rattle.store_commits.specs.Events.{dones_of, hits_of};
-ghost use Rattle.store_commits.specs.Run.{Event, Ran, RanInBatches};
+ghost use Rattle.store_commits.specs.Run.{Event, Ran};
 ghost use Rattle.store_commits.specs.declared.event.Reply.{Reply};
-ghost use Rattle.doc_store.specs.Copied.{CopiesOpenAlike};
+ghost use Rattle.doc_store.specs.Opening.{CopiesOpenAlike};
 ghost use Rattle.store_commits.specs.Snapshot.{RemakesAll};
 ghost use Rattle.store_commits.specs.Images.{HoldsOne, StandsForOne};
 
@@ -28,12 +28,10 @@ pub fn runs_join<D: SectorDevice>()
         → Ran D.disk x y es rs → Ran D.disk y z fs qs → Ran D.disk x z (es ++ fs) (rs ++ qs) }
 {}
 
-/// What a call that made a run keeps of the promise, whatever more is said of its device's calls.
+/// What a call that made a run keeps of the promise.
 pub fn runs_keep_the_promise<D: SectorDevice>()
     ensures none { (x : StoreView D) → IsStanding (D.disk x.device) x.account → KeepsPromise D.disk x x [] [] }
-    ensures alone { (x y : StoreView D) (es : List Event) (rs : List Reply) → Ran D.disk x y es rs
-        → KeepsPromise D.disk x y (dones_of es rs) (hits_of es rs) }
-    ensures batches { (x y : StoreView D) (es : List Event) (rs : List Reply) → RanInBatches D.disk x y es rs
+    ensures runs { (x y : StoreView D) (es : List Event) (rs : List Reply) → Ran D.disk x y es rs
         → KeepsPromise D.disk x y (dones_of es rs) (hits_of es rs) }
 {}
 

@@ -3,8 +3,8 @@
 //! For every device that keeps to the disk model: while `execute`, `transact`, `transact_batch`, `snapshot`, `pump` or
 //! `run` goes on, each image that a crash may leave at any moment is that of the state after a prefix of the accepted
 //! transactions, each whole. Once the call has answered, it is that of the state after all that were done (`Run.antt`). Of
-//! every device: each event makes its known number of calls, and is refused as `DEVICE` only if one of them failed
-//! (`Charged.antt`).
+//! every device: each commit makes its known number of calls, and a fault is answered, as `DEVICE`, only if one of them
+//! failed (`Batch.antt`).
 //!
 //! `open` answers exactly the state of the device, in format 1, 2 or 3, and refuses all else. Each image that it leaves
 //! was there before or is one of that state. A store in format 1 is then in format 2; one in format 2 or 3 keeps its

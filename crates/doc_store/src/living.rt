@@ -5,7 +5,8 @@ ghost use Rattle.sector_device.specs.Memory.{mem_disk};
 ghost use Rattle.doc_changes.specs.Refusals.{plain};
 ghost use Rattle.doc_changes.specs.State.{State};
 ghost use Rattle.refusals.specs.declared.numbers.TheConstants.{MEMORY, NO_ROOM};
-ghost use Rattle.doc_store.specs.Ending.{Leaves, MayLackRoom, TimedIf, began_or, with_kept};
+ghost use Rattle.doc_store.specs.Ending.{Leaves, TimedIf, began_or, with_kept};
+ghost use Rattle.doc_store.specs.Opening.{MayLackRoom};
 ghost use Rattle.doc_store.specs.Lives.{AllStand};
 ghost use Rattle.doc_store.specs.Opening.{LacksRoom};
 ghost use Rattle.doc_store.specs.Timed.{HasOneImage, left};
@@ -81,8 +82,8 @@ fn spend<D: SectorDevice + Drop>(
         Ok(store) => store,
     };
     let began = store.status().seq;
-    store.know();
     part.ask_all(alloc, &mut store, events);
+    store.know();
     part.opened = true;
     part.kept = began;
     Ok(Ended {

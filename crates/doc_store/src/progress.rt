@@ -1,17 +1,14 @@
 //! The replies of a store to the events of a life.
 ghost use Rattle.std.specs.Prelude.{◌≡◌, ℕ, ◌+◌, ◌<◌, ◌≤◌, ◌++◌, ◌∷◌, [], List, map, length, vec_len, vec_capacity, IfOk};
 ghost use Rattle.doc_machine.specs.Transaction.{transaction_of};
-ghost use Rattle.store_commits.specs.Account.{IsStanding, StoreView};
-ghost use Rattle.store_commits.specs.Charged.{Answered, IsCharged};
-ghost use Rattle.store_commits.specs.Extents.{IsStandingAs};
+ghost use Rattle.store_commits.specs.Account.{IsStanding, StoreView, IsStandingAs};
 ghost use Rattle.doc_changes.specs.State.{Good};
-ghost use Rattle.doc_store.specs.Leaving.{LeavesThen};
 ghost use Rattle.store_commits.specs.Run.{Ran, change};
 ghost use Rattle.store_commits.specs.Run.{snapshot as a_snapshot};
 ghost use Rattle.store_commits.specs.Run.{pump as a_pump};
 ghost use Rattle.store_commits.specs.Run.{Event as RunEvent};
 ghost use Rattle.doc_store.specs.Lives.{TellsNothing};
-ghost use Rattle.doc_store.specs.Telling.{Grows, Told, HasPlaces};
+ghost use Rattle.doc_store.specs.Ending.{Grows, Told, HasPlaces};
 ghost use Rattle.store_commits.specs.Events.{event_of};
 
 use crate::life::Part;
@@ -81,9 +78,6 @@ impl Part {
         requires room { HasPlaces 1 self.old }
         requires standing { IsStanding (D.disk store.old.device) store.old.account }
         ensures ran { Ran D.disk store.old store.new (event_of event ∷ []) (result ∷ []) }
-        ensures answered { Answered store.old.account (event_of event) result store.new.account }
-        ensures charged { IsCharged D.disk store.old (event_of event) result store.new }
-        ensures left { LeavesThen (D.disk store.new.device) store.old.account (event_of event) result store.new.account }
         ensures grows { Grows (event_of event) result self.old self.new }
         ensures standing { IsStanding (D.disk store.new.device) store.new.account }
     {
@@ -104,9 +98,6 @@ impl Part {
         requires room { HasPlaces 1 self.old }
         requires standing { IsStanding (D.disk store.old.device) store.old.account }
         ensures ran { Ran D.disk store.old store.new (change (transaction_of transaction) ∷ []) (result ∷ []) }
-        ensures answered { Answered store.old.account (change (transaction_of transaction)) result store.new.account }
-        ensures charged { IsCharged D.disk store.old (change (transaction_of transaction)) result store.new }
-        ensures left { LeavesThen (D.disk store.new.device) store.old.account (change (transaction_of transaction)) result store.new.account }
         ensures grows { Grows (change (transaction_of transaction)) result self.old self.new }
         ensures standing { IsStanding (D.disk store.new.device) store.new.account }
     {
@@ -132,9 +123,6 @@ impl Part {
 // Asks for a snapshot.
 fn snapshot<D: SectorDevice>(store: &mut Store<D>) -> Reply
     ensures ran { Ran D.disk store.old store.new (a_snapshot ∷ []) (result ∷ []) }
-    ensures answered { Answered store.old.account a_snapshot result store.new.account }
-    ensures charged { IsCharged D.disk store.old a_snapshot result store.new }
-    ensures left { LeavesThen (D.disk store.new.device) store.old.account a_snapshot result store.new.account }
     ensures standing { IsStanding (D.disk store.new.device) store.new.account }
 {
     match store.snapshot() {
@@ -146,9 +134,6 @@ fn snapshot<D: SectorDevice>(store: &mut Store<D>) -> Reply
 // Asks for a step of a copy.
 fn pump<D: SectorDevice>(store: &mut Store<D>, max: u64) -> Reply
     ensures ran { Ran D.disk store.old store.new (a_pump max ∷ []) (result ∷ []) }
-    ensures answered { Answered store.old.account (a_pump max) result store.new.account }
-    ensures charged { IsCharged D.disk store.old (a_pump max) result store.new }
-    ensures left { LeavesThen (D.disk store.new.device) store.old.account (a_pump max) result store.new.account }
     ensures standing { IsStanding (D.disk store.new.device) store.new.account }
 {
     match store.pump(max) {

@@ -1,15 +1,15 @@
 //! The steps of a snapshot that is copied between changes.
 ghost use Rattle.std.specs.Prelude.{◌≡◌, ◌≢◌, ◌↔◌, [], ◌∷◌, IfErr, OnOk, None, false};
-ghost use Rattle.sector_device.specs.Charges.{Made, Failed};
+ghost use Rattle.sector_device.specs.Charges.{Made};
 ghost use Rattle.sector_device.specs.Disk.{LeavesOnly};
 ghost use Rattle.doc_changes.specs.State.{Good};
 ghost use Rattle.refusals.specs.declared.numbers.TheConstants.{DEVICE, MEMORY};
 ghost use Rattle.store_commits.specs.Account.{IsStanding};
-ghost use Rattle.doc_store.specs.Leaving.{LeavesThen};
-ghost use Rattle.store_commits.specs.Pumping.{PumpAnswers, calls_of_pump};
-ghost use Rattle.store_commits.specs.Run.{Ran, pump, reply_of};
+ghost use Rattle.store_commits.specs.Batch.{AreMade, FailedCommit};
+ghost use Rattle.store_commits.specs.Copying.{PumpAnswers, calls_of_pump};
+ghost use Rattle.store_commits.specs.Run.{Ran, commits_of, pump, reply_of, to_step};
 ghost use Rattle.store_commits.specs.declared.event.Reply.TheVariants.{Pumped};
-ghost use Rattle.store_commits.specs.Stands.{StandsAfter};
+ghost use Rattle.store_commits.specs.Folds.{StandsAfter};
 
 use crate::store::Store;
 use doc_machine::Refusal;
@@ -29,17 +29,16 @@ impl<D: SectorDevice> Store<D> {
     pub fn pump(&mut self, max: u64) -> Result<Pump, Refusal>
         ensures answer { PumpAnswers self.old.account max result self.new.account }
         ensures ran { Ran D.disk self.old self.new (pump max ∷ []) (reply_of Pumped result ∷ []) }
+        ensures made { AreMade D.disk self.old.device (commits_of result (to_step self.old.account max) self.new.account) self.new.device }
         ensures standing { IsStanding (D.disk self.new.device) self.new.account }
         ensures memory { IfErr result (λ refusal. refusal.number ≡ MEMORY → self.old.account.copy ≡ None) }
-        ensures made { OnOk result (Made (D.disk self.old.device) (D.disk self.new.device) (calls_of_pump self.old.account max)) }
-        ensures failed { IfErr result (λ refusal. refusal.number ≡ DEVICE
-            → Failed (D.disk self.old.device) (D.disk self.new.device) (calls_of_pump self.old.account max)) }
-        ensures left { LeavesThen (D.disk self.new.device) self.old.account (pump max) (reply_of Pumped result) self.new.account }
         ensures unchanged { IfErr result (λ refusal. refusal.number ≢ DEVICE → self.new ≡ self.old) }
         ensures good { Good self.new.account.state }
     {
         self.know();
-        self.copy_more(max)
+        let answer = self.copy_more(max);
+        self.know();
+        answer
     }
 
     // The same, before it is known as a run.
@@ -49,13 +48,12 @@ impl<D: SectorDevice> Store<D> {
         ensures memory { IfErr result (λ refusal. refusal.number ≡ MEMORY → self.old.account.copy ≡ None) }
         ensures made { OnOk result (Made (D.disk self.old.device) (D.disk self.new.device) (calls_of_pump self.old.account max)) }
         ensures failed { IfErr result (λ refusal. refusal.number ≡ DEVICE
-            → Failed (D.disk self.old.device) (D.disk self.new.device) (calls_of_pump self.old.account max)) }
+            → FailedCommit D.disk self.old.device self.new.device (to_step self.old.account max) self.new.account) }
         ensures moments { OnOk result ((D.disk self.old.device).honest → self.old.account.broken ≡ false
             → LeavesOnly (D.disk self.old.device) (D.disk self.new.device) (StandsAfter self.old.account.state [])) }
         ensures moments_err { IfErr result (λ refusal. refusal.number ≡ DEVICE → (D.disk self.old.device).honest → self.old.account.broken ≡ false
             → LeavesOnly (D.disk self.old.device) (D.disk self.new.device) (StandsAfter self.old.account.state [])) }
         ensures honest { (D.disk self.old.device).honest ↔ (D.disk self.new.device).honest }
-        ensures left { LeavesThen (D.disk self.new.device) self.old.account (pump max) (reply_of Pumped result) self.new.account }
         ensures unchanged { IfErr result (λ refusal. refusal.number ≢ DEVICE → self.new ≡ self.old) }
         ensures good { Good self.new.account.state }
     {

@@ -3,9 +3,8 @@ ghost use Rattle.std.specs.Prelude.{◌≡◌, ◌↔◌, IfErr, OnOk, length, f
 ghost use Rattle.sector_device.specs.Disk.{LeavesOnly};
 ghost use Rattle.store_journal.specs.Carries.{EitherCarried};
 ghost use Rattle.store_journal.specs.JournalView.{IsKept, carried_of};
-ghost use Rattle.doc_store.specs.Found.{carried_in};
+ghost use Rattle.doc_store.specs.Found.{carried_in, IsNotSettled, IsSettled};
 ghost use Rattle.doc_store.specs.Opening.{carried_after};
-ghost use Rattle.doc_store.specs.Settling.{IsNotSettled, IsSettled};
 
 use doc_machine::{Machine, Refusal};
 use refusals::numbers::{DEVICE, NO_ROOM};

@@ -1,17 +1,15 @@
 //! A store's documents written anew, without the changes that led to them.
 ghost use Rattle.std.specs.Prelude.{◌≡◌, ◌≢◌, ◌↔◌, [], ◌∷◌, IfOk, IfErr, OnOk, false};
-ghost use Rattle.sector_device.specs.Charges.{Made, Failed};
 ghost use Rattle.sector_device.specs.Disk.{LeavesOnly};
 ghost use Rattle.doc_changes.specs.Refusals.{plain};
 ghost use Rattle.doc_changes.specs.State.{Good};
 ghost use Rattle.refusals.specs.declared.numbers.TheConstants.{DEVICE, FULL, MEMORY};
 ghost use Rattle.store_commits.specs.Account.{IsStanding};
-ghost use Rattle.doc_store.specs.Leaving.{LeavesThen};
-ghost use Rattle.store_commits.specs.SnapshotAnswers.{SnapshotAnswers, StopsBefore, calls_of_snapshot};
-ghost use Rattle.store_commits.specs.Run.{Ran, snapshot, reply_of};
+ghost use Rattle.store_commits.specs.Batch.{AreMade, FailedCommit, PassedCommit, to_snapshot};
+ghost use Rattle.store_commits.specs.Snapshot.{SnapshotAnswers, StopsBefore, snapshot_bytes};
+ghost use Rattle.store_commits.specs.Run.{Ran, commits_of, snapshot, reply_of};
 ghost use Rattle.store_commits.specs.declared.event.Reply.TheVariants.{Snapped};
-ghost use Rattle.store_commits.specs.Snapshot.{snapshot_bytes};
-ghost use Rattle.store_commits.specs.Stands.{StandsAfter};
+ghost use Rattle.store_commits.specs.Folds.{StandsAfter};
 
 use crate::store::Store;
 use doc_machine::Refusal;
@@ -31,11 +29,8 @@ impl<D: SectorDevice> Store<D> {
     pub fn snapshot(&mut self) -> Result<u64, Refusal>
         ensures answer { SnapshotAnswers self.old.account result self.new.account }
         ensures ran { Ran D.disk self.old self.new (snapshot ∷ []) (reply_of Snapped result ∷ []) }
+        ensures made { AreMade D.disk self.old.device (commits_of result (to_snapshot self.old.account) self.new.account) self.new.device }
         ensures standing { IsStanding (D.disk self.new.device) self.new.account }
-        ensures made { OnOk result (Made (D.disk self.old.device) (D.disk self.new.device) (calls_of_snapshot self.old.account)) }
-        ensures failed { IfErr result (λ refusal. refusal.number ≡ DEVICE
-            → Failed (D.disk self.old.device) (D.disk self.new.device) (calls_of_snapshot self.old.account)) }
-        ensures left { LeavesThen (D.disk self.new.device) self.old.account snapshot (reply_of Snapped result) self.new.account }
         ensures uncalled { IfErr result (λ refusal. refusal.number ≢ DEVICE → self.new.device ≡ self.old.device) }
         ensures unchanged { IfErr result (λ refusal. refusal.number ≢ DEVICE → refusal.number ≢ FULL → self.new ≡ self.old) }
         ensures good { Good self.new.account.state }
@@ -48,15 +43,14 @@ impl<D: SectorDevice> Store<D> {
     fn write_anew(&mut self) -> Result<u64, Refusal>
         ensures answer { SnapshotAnswers self.old.account result self.new.account }
         ensures standing { IsStanding (D.disk self.new.device) self.new.account }
-        ensures made { OnOk result (Made (D.disk self.old.device) (D.disk self.new.device) (calls_of_snapshot self.old.account)) }
+        ensures passed { OnOk result (PassedCommit D.disk self.old.device self.new.device (to_snapshot self.old.account)) }
         ensures failed { IfErr result (λ refusal. refusal.number ≡ DEVICE
-            → Failed (D.disk self.old.device) (D.disk self.new.device) (calls_of_snapshot self.old.account)) }
+            → FailedCommit D.disk self.old.device self.new.device (to_snapshot self.old.account) self.new.account) }
         ensures moments { OnOk result ((D.disk self.old.device).honest → self.old.account.broken ≡ false
             → LeavesOnly (D.disk self.old.device) (D.disk self.new.device) (StandsAfter self.old.account.state [])) }
         ensures moments_err { IfErr result (λ refusal. refusal.number ≡ DEVICE → (D.disk self.old.device).honest → self.old.account.broken ≡ false
             → LeavesOnly (D.disk self.old.device) (D.disk self.new.device) (StandsAfter self.old.account.state [])) }
         ensures honest { (D.disk self.old.device).honest ↔ (D.disk self.new.device).honest }
-        ensures left { LeavesThen (D.disk self.new.device) self.old.account snapshot (reply_of Snapped result) self.new.account }
         ensures uncalled { IfErr result (λ refusal. refusal.number ≢ DEVICE → self.new.device ≡ self.old.device) }
         ensures unchanged { IfErr result (λ refusal. refusal.number ≢ DEVICE → refusal.number ≢ FULL → self.new ≡ self.old) }
         ensures good { Good self.new.account.state }

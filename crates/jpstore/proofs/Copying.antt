@@ -6,8 +6,8 @@ use Rattle.sector_device.specs.declared.history.History.{History, Created}
 use Rattle.file_device.specs.declared.file.FileDevice.{FileDevice}
 use Rattle.file_device.specs.File.{file_disk}
 use Rattle.store_journal.specs.Opening.{HasMagic}
-use Rattle.doc_store.specs.Account.{Account}
-use Rattle.doc_store.specs.Copied.{IsCopyOf}
+use Rattle.store_commits.specs.Account.{Account}
+use Rattle.doc_store.specs.Opening.{IsCopyOf}
 use Rattle.jpstore.specs.Copies.{IsCopiedFile, IsFilled}
 
 -- zeros look like no store

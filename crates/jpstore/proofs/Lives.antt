@@ -3,9 +3,11 @@ use Rattle.std.proofs.Common.{inl, inr, ⊎_elim, List, [], ◌++◌, refl, subs
 use Rattle.sector_device.specs.Disk.{Image}
 use Rattle.doc_machine.specs.Transaction.{Transaction}
 use Rattle.doc_changes.specs.State.{State}
-use Rattle.doc_store.specs.Account.{Account}
+use Rattle.store_commits.specs.Account.{Account}
 use Rattle.doc_store.specs.Opening.{IsOpenedFrom}
-use Rattle.doc_store.specs.Stands.{Stands, StandsAfter, StandsForOne}
+use Rattle.store_commits.specs.Run.{dones_of, hits_of}
+use Rattle.store_commits.specs.Images.{Stands, StandsForOne}
+use Rattle.store_commits.specs.Folds.{StandsAfter}
 use Rattle.jpstore.specs.FileLives.{OpensToAState, LeavesItsState, LeavesAState}
 
 -- what was opened stands there
@@ -31,8 +33,8 @@ stands_yet state changes image stands = record { kept = []; rest = changes; part
 
 pub leaves_some : StandsForOne → LeavesAState
 leaves_some one state changes held later opened closed events replies stands went honest found image left =
-    let accepted = went.ran.dones ++ went.ran.in_doubt in
-    let honest_opened = went.ran.honest.1 honest in
+    let accepted = dones_of events replies ++ hits_of events replies in
+    let honest_opened = went.ran.lasts.honest.1 honest in
     ⊎_elim (λ old. ⊎_elim (λ before. inl (stands image before))
     (λ same. inr (stands_yet opened.account.state accepted image
     (subst (λ (s : State). Stands s image) (one held.value.seen.items _ _ same.1 (opened_stands held.value.seen.items opened.account (went.is_opened.found honest_opened))) same.2))) old)

@@ -4,9 +4,9 @@ use Rattle.sector_device.specs.Disk.{Disk, Image}
 use Rattle.store_journal.specs.Carries.{Carried, Carries, one_more}
 use Rattle.store_journal.specs.Opening.{nothing_in}
 use Rattle.doc_changes.specs.State.{State, empty}
-use Rattle.doc_store.specs.Account.{Account, Copy}
+use Rattle.store_commits.specs.Account.{Account, Copy}
 use Rattle.doc_store.specs.Opening.{Opened, carried_after}
-use Rattle.doc_store.specs.Stands.{Stands, StandsForOne}
+use Rattle.store_commits.specs.Images.{Stands, StandsForOne}
 use Rattle.jpstore.specs.Memory.{new_account}
 
 -- an account by its parts

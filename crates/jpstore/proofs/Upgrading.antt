@@ -5,7 +5,7 @@ use Rattle.sector_device.specs.Disk.{LeavesOnly}
 use Rattle.sector_device.specs.declared.history.Held.{Held}
 use Rattle.file_device.specs.File.{file_disk}
 use Rattle.file_device.specs.declared.file.FileDevice.{FileDevice}
-use Rattle.doc_store.specs.Account.{IsStanding, StoreView}
+use Rattle.store_commits.specs.Account.{IsStanding, StoreView}
 use Rattle.doc_store.specs.Formats.{InEither}
 use Rattle.doc_store.specs.declared.format.Format.{Format}
 use Rattle.jpstore.specs.Files.{IsOpenedIn}

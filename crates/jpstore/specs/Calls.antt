@@ -4,14 +4,13 @@ use Rattle.std.specs.declared.snapshot.Snapshot.{Snapshot}
 use Rattle.command_line.specs.Call.{Asked, format, serve, check, copy, upgrade, mem}
 use Rattle.store_journal.specs.Layout.{capacity_of}
 use Rattle.doc_tree.specs.Doc.{Doc, boolean, int, object, member, no_members}
-use Rattle.doc_store.specs.Account.{StoreView}
-use Rattle.doc_store.specs.Formats.{format_of, number_of}
-use Rattle.doc_store.specs.Status.{status_of}
+use Rattle.store_commits.specs.Account.{StoreView}
+use Rattle.doc_store.specs.Formats.{format_of, number_of, status_of}
 use Rattle.file_device.specs.declared.file.FileDevice.{FileDevice}
 use Rattle.sector_device.specs.declared.history.Held.{Held}
 use Rattle.refusals.specs.declared.numbers.TheConstants.{DEVICE}
 use Rattle.protocol.specs.Reply.{line_of}
-use Rattle.serve_lines.specs.StatusReply.{status_reply}
+use Rattle.serve_lines.specs.Session.{status_reply}
 use Rattle.jpstore.specs.Copies.{IsCopiedFile, account_copied}
 use Rattle.jpstore.specs.Faults.{told_of_unopened}
 use Rattle.jpstore.specs.Files.{IsClosedIn, IsFormattedFile, IsOpenedIn, IsServedIn, IsUnopenedIn, WentToTheEnd, fault_of}

@@ -5,9 +5,9 @@ use Rattle.file_device.specs.declared.file.FileDevice.{FileDevice}
 use Rattle.file_device.specs.File.{file_disk}
 use Rattle.store_journal.specs.Filling.{NoneOrAll}
 use Rattle.store_journal.specs.Opening.{HasMagic}
-use Rattle.doc_store.specs.Account.{Account}
-use Rattle.doc_store.specs.Copied.{IsCopyOf}
-use Rattle.doc_store.specs.Snapshot.{snapshot_bytes}
+use Rattle.store_commits.specs.Account.{Account}
+use Rattle.doc_store.specs.Opening.{IsCopyOf}
+use Rattle.store_commits.specs.Snapshot.{snapshot_bytes}
 
 -- A file was created with `sectors` sectors, and the store copied into it: if all reads gave what the file held, each
 -- image that a crash may leave holds the same state, opened as often; and what a crash might have left at any moment

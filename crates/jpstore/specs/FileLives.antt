@@ -9,11 +9,10 @@ use Rattle.sector_device.specs.History.{left_after}
 use Rattle.file_device.specs.File.{file_disk}
 use Rattle.doc_machine.specs.Transaction.{Transaction}
 use Rattle.doc_changes.specs.State.{State}
-use Rattle.doc_store.specs.Account.{StoreView}
-use Rattle.doc_store.specs.Folds.{after_each}
-use Rattle.doc_store.specs.Run.{Event}
+use Rattle.store_commits.specs.Account.{StoreView}
+use Rattle.store_commits.specs.Folds.{after_each, StandsAfter}
+use Rattle.store_commits.specs.Run.{Event, dones_of, hits_of}
 use Rattle.store_commits.specs.declared.event.Reply.{Reply}
-use Rattle.doc_store.specs.Stands.{StandsAfter}
 use Rattle.jpstore.specs.Files.{IsOpenedIn, RanIn}
 
 -- A file, as it reads and whatever else a crash may leave of it, holds the state after some of these transactions, each
@@ -43,11 +42,11 @@ OpensToAState = (state : State) (transactions : List Transaction) (held : Snapsh
 -- It leaves the next one a file that holds its last state, which has every transaction that it answered as done, or the
 -- state after some of those that the device's failure hit, the first of them first.
 abbrev pub LeavesItsState : Type 0
-LeavesItsState = (held later : Snapshot Held) (opened closed : StoreView FileDevice) (events : List Event) (replies : List Reply) (went : RanIn held opened closed events replies) → (file_disk closed.device).honest
-    → FoundAtEnd closed.device later → HeldStands closed.account.state went.ran.in_doubt later
+LeavesItsState = (held later : Snapshot Held) (opened closed : StoreView FileDevice) (events : List Event) (replies : List Reply) → RanIn held opened closed events replies → (file_disk closed.device).honest
+    → FoundAtEnd closed.device later → HeldStands closed.account.state (hits_of events replies) later
 
 -- And if it is stopped at any moment, what it found, or the state that it opened and some of the transactions that it accepted, each whole, the first of them first.
 abbrev pub LeavesAState : Type 0
 LeavesAState = (state : State) (transactions : List Transaction) (held later : Snapshot Held) (opened closed : StoreView FileDevice) (events : List Event) (replies : List Reply) → HeldStands state transactions held
-    → (went : RanIn held opened closed events replies) → (file_disk closed.device).honest → FoundAtSomeMoment closed.device later
-    → (image : Image) → left_after (Opened later) image → StandsAfter state transactions image ⊎ StandsAfter opened.account.state (went.ran.dones ++ went.ran.in_doubt) image
+    → RanIn held opened closed events replies → (file_disk closed.device).honest → FoundAtSomeMoment closed.device later
+    → (image : Image) → left_after (Opened later) image → StandsAfter state transactions image ⊎ StandsAfter opened.account.state (dones_of events replies ++ hits_of events replies) image

@@ -11,11 +11,12 @@ use Rattle.file_device.specs.File.{file_disk}
 use Rattle.store_journal.specs.Carries.{Carries}
 use Rattle.store_journal.specs.Opening.{nothing_in}
 use Rattle.store_journal.specs.declared.fault.OpenFault.{OpenFault}
-use Rattle.doc_store.specs.Account.{StoreView, IsStanding}
+use Rattle.store_commits.specs.Account.{StoreView, IsStanding}
 use Rattle.doc_store.specs.Opening.{IsOpenedFrom, IsRefusedAs, LacksRoom, NotOpened, OldOrStands}
-use Rattle.doc_store.specs.Run.{Event, RanInBatches}
+use Rattle.store_commits.specs.Run.{Event, Ran, dones_of, hits_of}
 use Rattle.store_commits.specs.declared.event.Reply.{Reply}
-use Rattle.doc_store.specs.Stands.{Stands, StandsAfter}
+use Rattle.store_commits.specs.Images.{Stands}
+use Rattle.store_commits.specs.Folds.{StandsAfter}
 use Rattle.doc_changes.specs.State.{State}
 use Rattle.doc_changes.specs.Refusals.{plain}
 use Rattle.refusals.specs.declared.numbers.TheConstants.{DEVICE, MEMORY, NO_ROOM}
@@ -36,7 +37,7 @@ fault_of number = if nat_eq number MEMORY then Memory else Refused (plain number
 pub record RanSomeEvents {D : Type 0} (disk : D → Disk) (old new : StoreView D) : Type 0 where
   pub events : List Event
   pub replies : List Reply
-  pub ran : RanInBatches disk old new events replies
+  pub ran : Ran disk old new events replies
 
 -- all that there was to read was served, though the device may have failed meanwhile
 abbrev pub WentToTheEnd : Result (Unit {0}) Fault → Type 0
@@ -76,14 +77,14 @@ IsUnopenedIn held (NoStore fault) = (sectors : ℕ) × IsRefusedIn held sectors 
 -- A store that was opened in a file that held this went by one run of these events.
 pub record RanIn (held : Snapshot Held) (opened closed : StoreView FileDevice) (events : List Event) (replies : List Reply) : Type 0 where
   pub is_opened : IsOpenedIn held opened
-  pub ran : RanInBatches file_disk opened closed events replies
+  pub ran : Ran file_disk opened closed events replies
   -- If all reads gave what the file held: what a crash might have left at any moment is an image from before, or holds
   -- the state that was opened, or that after some of the accepted changes, the first of them first.
   pub any_moment : (file_disk closed.device).honest → (image : Image) → (file_disk closed.device).left_since 0 image
-      → OldOrStands (disk_after 0 (Opened held) 0) image ⊎ StandsAfter opened.account.state (ran.dones ++ ran.in_doubt) image
+      → OldOrStands (disk_after 0 (Opened held) 0) image ⊎ StandsAfter opened.account.state (dones_of events replies ++ hits_of events replies) image
   -- At the end it holds the state after all that were answered as done, with or without those that the device's failure
   -- hit.
-  pub last : (file_disk closed.device).honest → (image : Image) → (file_disk closed.device).left image → StandsAfter closed.account.state ran.in_doubt image
+  pub last : (file_disk closed.device).honest → (image : Image) → (file_disk closed.device).left image → StandsAfter closed.account.state (hits_of events replies) image
   pub standing : IsStanding (file_disk closed.device) closed.account
 
 -- the options of a session that ends by its input alone, with batches of at most `batch` changes and steps of at most

@@ -8,7 +8,7 @@ use Rattle.sector_device.specs.declared.history.History.{Opened}
 use Rattle.sector_device.specs.History.{disk_after}
 use Rattle.file_device.specs.declared.file.FileDevice.{FileDevice}
 use Rattle.file_device.specs.File.{file_disk}
-use Rattle.doc_store.specs.Account.{StoreView}
+use Rattle.store_commits.specs.Account.{StoreView}
 use Rattle.doc_store.specs.Opening.{OldOrStands}
 use Rattle.doc_store.specs.Promise.{IsLeftOf}
 use Rattle.protocol.specs.Reply.{reply_lines}

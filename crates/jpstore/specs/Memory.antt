@@ -4,7 +4,7 @@ use Rattle.std.specs.Io.KnownBytes.{Consumes, IsAtEnd}
 use Rattle.sector_device.specs.Memory.{mem_disk}
 use Rattle.sector_device.specs.declared.memory.MemDisk.{MemDisk}
 use Rattle.doc_changes.specs.State.{empty}
-use Rattle.doc_store.specs.Account.{Account, StoreView}
+use Rattle.store_commits.specs.Account.{Account, StoreView}
 use Rattle.protocol.specs.Lines.{lines_of}
 use Rattle.serve_lines.specs.Serve.{Serves}
 use Rattle.jpstore.specs.Files.{options_of}

@@ -8,7 +8,7 @@ use Rattle.sector_device.specs.History.{disk_after}
 use Rattle.file_device.specs.declared.file.FileDevice.{FileDevice}
 use Rattle.file_device.specs.File.{file_disk}
 use Rattle.doc_tree.specs.Doc.{Doc, boolean, int, object, member, no_members}
-use Rattle.doc_store.specs.Account.{IsStanding, StoreView}
+use Rattle.store_commits.specs.Account.{IsStanding, StoreView}
 use Rattle.doc_store.specs.Formats.{InEither, IsImageOf, account_in}
 use Rattle.doc_store.specs.Opening.{OldOrStands}
 use Rattle.doc_store.specs.declared.format.Format.{Format}

@@ -21,11 +21,10 @@ use Rattle.doc_changes.specs.Refusals.{plain}
 use Rattle.doc_changes.specs.State.{Document, State, find}
 use Rattle.doc_changes.specs.declared.refusal.Refusal.{Refusal}
 use Rattle.doc_machine.specs.Queries.{nodes_in}
-use Rattle.doc_store.specs.Account.{Account}
-use Rattle.doc_store.specs.Run.{Event}
+use Rattle.store_commits.specs.Account.{Account}
+use Rattle.store_commits.specs.Run.{Event}
 use Rattle.store_commits.specs.declared.event.Reply.{Reply}
 use Rattle.protocol.specs.declared.limits.TheConstants.{REPLY_BYTES}
-use Rattle.protocol.specs.Read.{IsNoChange}
 use Rattle.protocol.specs.Request.{Request, Asks, IsAskedBy, IsInRange, change, get, get_schema, rev, query, list, status, snapshot, pump, object_of}
 use Rattle.protocol.specs.Reply.{change_reply, names_reply, node_object, nodes_reply, refusal_reply, revision_reply, texts, told_by, value_reply, with_number}
 use Rattle.serve_lines.specs.Kept.{AsksFor, Has, HaveOwnNames, IsRefusal, LineTells, Refuses, Shows, Tells}
@@ -208,18 +207,18 @@ query_answered s name path reply selected (inr (short, inr (inr only))) said =
 
 -- ---- a line by itself
 
-request_tells : (old new : Account) (request : Request) (events : List Event) (said : List Reply) (reply : Doc) → IsNoChange request → Replies old request events said reply new → Tells old.state request reply
-request_tells old new (change t) events said reply other h = absurd other
-request_tells old new snapshot events said reply other (Ok used, answers, is, asked, told) = inl (ap (resolve (codes "seq" ∷ [])) is)
-request_tells old new snapshot events said reply other (Err r, answers, is, asked, told) = inr (is_refusal reply r is)
-request_tells old new (pump most) events said reply other (Ok step, answers, is, asked, told) = inl (ap (resolve (codes "seq" ∷ [])) is)
-request_tells old new (pump most) events said reply other (Err r, answers, is, asked, told) = inr (is_refusal reply r is)
-request_tells old new (get name path) events said reply other h = value_answered old.state name path reply h.0 h.1 h.2
-request_tells old new (get_schema name) events said reply other h = schema_answered old.state name reply (document_at old.state name) refl h.0
-request_tells old new (rev name) events said reply other h = revision_answered old.state name reply (document_at old.state name) refl h.0
-request_tells old new (query name path) events said reply other h = query_answered old.state name path reply h.0 h.1 h.2
-request_tells old new list events said reply other h = inl h.0
-request_tells old new status events said reply other h = inl (ap (resolve (codes "seq" ∷ [])) h.0, ap (resolve (codes "documents" ∷ [])) h.0)
+request_tells : (old new : Account) (request : Request) (events : List Event) (said : List Reply) (reply : Doc) → Replies old request events said reply new → Tells old.state request reply
+request_tells old new (change t) events said reply h = absurd h
+request_tells old new snapshot events said reply (Ok used, answers, is, asked, told) = inl (ap (resolve (codes "seq" ∷ [])) is)
+request_tells old new snapshot events said reply (Err r, answers, is, asked, told) = inr (is_refusal reply r is)
+request_tells old new (pump most) events said reply (Ok step, answers, is, asked, told) = inl (ap (resolve (codes "seq" ∷ [])) is)
+request_tells old new (pump most) events said reply (Err r, answers, is, asked, told) = inr (is_refusal reply r is)
+request_tells old new (get name path) events said reply h = value_answered old.state name path reply h.0 h.1 h.2
+request_tells old new (get_schema name) events said reply h = schema_answered old.state name reply (document_at old.state name) refl h.0
+request_tells old new (rev name) events said reply h = revision_answered old.state name reply (document_at old.state name) refl h.0
+request_tells old new (query name path) events said reply h = query_answered old.state name path reply h.0 h.1 h.2
+request_tells old new list events said reply h = inl h.0
+request_tells old new status events said reply h = inl (ap (resolve (codes "seq" ∷ [])) h.0, ap (resolve (codes "documents" ∷ [])) h.0)
 
 memory_tells : (s : State) (line : List ℕ) (reply : Doc) → reply ≡ refusal_reply (plain MEMORY) → LineTells s line reply
 memory_tells s line reply is = inr (inr (inl (refuses_by reply (plain MEMORY) is)))
@@ -227,8 +226,8 @@ memory_tells s line reply is = inr (inr (inl (refuses_by reply (plain MEMORY) is
 -- what a line by itself is answered
 pub other_tells : (old new : Account) (line : List ℕ) (events : List Event) (said : List Reply) (reply : Doc) → AnswersOther old line events said reply new → LineTells old.state line reply
 other_tells old new line events said reply (inl memory) = memory_tells old.state line reply memory.0
-other_tells old new line events said reply (inr (Ok request, asks, other, is)) = inl (request, asks_for line request asks, request_tells old new request events said reply other is)
-other_tells old new line events said reply (inr (Err number, asks, other, is)) = inr (inl (is_refusal reply (plain number) is.0, asks_none line number asks))
+other_tells old new line events said reply (inr (Ok request, asks, is)) = inl (request, asks_for line request asks, request_tells old new request events said reply is)
+other_tells old new line events said reply (inr (Err number, asks, is)) = inr (inl (is_refusal reply (plain number) is.0, asks_none line number asks))
 
 -- ---- none of these says that a transaction was done
 

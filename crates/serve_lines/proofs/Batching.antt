@@ -1,22 +1,19 @@
 -- Changes of one batch: what they were replied, and what followed them.
-use Rattle.std.proofs.Common.{◌≡◌, ◌+◌, inl, inr, refl, ap, sym, ◌∙◌, subst, suc, ℕ, List, [], ◌∷◌, ◌++◌, length, map, replicate, arith, length-append, true}
+use Rattle.std.proofs.Common.{◌≡◌, inl, inr, refl, ap, sym, ◌∙◌, subst, List, [], ◌∷◌, ◌++◌, length, map, replicate, arith, length-append}
 use Rattle.std.proofs.lemmas.List.{append-nil}
 use Rattle.sector_device.specs.Disk.{Disk, IsCoherent}
 use Rattle.doc_tree.specs.Doc.{Doc}
-use Rattle.doc_machine.specs.Transaction.{Transaction, changes_of}
+use Rattle.doc_machine.specs.Transaction.{Transaction}
 use Rattle.doc_changes.specs.Refusals.{plain}
 use Rattle.doc_changes.specs.declared.refusal.Refusal.{Refusal}
 use Rattle.refusals.specs.declared.numbers.TheConstants.{MEMORY}
-use Rattle.doc_store.specs.Account.{Account, StoreView}
-use Rattle.doc_store.specs.Batch.{Commit, IsBatch, no_more, commit_made, commit_in_doubt, by_itself, stays_broken}
-use Rattle.doc_store.specs.Committed as slots
-use Rattle.doc_store.specs.Committed.{Slot, asked, changes, replies_done, replies_in_doubt}
-use Rattle.doc_store.specs.Run as store
+use Rattle.store_commits.specs.Account.{Account, StoreView}
+use Rattle.store_commits.specs.Batch.{Commit, IsBatch, changes}
+use Rattle.store_commits.specs.Run as store
 use Rattle.store_commits.specs.declared.event.Reply.{Reply as StoreReply}
-use Rattle.doc_store.specs.Run.{Batched, RanInBatches, reply_of}
+use Rattle.store_commits.specs.Run.{Batched, Ran, reply_of}
 use Rattle.store_commits.specs.declared.event.Reply.TheVariants.{Done, Snapped, Pumped, Refused}
-use Rattle.store_commits.proofs.Batches.{ran_in_batches}
-use Rattle.store_commits.proofs.Running.{ran_joined}
+use Rattle.store_commits.proofs.Running.{batch_paired, ran_joined}
 use Rattle.protocol.specs.Reply.{refusal_reply}
 use Rattle.protocol.specs.declared.reply.Reply.{Reply}
 use Rattle.protocol.specs.declared.reply.Reply.TheVariants as shown
@@ -56,30 +53,10 @@ says_refused refusal (c ∷ cs) = (refl, says_refused refusal cs)
 
 -- ---- one reply to each change
 
-done_lengths : (seq : ℕ) (parts : List Slot) → length (replies_done seq parts) ≡ length (asked parts)
-done_lengths seq [] = refl
-done_lengths seq (slots.waits c ∷ more) = ap suc (done_lengths (seq + length (changes_of c)) more)
-done_lengths seq (slots.said c r ∷ more) = ap suc (done_lengths seq more)
-
-in_doubt_lengths : (parts : List Slot) → length (replies_in_doubt parts) ≡ length (asked parts)
-in_doubt_lengths [] = refl
-in_doubt_lengths (slots.waits c ∷ more) = ap suc (in_doubt_lengths more)
-in_doubt_lengths (slots.said c r ∷ more) = ap suc (in_doubt_lengths more)
-
-pub one_reply_each : (a b : Account) (cs : List Transaction) (rs : List StoreReply) (commits : List Commit) → IsBatch a cs rs commits b → length rs ≡ length cs
-one_reply_each _ _ _ _ _ (no_more a) = refl
-one_reply_each _ _ _ _ _ (commit_made a b d parts cs replies more made forced rest) =
-    omega (arith, length-append (replies_done a.state.seq parts) replies, length-append (asked parts) cs, done_lengths a.state.seq parts, one_reply_each b d cs replies more rest)
-one_reply_each _ _ _ _ _ (commit_in_doubt a b d parts cs replies more hit forced rest) =
-    omega (arith, length-append (replies_in_doubt parts) replies, length-append (asked parts) cs, in_doubt_lengths parts, one_reply_each b d cs replies more rest)
-one_reply_each _ _ _ _ _ (by_itself a b d c cs reply replies commits more forced by rest) = ap suc (one_reply_each b d cs replies more rest)
-one_reply_each _ _ _ _ _ (stays_broken a d c cs replies more broken rest) = ap suc (one_reply_each a d cs replies more rest)
+pub one_reply_each : (a b : Account) (ts : List Transaction) (rs : List StoreReply) (commits : List Commit) → IsBatch a ts rs commits b → length rs ≡ length ts
+one_reply_each a b ts rs commits is = sym (batch_paired a b ts rs commits is)
 
 -- ---- what a batch led to
-
-pub changes_length : (cs : List Transaction) → length (changes cs) ≡ length cs
-changes_length [] = refl
-changes_length (c ∷ cs) = ap suc (changes_length cs)
 
 module _ {D : Type 0} (disk : D → Disk) (options : Options) where
   -- memory was refused
@@ -98,7 +75,7 @@ module _ {D : Type 0} (disk : D → Disk) (options : Options) where
   module _ (old mid : StoreView D) (cs : List Transaction) (said : List StoreReply) (made : Batched disk old mid cs said) where
     -- as many as were made
     pub made_each : length said ≡ length cs
-    made_each = one_reply_each old.account mid.account cs said made.charged.commits made.charged.batch
+    made_each = one_reply_each old.account mid.account cs said made.is.commits made.is.batch
 
     -- the reply to each
     abbrev pub docs : List Doc
@@ -111,7 +88,7 @@ module _ {D : Type 0} (disk : D → Disk) (options : Options) where
       mid = mid.account;
       own = changes cs;
       own_said = said;
-      answers = inr (made.charged.commits, made.charged.batch, refl, refl);
+      answers = inr (made.is.commits, made.is.batch, refl, refl);
       more = more;
       more_said = more_said;
       follows = follows;
@@ -121,16 +98,15 @@ module _ {D : Type 0} (disk : D → Disk) (options : Options) where
     -- nothing follows
     batch_quiet : ((HasDone said × WantsStep options mid.account) → ⊥) → BatchIsAnswered disk options old cs docs mid
     batch_quiet none = batch_with mid [] [] (inr (none, (refl, refl, refl)))
-        (inr (subst (λ (es : List store.Event). RanInBatches disk old mid es (said ++ [])) (sym (append-nil (changes cs)))
-        (subst (λ (rs : List StoreReply). RanInBatches disk old mid (changes cs) rs) (sym (append-nil said)) made.ran)))
+        (inr (subst (λ (es : List store.Event). Ran disk old mid es (said ++ [])) (sym (append-nil (changes cs)))
+        (subst (λ (rs : List StoreReply). Ran disk old mid (changes cs) rs) (sym (append-nil said)) made.ran)))
 
     -- some change was done, and a step of a copy follows where one is wanted
     batch_done : (coherent : (device : D) → (disk device).honest → IsCoherent (disk device)) (new : StoreView D) → HasDone said → MakesCopyStep disk options mid new → BatchIsAnswered disk options old cs docs new
     batch_done coherent new done h = elim h [
       | inl step ↦
           batch_with new (store.pump options.pump ∷ []) (reply_of Pumped step.1.0 ∷ []) (inl ((done, step.0), (step.1.0, step.1.1, refl, refl)))
-          (inr (ran_joined disk coherent true old mid new (changes cs) (store.pump options.pump ∷ []) said (reply_of Pumped step.1.0 ∷ []) made.ran
-          (ran_in_batches disk mid new (store.pump options.pump ∷ []) (reply_of Pumped step.1.0 ∷ []) step.1.2)))
+          (inr (ran_joined disk coherent old mid new (changes cs) (store.pump options.pump ∷ []) said (reply_of Pumped step.1.0 ∷ []) made.ran step.1.2))
       | inr quiet ↦ subst (λ (v : StoreView D). BatchIsAnswered disk options old cs docs v) (sym quiet.1) (batch_quiet (λ due. quiet.0 due.1))
     ]
 

@@ -8,8 +8,8 @@ use Rattle.std.proofs.lemmas.Bool.{ne_eqb}
 use Rattle.std.specs.Io.KnownBytes.{IsAtEnd}
 use Rattle.sector_device.specs.Disk.{Disk, IsCoherent}
 use Rattle.doc_tree.specs.Doc.{Doc}
-use Rattle.doc_store.specs.Account.{StoreView, IsStanding}
-use Rattle.doc_store.specs.Run.{Event, RanInBatches}
+use Rattle.store_commits.specs.Account.{StoreView, IsStanding}
+use Rattle.store_commits.specs.Run.{Event, Ran}
 use Rattle.store_commits.specs.declared.event.Reply.{Reply}
 use Rattle.store_commits.proofs.Running.{ran_joined, ran_nothing}
 use Rattle.doc_machine.specs.Transaction.{Transaction}
@@ -17,7 +17,7 @@ use Rattle.protocol.specs.Request.{Asks, change}
 use Rattle.protocol.specs.Lines.{line_feed, onto, onto_ended, cut, ended, answered, is_blank, lines_of, HasNoBreak}
 use Rattle.serve_lines.specs.Session.{AreGroups, no_groups, one_alone, one_full, one_short, AskFor, Does, begun, one_more, alone, together, most_of}
 use Rattle.serve_lines.specs.LineReplies.{BatchIsAnswered, EndsBatch, IsRunFrom, LineIsAnswered}
-use Rattle.serve_lines.specs.EndOfLine.{with_feeds, EndsLine, LineIsWaitingOrDone, Fills, LineByItself, HasCut, HasAnswered, Waits}
+use Rattle.serve_lines.specs.Progress.{with_feeds, EndsLine, LineIsWaitingOrDone, Fills, LineByItself, HasCut, HasAnswered, Waits}
 use Rattle.serve_lines.specs.Serve.{BreaksOff, IsSession}
 use Rattle.serve_lines.specs.declared.options.Options.{Options}
 
@@ -154,13 +154,13 @@ pub record Sat {D : Type 0} (disk : D → Disk) (options : Options) (start : Sto
 
 module _ {D : Type 0} (disk : D → Disk) (options : Options) (coherent : (device : D) → (disk device).honest → IsCoherent (disk device)) where
   -- a run goes on by what lines led to
-  ran_led : (start old new : StoreView D) (events more : List Event) (said answers : List Reply) → RanInBatches disk start old events said → IsRunFrom disk old more answers new → RanInBatches disk start new (events ++ more) (said ++ answers)
+  ran_led : (start old new : StoreView D) (events more : List Event) (said answers : List Reply) → Ran disk start old events said → IsRunFrom disk old more answers new → Ran disk start new (events ++ more) (said ++ answers)
   ran_led start old new events more said answers first led = elim led [
     | inl quiet ↦
-        subst (λ (v : StoreView D). RanInBatches disk start v (events ++ more) (said ++ answers)) (sym quiet.0)
-        (subst (λ (es : List Event). RanInBatches disk start old es (said ++ answers)) (sym (ap (λ es. events ++ es) quiet.1 ∙ append-nil events))
-        (subst (λ (rs : List Reply). RanInBatches disk start old events rs) (sym (ap (λ rs. said ++ rs) quiet.2 ∙ append-nil said)) first))
-    | inr second ↦ ran_joined disk coherent true start old new events more said answers first second
+        subst (λ (v : StoreView D). Ran disk start v (events ++ more) (said ++ answers)) (sym quiet.0)
+        (subst (λ (es : List Event). Ran disk start old es (said ++ answers)) (sym (ap (λ es. events ++ es) quiet.1 ∙ append-nil events))
+        (subst (λ (rs : List Reply). Ran disk start old events rs) (sym (ap (λ rs. said ++ rs) quiet.2 ∙ append-nil said)) first))
+    | inr second ↦ ran_joined disk coherent start old new events more said answers first second
   ]
 
   -- one line more, by itself
@@ -310,7 +310,7 @@ module _ {D : Type 0} (disk : D → Disk) (options : Options) (coherent : (devic
         events = [];
         said = [];
         session = begun start.account;
-        ran = ran_nothing disk coherent true start standing;
+        ran = ran_nothing disk coherent start standing;
       };
       whole = refl;
       asked = tt;

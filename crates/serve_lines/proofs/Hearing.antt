@@ -5,14 +5,14 @@ use Rattle.sector_device.specs.Disk.{Disk, Image, IsCoherent}
 use Rattle.doc_tree.specs.Doc.{Doc}
 use Rattle.doc_machine.specs.Transaction.{Transaction, transaction_of}
 use Rattle.doc_machine.specs.declared.transaction.Transaction.{Transaction as Held}
-use Rattle.doc_store.specs.Account.{StoreView, IsStanding}
-use Rattle.doc_store.specs.Stands.{StandsAfter}
+use Rattle.store_commits.specs.Account.{StoreView, IsStanding}
+use Rattle.store_commits.specs.Folds.{StandsAfter}
+use Rattle.store_commits.specs.Run.{hits_of}
 use Rattle.protocol.specs.Lines.{answered, ended}
 use Rattle.protocol.specs.LineBuffer.{Holds}
 use Rattle.protocol.specs.Says.{Says}
 use Rattle.protocol.specs.declared.reply.Reply.{Reply}
-use Rattle.serve_lines.specs.EndOfLine.{HasCut, HasAnswered}
-use Rattle.serve_lines.specs.Pieces.{HasEnded, HasRead, KeepsLines, waiting_in}
+use Rattle.serve_lines.specs.Progress.{HasCut, HasAnswered, HasEnded, HasRead, KeepsLines, waiting_in}
 use Rattle.serve_lines.specs.LineReplies.{AllSay}
 use Rattle.serve_lines.specs.declared.session.Session.{Session}
 use Rattle.serve_lines.specs.declared.options.Options.{Options}
@@ -45,9 +45,10 @@ module _ {D : Type 0} (disk : D → Disk) (options : Options) where
   pub stands_heard : (start : StoreView D) (read : List ℕ) (now : StoreView D) (session : Session) (replies : List Doc) → HasRead disk options start read now session replies
       → (disk start.device).honest → start.account.broken ≡ false → (image : Image) → (disk now.device).left image
       → (hits : List Transaction) × StandsAfter now.account.state hits image × (now.account.broken ≡ false → hits ≡ [])
-  stands_heard start read now session replies s honest working image left =
-      let ran = s.reached.settles.session.ran in
-      (ran.in_doubt, ran.at_end honest working image left, ran.none_in_doubt)
+  stands_heard start read now is replies s honest working image left =
+      let session = s.reached.settles.session in
+      let lasts = session.ran.lasts in
+      (hits_of session.events session.said, lasts.at_end honest working image left, lasts.none_in_doubt)
 
   -- one more of the replies that were ready is given
   pub hears_given : (start : StoreView D) (read : List ℕ) (now : StoreView D) (was is : Session) (replies : List Doc) (reply : Reply) → was.ready.items ≡ reply ∷ is.ready.items → KeepsLines was is

@@ -9,22 +9,20 @@ use Rattle.doc_changes.specs.Refusals.{plain}
 use Rattle.doc_changes.specs.State.{State}
 use Rattle.doc_machine.specs.Transaction.{Transaction, after_in}
 use Rattle.refusals.specs.declared.numbers.TheConstants.{MEMORY}
-use Rattle.doc_store.specs.Account.{Account, StoreView}
-use Rattle.doc_store.specs.Committed.{changes}
-use Rattle.doc_store.specs.Events.{dones_of, hits_of}
-use Rattle.doc_store.specs.Folds.{after_each}
-use Rattle.doc_store.specs.Pumping.{PumpAnswers}
-use Rattle.doc_store.specs.SnapshotAnswers.{SnapshotAnswers}
+use Rattle.store_commits.specs.Account.{Account, StoreView}
+use Rattle.store_commits.specs.Batch.{changes}
+use Rattle.store_commits.specs.Events.{dones_of, hits_of}
+use Rattle.store_commits.specs.Folds.{after_each}
+use Rattle.store_commits.specs.Copying.{PumpAnswers}
+use Rattle.store_commits.specs.Snapshot.{SnapshotAnswers}
 use Rattle.doc_store.specs.Promise.{KeepsPromise}
-use Rattle.doc_store.specs.Run as store
-use Rattle.doc_store.specs.Run.{Event, RanInBatches}
-use Rattle.doc_store.proofs.Telling.{dones_append, hits_append}
+use Rattle.store_commits.specs.Run as store
+use Rattle.store_commits.specs.Run.{Event, Ran}
 use Rattle.store_commits.specs.declared.event.Reply.{Reply}
 use Rattle.store_commits.specs.declared.pump.Pump.{Pump}
 use Rattle.store_commits.proofs.Changes.{after_append}
-use Rattle.store_commits.proofs.Running.{pumped_state, pumped_works}
+use Rattle.store_commits.proofs.Running.{changes_length, dones_append, hits_append, pumped_state, pumped_works}
 use Rattle.protocol.specs.Lines.{answered, cut, ended, line_feed, lines_of, onto, onto_ended}
-use Rattle.protocol.specs.Read.{IsNoChange}
 use Rattle.protocol.specs.Request as asked
 use Rattle.protocol.specs.Reply.{refusal_reply}
 use Rattle.serve_lines.specs.Kept.{IsKept, Replied, no_line, was_done, was_hit, was_told}
@@ -32,7 +30,7 @@ use Rattle.serve_lines.specs.Serve.{BreaksOff, IsSession, Pauses}
 use Rattle.serve_lines.specs.Session.{AnswersGroup, AnswersOther, AreGroups, Does, Follows, Group, Replies, Session, alone, begun, no_groups, one_alone, one_full, one_more, one_short, shown_reply, together}
 use Rattle.serve_lines.specs.declared.options.Options.{Options}
 use Rattle.serve_lines.proofs.Answering.{other_tells}
-use Rattle.serve_lines.proofs.Batching.{changes_length, one_reply_each}
+use Rattle.serve_lines.proofs.Batching.{one_reply_each}
 use Rattle.serve_lines.proofs.Ending.{answered-append}
 use Rattle.serve_lines.proofs.Numbering.{batch_counts, batch_replied, batch_unmade}
 
@@ -97,21 +95,21 @@ pump_state old new most (Ok p) is = pumped_state old new most p is
 pump_state old new most (Err r) (inl is) = ap (λ (a : Account). a.state) is.1.new_is
 pump_state old new most (Err r) (inr is) = ap (λ (a : Account). a.state) is.1
 
-quiet_request : (old new : Account) (request : asked.Request) (events : List Event) (said : List Reply) (reply : Doc) → IsNoChange request → Replies old request events said reply new → Quiet old new events said
-quiet_request old new (asked.change t) events said reply other h = absurd other
-quiet_request old new asked.snapshot events said reply other h = quiet_snapshot old new events said _ h.3 h.4 (snapshot_state old new h.0 h.1) (snapshot_still old new h.0 h.1)
-quiet_request old new (asked.pump most) events said reply other h = quiet_pump old new events said most _ h.3 h.4 (pump_state old new most h.0 h.1) (pump_still old new most h.0 h.1)
-quiet_request old new (asked.get name path) events said reply other h = quiet_none old new events said h.3.0 h.3.1 h.3.2
-quiet_request old new (asked.get_schema name) events said reply other h = quiet_none old new events said h.1.0 h.1.1 h.1.2
-quiet_request old new (asked.rev name) events said reply other h = quiet_none old new events said h.1.0 h.1.1 h.1.2
-quiet_request old new (asked.query name path) events said reply other h = quiet_none old new events said h.3.0 h.3.1 h.3.2
-quiet_request old new asked.list events said reply other h = quiet_none old new events said h.1.0 h.1.1 h.1.2
-quiet_request old new asked.status events said reply other h = quiet_none old new events said h.1.0 h.1.1 h.1.2
+quiet_request : (old new : Account) (request : asked.Request) (events : List Event) (said : List Reply) (reply : Doc) → Replies old request events said reply new → Quiet old new events said
+quiet_request old new (asked.change t) events said reply h = absurd h
+quiet_request old new asked.snapshot events said reply h = quiet_snapshot old new events said _ h.3 h.4 (snapshot_state old new h.0 h.1) (snapshot_still old new h.0 h.1)
+quiet_request old new (asked.pump most) events said reply h = quiet_pump old new events said most _ h.3 h.4 (pump_state old new most h.0 h.1) (pump_still old new most h.0 h.1)
+quiet_request old new (asked.get name path) events said reply h = quiet_none old new events said h.3.0 h.3.1 h.3.2
+quiet_request old new (asked.get_schema name) events said reply h = quiet_none old new events said h.1.0 h.1.1 h.1.2
+quiet_request old new (asked.rev name) events said reply h = quiet_none old new events said h.1.0 h.1.1 h.1.2
+quiet_request old new (asked.query name path) events said reply h = quiet_none old new events said h.3.0 h.3.1 h.3.2
+quiet_request old new asked.list events said reply h = quiet_none old new events said h.1.0 h.1.1 h.1.2
+quiet_request old new asked.status events said reply h = quiet_none old new events said h.1.0 h.1.1 h.1.2
 
 quiet_line : (old new : Account) (line : List ℕ) (events : List Event) (said : List Reply) (reply : Doc) → AnswersOther old line events said reply new → Quiet old new events said
 quiet_line old new line events said reply (inl memory) = quiet_none old new events said memory.1.0 memory.1.1 memory.1.2
-quiet_line old new line events said reply (inr (Ok request, asks, other, is)) = quiet_request old new request events said reply other is
-quiet_line old new line events said reply (inr (Err number, asks, other, is)) = quiet_none old new events said is.1.0 is.1.1 is.1.2
+quiet_line old new line events said reply (inr (Ok request, asks, is)) = quiet_request old new request events said reply is
+quiet_line old new line events said reply (inr (Err number, asks, is)) = quiet_none old new events said is.1.0 is.1.1 is.1.2
 
 quiet_behind : (options : Options) (before : List Reply) (old new : Account) (events : List Event) (said : List Reply) → Follows options before old events said new → Quiet old new events said
 quiet_behind options before old new events said (inl step) = quiet_pump old new events said options.pump _ step.1.2 step.1.3 (pump_state old new options.pump step.1.0 step.1.1) (pump_still old new options.pump step.1.0 step.1.1)
@@ -236,7 +234,7 @@ ended_first bytes = let cuts = cut_first bytes in (answered cuts.0, ap answered 
 -- ---- what is kept of a session that ended
 
 module _ {D : Type 0} (disk : D → Disk) (options : Options) (old new : StoreView D) (left left_new : Option (List ℕ)) (read : List ℕ) (consumed : Consumes left left_new read)
-    (keeps : (events : List Event) (said : List Reply) → RanInBatches disk old new events said → KeepsPromise disk old new (dones_of events said) (hits_of events said)) where
+    (keeps : (events : List Event) (said : List Reply) → Ran disk old new events said → KeepsPromise disk old new (dones_of events said) (hits_of events said)) where
   -- one over the first of the lines that were read
   abbrev pub kept_so : (lines later : List (List ℕ)) (replies : List Doc) → IsSession disk options old lines replies new → lines_of read ≡ lines ++ later → IsKept disk old new left left_new
   kept_so lines later replies was parts = record {

@@ -12,12 +12,10 @@ use Rattle.doc_changes.specs.declared.refusal.Refusal.{Refusal}
 use Rattle.doc_machine.specs.Transaction.{Transaction, after_all, after_in, changes_of, refusal_in}
 use Rattle.doc_machine.proofs.Transactions.{own_transaction}
 use Rattle.refusals.specs.declared.numbers.TheConstants.{BROKEN, DEVICE, FULL, MEMORY}
-use Rattle.doc_store.specs.Account.{Account}
-use Rattle.doc_store.specs.Batch.{Commit, AnswersForced, IsBatch, alone_done, alone_full, behind_failed, by_itself, commit_in_doubt, commit_made, no_more, snapshot_failed, stays_broken}
-use Rattle.doc_store.specs.Committed.{AreJudged, Slot, account_behind, account_committed, asked, changes, replies_done, replies_in_doubt, said, waiting, waits}
-use Rattle.doc_store.specs.Events.{dones_of, hit_by, hits_of}
-use Rattle.doc_store.specs.Events.{change as change_event}
-use Rattle.doc_store.specs.Folds.{after_each}
+use Rattle.store_commits.specs.Account.{Account, account_broken}
+use Rattle.store_commits.specs.Batch.{Commit, IsBatch, behind_in_doubt, commit_in_doubt, commit_made, is_full, no_more, room_in_doubt, room_made, stays_broken, AreJudged, Slot, account_behind, account_committed, asked, changes, replies_done, replies_in_doubt, said, waiting, waits}
+use Rattle.store_commits.specs.Events.{dones_of, hit_by, hits_of, change as change_event}
+use Rattle.store_commits.specs.Folds.{after_each}
 use Rattle.store_commits.specs.declared.event.Reply.{Reply}
 use Rattle.store_commits.specs.declared.event.Reply.TheVariants.{Done, Snapped, Pumped, Refused}
 use Rattle.protocol.specs.Request.{change}
@@ -168,14 +166,6 @@ doubt_counts s (said t r ∷ slots) = ((λ _. none_in_doubt_done slots), doubt_c
 
 -- ---- a batch
 
-alone_counts : (a b : Account) (t : Transaction) (r : Reply) (commits : List Commit) → AnswersForced a t r commits b → Counted a b (t ∷ []) (r ∷ [])
-alone_counts _ _ _ _ _ (alone_done a b t seq is) =
-    let state = ap (λ (x : Account). x.state) is.new_is in
-    record { counts = (is.seq_is ∙ ap (λ (s : State). s.seq) state, tt); state = state; hit = inl refl; broke = λ broken. works_not a is.accepts.works broken }
-alone_counts _ _ _ _ _ (snapshot_failed a b t accepts is) = let broken = ap (λ (x : Account). x.broken) is in refused a b t (plain DEVICE) (ap (λ (x : Account). x.state) is) (inr broken) (λ _. broken)
-alone_counts _ _ _ _ _ (behind_failed a b t accepts is) = let broken = ap (λ (x : Account). x.broken) is in refused a b t (plain DEVICE) (ap (λ (x : Account). x.state) is) (inr broken) (λ _. broken)
-alone_counts _ _ _ _ _ (alone_full a t works over) = refused a a t (plain FULL) refl (inl refl) (λ broken. broken)
-
 pub batch_counts : (a b : Account) (ts : List Transaction) (rs : List Reply) (commits : List Commit) → IsBatch a ts rs commits b → Counted a b ts rs
 batch_counts _ _ _ _ _ (no_more a) = record { counts = tt; state = refl; hit = inl refl; broke = λ broken. (refl, broken) }
 batch_counts _ _ _ _ _ (commit_made a b d slots ts rs more made forced rest) =
@@ -192,7 +182,22 @@ batch_counts _ _ _ _ _ (commit_in_doubt a b d slots ts rs more hit forced rest) 
       hit = inr (ap (λ (x : Account). x.broken) hit.new_is);
       broke = λ broken. works_not a hit.works broken;
     }) (batch_counts b d ts rs more rest)
-batch_counts _ _ _ _ _ (by_itself a b d t ts r rs commits more forced alone rest) = behind a b d (t ∷ []) ts (r ∷ []) rs (alone_counts a b t r commits alone) (batch_counts b d ts rs more rest)
+batch_counts _ _ _ _ _ (room_made a b d t ts rs more goes made rest) =
+    let state = ap (λ (x : Account). x.state) made.new_is in
+    behind a b d (t ∷ []) ts (replies_done a.state.seq (waits t ∷ [])) rs (record {
+      counts = (seq_all a.state (changes_of t), tt);
+      state = state;
+      hit = inl refl;
+      broke = λ broken. works_not a goes.works broken;
+    }) (batch_counts b d ts rs more rest)
+batch_counts _ _ _ _ _ (behind_in_doubt a b d t ts rs more goes hit rest) =
+    let broken = ap (λ (x : Account). x.broken) hit.new_is in
+    behind a b d (t ∷ []) ts (Refused (plain DEVICE) ∷ []) rs (refused a b t (plain DEVICE) (ap (λ (x : Account). x.state) hit.new_is) (inr broken) (λ _. broken)) (batch_counts b d ts rs more rest)
+batch_counts _ _ _ _ _ (room_in_doubt a d t ts rs more goes rest) =
+    let b = account_broken a in
+    behind a b d (t ∷ []) ts (Refused (plain DEVICE) ∷ []) rs (refused a b t (plain DEVICE) refl (inr refl) (λ _. refl)) (batch_counts b d ts rs more rest)
+batch_counts _ _ _ _ _ (is_full a d t ts rs more works accepted none rest) =
+    behind a a d (t ∷ []) ts (Refused (plain FULL) ∷ []) rs (refused a a t (plain FULL) refl (inl refl) (λ is. is)) (batch_counts a d ts rs more rest)
 batch_counts _ _ _ _ _ (stays_broken a d t ts rs more broken rest) =
     behind a a d (t ∷ []) ts (Refused (plain BROKEN) ∷ []) rs (refused a a t (plain BROKEN) refl (inl refl) (λ is. is)) (batch_counts a d ts rs more rest)
 

@@ -1,11 +1,10 @@
 -- Between two turns each line that a line feed ended is answered, and its reply is written, but for the changes that wait.
 use Rattle.std.proofs.Common.{◌≡◌, ℕ, List, [], Option}
 use Rattle.sector_device.specs.Disk.{Disk}
-use Rattle.doc_store.specs.Account.{StoreView}
+use Rattle.store_commits.specs.Account.{StoreView}
 use Rattle.protocol.specs.Lines.{answered, ended}
 use Rattle.protocol.specs.Reply.{reply_lines}
-use Rattle.serve_lines.specs.Pieces.{waiting_in}
-use Rattle.serve_lines.specs.Progress.{SoFar}
+use Rattle.serve_lines.specs.Progress.{waiting_in, SoFar}
 use Rattle.serve_lines.specs.declared.options.Options.{Options}
 use Rattle.serve_lines.specs.Serve.{Pauses}
 use Rattle.serve_lines.specs.declared.progress.Progress.{Progress}

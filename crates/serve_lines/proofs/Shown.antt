@@ -5,19 +5,17 @@ use Rattle.doc_tree.specs.Doc.{Doc}
 use Rattle.doc_changes.specs.Refusals.{plain}
 use Rattle.doc_changes.specs.declared.refusal.Refusal.{Refusal}
 use Rattle.refusals.specs.declared.numbers.TheConstants.{MEMORY}
-use Rattle.doc_store.specs.Account.{Account, StoreView}
-use Rattle.doc_store.specs.SnapshotAnswers.{SnapshotAnswers}
-use Rattle.doc_store.specs.Pumping.{PumpAnswers}
+use Rattle.store_commits.specs.Account.{Account, StoreView}
+use Rattle.store_commits.specs.Snapshot.{SnapshotAnswers}
+use Rattle.store_commits.specs.Copying.{PumpAnswers}
 use Rattle.store_commits.specs.declared.pump.Pump.{Pump}
-use Rattle.store_commits.proofs.Batches.{ran_in_batches}
-use Rattle.doc_store.specs.Run as store
+use Rattle.store_commits.specs.Run as store
 use Rattle.store_commits.specs.declared.event.Reply.{Reply as StoreReply}
-use Rattle.doc_store.specs.Run.{Event, reply_of, Ran}
+use Rattle.store_commits.specs.Run.{Event, reply_of, Ran}
 use Rattle.store_commits.specs.declared.event.Reply.TheVariants.{Snapped, Pumped, Refused}
-use Rattle.protocol.specs.Read.{IsNoChange}
 use Rattle.protocol.specs.Request.{Request, Asks, snapshot, pump}
 use Rattle.protocol.specs.Reply.{refusal_reply}
-use Rattle.serve_lines.specs.Session.{AnswersOther, Follows, HasDone, Replies, reply_to_snapshot, reply_to_pump}
+use Rattle.serve_lines.specs.Session.{AnswersOther, Follows, HasDone, Replies, shown_reply}
 use Rattle.protocol.specs.Says.{Says}
 use Rattle.serve_lines.specs.LineReplies.{AnswersRequest, IsAnsweredAlone, LineIsAnswered, RequestIsAnswered}
 use Rattle.serve_lines.specs.declared.options.Options.{Options}
@@ -82,29 +80,29 @@ one_event disk options old new request reply event said none replies ran = recor
   more = [];
   more_said = [];
   follows = not_due options (said ∷ []) new.account none;
-  led = inr (ran_in_batches disk old new (event ∷ []) (said ∷ []) ran);
+  led = inr ran;
 }
 
 -- a snapshot is one event, and nothing follows it
 pub is_snapshot_event : {D : Type 0} (disk : D → Disk) (old new : StoreView D) (outcome : Result ℕ Refusal) → SnapshotAnswers old.account outcome new.account
-    → Ran disk old new (store.snapshot ∷ []) (reply_of Snapped outcome ∷ []) → IsAnsweredAlone disk old snapshot (reply_to_snapshot outcome) new
+    → Ran disk old new (store.snapshot ∷ []) (reply_of Snapped outcome ∷ []) → IsAnsweredAlone disk old snapshot (shown_reply (reply_of Snapped outcome)) new
 is_snapshot_event disk old new (Ok used) answers ran = λ options.
-    one_event disk options old new snapshot (reply_to_snapshot (Ok used)) store.snapshot (Snapped used) (λ none. absurd (cc none)) (Ok used, answers, refl, refl, refl) ran
+    one_event disk options old new snapshot (shown_reply (reply_of Snapped (Ok used))) store.snapshot (Snapped used) (λ none. absurd (cc none)) (Ok used, answers, refl, refl, refl) ran
 is_snapshot_event disk old new (Err refusal) answers ran = λ options.
-    one_event disk options old new snapshot (reply_to_snapshot (Err refusal)) store.snapshot (Refused refusal) (λ none. absurd (cc none)) (Err refusal, answers, refl, refl, refl) ran
+    one_event disk options old new snapshot (shown_reply (reply_of Snapped (Err refusal))) store.snapshot (Refused refusal) (λ none. absurd (cc none)) (Err refusal, answers, refl, refl, refl) ran
 
 -- and so is a step of a copy that was asked for
 pub is_pump_event : {D : Type 0} (disk : D → Disk) (old new : StoreView D) (most : ℕ) (outcome : Result Pump Refusal) → PumpAnswers old.account most outcome new.account
-    → Ran disk old new (store.pump most ∷ []) (reply_of Pumped outcome ∷ []) → IsAnsweredAlone disk old (pump most) (reply_to_pump outcome) new
+    → Ran disk old new (store.pump most ∷ []) (reply_of Pumped outcome ∷ []) → IsAnsweredAlone disk old (pump most) (shown_reply (reply_of Pumped outcome)) new
 is_pump_event disk old new most (Ok step) answers ran = λ options.
-    one_event disk options old new (pump most) (reply_to_pump (Ok step)) (store.pump most) (Pumped step) (λ none. absurd (cc none)) (Ok step, answers, refl, refl, refl) ran
+    one_event disk options old new (pump most) (shown_reply (reply_of Pumped (Ok step))) (store.pump most) (Pumped step) (λ none. absurd (cc none)) (Ok step, answers, refl, refl, refl) ran
 is_pump_event disk old new most (Err refusal) answers ran = λ options.
-    one_event disk options old new (pump most) (reply_to_pump (Err refusal)) (store.pump most) (Refused refusal) (λ none. absurd (cc none)) (Err refusal, answers, refl, refl, refl) ran
+    one_event disk options old new (pump most) (shown_reply (reply_of Pumped (Err refusal))) (store.pump most) (Refused refusal) (λ none. absurd (cc none)) (Err refusal, answers, refl, refl, refl) ran
 
 -- a line that asks for a request, no change, is answered as the request is
-pub asks_so : {D : Type 0} (disk : D → Disk) (options : Options) (old new : StoreView D) (line : List ℕ) (request : Request) (reply : Doc) → Asks line (Ok request) → IsNoChange request
+pub asks_so : {D : Type 0} (disk : D → Disk) (options : Options) (old new : StoreView D) (line : List ℕ) (request : Request) (reply : Doc) → Asks line (Ok request)
     → RequestIsAnswered disk options old request reply new → LineIsAnswered disk options old line reply new
-asks_so disk options old new line request reply asks other h = record {
+asks_so disk options old new line request reply asks h = record {
   events = h.own ++ h.more;
   said = h.own_said ++ h.more_said;
   does = record {
@@ -116,7 +114,7 @@ asks_so disk options old new line request reply asks other h = record {
       refl,
       elim h.answers [
         | inl memory ↦ inl memory
-        | inr replies ↦ inr (Ok request, asks, other, replies)
+        | inr replies ↦ inr (Ok request, asks, replies)
       ],
     );
     more = h.more;

@@ -3,7 +3,7 @@ use Rattle.std.proofs.Common.{◌≡◌, ℕ, List, [], ◌++◌, sym, ap, ◌�
 use Rattle.std.specs.Result.{OnOk, OnErr}
 use Rattle.std.proofs.lemmas.List.{append-nil}
 use Rattle.std.specs.Io.KnownBytes.{Appends, Keeps}
-use Rattle.serve_lines.specs.Written.{HasWritten}
+use Rattle.serve_lines.specs.Progress.{HasWritten}
 use Rattle.protocol.specs.declared.outbox.Outbox.{Outbox}
 
 pub appends_none : (a : Option (List ℕ)) → Appends a a []

@@ -16,7 +16,7 @@ use Rattle.doc_changes.specs.Names.{is_name}
 use Rattle.doc_changes.specs.State.{Document, State, find}
 use Rattle.doc_machine.specs.Transaction.{Transaction, after_in}
 use Rattle.refusals.specs.declared.numbers.TheConstants.{BROKEN, DEVICE, MEMORY}
-use Rattle.doc_store.specs.Account.{StoreView}
+use Rattle.store_commits.specs.Account.{StoreView}
 use Rattle.doc_store.specs.Promise.{KeepsPromise}
 use Rattle.protocol.specs.declared.limits.TheConstants.{LINE_BYTES, REPLY_BYTES}
 use Rattle.protocol.specs.Lines.{lines_of}

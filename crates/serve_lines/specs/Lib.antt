@@ -1,11 +1,6 @@
 pub mod Session
-pub mod StatusReply
 pub mod LineReplies
-pub mod Written
-pub mod EndOfLine
-pub mod Pieces
 pub mod Progress
 pub mod Serve
-pub mod Laws
 pub mod Kept
 pub mod Apart

@@ -6,12 +6,12 @@ use Rattle.doc_machine.specs.Transaction.{Transaction}
 use Rattle.doc_changes.specs.Refusals.{plain}
 use Rattle.doc_changes.specs.declared.refusal.Refusal.{Refusal}
 use Rattle.refusals.specs.declared.numbers.TheConstants.{MEMORY}
-use Rattle.doc_store.specs.Account.{Account, StoreView}
-use Rattle.doc_store.specs.Run as store
+use Rattle.store_commits.specs.Account.{Account, StoreView}
+use Rattle.store_commits.specs.Run as store
 use Rattle.store_commits.specs.declared.event.Reply.{Reply as StoreReply}
 use Rattle.store_commits.specs.declared.event.Reply.TheVariants as store_replies
-use Rattle.doc_store.specs.Run.{Event, Ran, RanInBatches, reply_of}
-use Rattle.doc_store.specs.Pumping.{PumpAnswers}
+use Rattle.store_commits.specs.Run.{Event, Ran, reply_of}
+use Rattle.store_commits.specs.Copying.{PumpAnswers}
 use Rattle.store_commits.specs.declared.pump.Pump.{Pump}
 use Rattle.protocol.specs.Request.{Request}
 use Rattle.protocol.specs.Reply.{refusal_reply}
@@ -28,7 +28,7 @@ AnswersRequest old request events said reply new =
 
 -- The store made a run of these events, or was asked for nothing and hasn't changed.
 abbrev pub IsRunFrom : {D : Type 0} → (D → Disk) → StoreView D → List Event → List StoreReply → StoreView D → Type 0
-IsRunFrom disk old events said new = ((new ≡ old) × (events ≡ []) × (said ≡ [])) ⊎ RanInBatches disk old new events said
+IsRunFrom disk old events said new = ((new ≡ old) × (events ≡ []) × (said ≡ [])) ⊎ Ran disk old new events said
 
 -- A step of a copy was made if one is wanted, and else nothing.
 abbrev pub MakesCopyStep : {D : Type 0} → (D → Disk) → Options → StoreView D → StoreView D → Type 0
@@ -40,16 +40,20 @@ MakesCopyStep disk options old new =
 abbrev pub FollowsBatch : {D : Type 0} → (D → Disk) → Options → List StoreReply → StoreView D → StoreView D → Type 0
 FollowsBatch disk options said old new = (HasDone said × MakesCopyStep disk options old new) ⊎ ((HasDone said → ⊥) × (new ≡ old))
 
--- What a request led to, with what follows it, and with what the store was asked for both.
-pub record RequestIsAnswered {D : Type 0} (disk : D → Disk) (options : Options) (old : StoreView D) (request : Request) (reply : Doc) (new : StoreView D) : Type 0 where
+-- From old, something was answered by these events of the store, with what follows it, and what the store was asked for both.
+pub record Led {D : Type 0} (disk : D → Disk) (options : Options) (Answered : List Event → List StoreReply → Account → Type 0) (old new : StoreView D) : Type 0 where
   pub mid : Account
   pub own : List Event
   pub own_said : List StoreReply
-  pub answers : AnswersRequest old.account request own own_said reply mid
+  pub answers : Answered own own_said mid
   pub more : List Event
   pub more_said : List StoreReply
   pub follows : Follows options own_said mid more more_said new.account
   pub led : IsRunFrom disk old (own ++ more) (own_said ++ more_said) new
+
+-- A request was.
+abbrev pub RequestIsAnswered : {D : Type 0} → (D → Disk) → Options → StoreView D → Request → Doc → StoreView D → Type 0
+RequestIsAnswered disk options old request reply new = Led disk options (λ own said mid. AnswersRequest old.account request own said reply mid) old new
 
 -- The same with nothing after it, whatever the options.
 abbrev pub IsAnsweredAlone : {D : Type 0} → (D → Disk) → StoreView D → Request → Doc → StoreView D → Type 0
@@ -62,16 +66,9 @@ pub record LineIsAnswered {D : Type 0} (disk : D → Disk) (options : Options) (
   pub does : Does options old.account (alone line) events said (reply ∷ []) new.account
   pub led : IsRunFrom disk old events said new
 
--- What the transactions of one batch led to, with what follows them, and with what the store was asked for both.
-pub record BatchIsAnswered {D : Type 0} (disk : D → Disk) (options : Options) (old : StoreView D) (cs : List Transaction) (replies : List Doc) (new : StoreView D) : Type 0 where
-  pub mid : Account
-  pub own : List Event
-  pub own_said : List StoreReply
-  pub answers : AnswersBatch old.account cs own own_said replies mid
-  pub more : List Event
-  pub more_said : List StoreReply
-  pub follows : Follows options own_said mid more more_said new.account
-  pub led : IsRunFrom disk old (own ++ more) (own_said ++ more_said) new
+-- The transactions of one batch were.
+abbrev pub BatchIsAnswered : {D : Type 0} → (D → Disk) → Options → StoreView D → List Transaction → List Doc → StoreView D → Type 0
+BatchIsAnswered disk options old ts replies new = Led disk options (λ own said mid. AnswersBatch old.account ts own said replies mid) old new
 
 -- The transactions that waited, if any did, were done as one batch.
 abbrev pub EndsBatch : {D : Type 0} → (D → Disk) → Options → StoreView D → List Transaction → List Doc → StoreView D → Type 0

@@ -3,9 +3,9 @@ use Rattle.std.specs.Prelude.{◌≡◌, ◌⊎◌, ◌<◌, ℕ, Bool, true, Li
 use Rattle.std.specs.Io.KnownBytes.{Appends, IsAtEnd}
 use Rattle.sector_device.specs.Disk.{Disk}
 use Rattle.doc_tree.specs.Doc.{Doc}
-use Rattle.doc_store.specs.Account.{StoreView}
+use Rattle.store_commits.specs.Account.{StoreView}
 use Rattle.doc_machine.specs.Transaction.{Transaction}
-use Rattle.doc_store.specs.Run.{Event, RanInBatches}
+use Rattle.store_commits.specs.Run.{Event, Ran}
 use Rattle.store_commits.specs.declared.event.Reply.{Reply}
 use Rattle.protocol.specs.Lines.{answered, ended, lines_of}
 use Rattle.protocol.specs.Reply.{reply_lines, count_of}
@@ -21,7 +21,7 @@ pub record IsSession {D : Type 0} (disk : D → Disk) (options : Options) (old :
   pub events : List Event
   pub said : List Reply
   pub session : Session options old.account groups events said replies new.account
-  pub ran : RanInBatches disk old new events said
+  pub ran : Ran disk old new events said
 
 -- It did, and the lines of its replies are all that was written.
 pub record Writes {D : Type 0} (disk : D → Disk) (options : Options) (old : StoreView D) (lines : List (List ℕ)) (before : Option (List ℕ)) (new : StoreView D) (after : Option (List ℕ)) : Type 0 where
@@ -54,3 +54,8 @@ pub record BreaksOff {D : Type 0} (disk : D → Disk) (options : Options) (old :
   pub replies : List Doc
   pub session : IsSession disk options old lines replies new
   pub first : ((answered (ended bytes) ≡ lines ++ later) × (session.whole ≡ true)) ⊎ (IsAtEnd left × (lines_of bytes ≡ lines ++ later))
+
+-- No line waits if a batch takes one: all lines were done.
+abbrev pub OneNeverWaits : {D : Type 0} → (D → Disk) → Type 0
+OneNeverWaits {D} disk = (options : Options) (old new : StoreView D) (lines : List (List ℕ)) (before after : Option (List ℕ)) → most_of options ≡ 1
+    → Pauses disk options old lines before new after → Writes disk options old lines before new after

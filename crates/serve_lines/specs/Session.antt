@@ -1,7 +1,7 @@
 -- Sessions: the replies to the lines that were read, one to each, in order.
-use Rattle.std.specs.Prelude.{◌≡◌, ◌⊎◌, ◌<◌, ◌≤◌, ◌*◌, ℕ, Bool, List, [], ◌∷◌, ◌++◌, map, max, length, chars, nat_le, if◌then◌else◌, is_some, true, false, Result, Ok, Err, ⊤}
+use Rattle.std.specs.Prelude.{◌≡◌, ◌⊎◌, ◌<◌, ◌≤◌, ◌*◌, ℕ, Bool, List, [], ◌∷◌, ◌++◌, map, max, length, chars, nat_le, if◌then◌else◌, is_some, true, false, Result, Ok, Err, ⊤, pos, codes}
 use Rattle.std.specs.List.{list_any}
-use Rattle.doc_tree.specs.Doc.{Doc}
+use Rattle.doc_tree.specs.Doc.{Doc, boolean, int, object, member, no_members}
 use Rattle.doc_tree.specs.Text.{text_of}
 use Rattle.doc_machine.specs.Transaction.{Transaction}
 use Rattle.doc_pointer.specs.Text.{pointer_text}
@@ -15,40 +15,50 @@ use Rattle.doc_changes.specs.Reading.{value_at, schema_at, revision_at, names_of
 use Rattle.doc_machine.specs.Queries.{nodes_at}
 use Rattle.doc_changes.specs.declared.refusal.Refusal.{Refusal}
 use Rattle.refusals.specs.declared.numbers.TheConstants.{MEMORY, POINTER, PATH, PATH_LEFT_OUT, PATH_LONG, REPLY_LONG}
-use Rattle.doc_store.specs.Account.{Account}
-use Rattle.doc_store.specs.Answers as by_itself
-use Rattle.doc_store.specs.Batch.{Commit, IsBatch}
-use Rattle.doc_store.specs.Committed.{changes}
-use Rattle.doc_store.specs.Events.{is_done}
-use Rattle.doc_store.specs.SnapshotAnswers.{SnapshotAnswers}
-use Rattle.doc_store.specs.Pumping.{PumpAnswers}
-use Rattle.doc_store.specs.Run as store
-use Rattle.doc_store.specs.Run.{Event, reply_of}
+use Rattle.store_commits.specs.Account.{Account}
+use Rattle.store_commits.specs.Batch.{Commit, IsBatch, changes}
+use Rattle.store_commits.specs.Events.{is_done}
+use Rattle.store_commits.specs.Snapshot.{SnapshotAnswers}
+use Rattle.store_commits.specs.Copying.{PumpAnswers}
+use Rattle.store_commits.specs.Run as store
+use Rattle.store_commits.specs.Run.{Event, reply_of}
 use Rattle.store_commits.specs.declared.event.Reply.{Reply}
 use Rattle.store_commits.specs.declared.event.Reply.TheVariants.{Done, Snapped, Pumped, Refused}
-use Rattle.doc_store.specs.Status.{status_of}
+use Rattle.doc_store.specs.Formats.{status_of}
 use Rattle.store_commits.specs.declared.pump.Pump.{Pump}
-use Rattle.protocol.specs.Read.{IsNoChange}
 use Rattle.protocol.specs.declared.limits.TheConstants.{REPLY_BYTES}
 use Rattle.protocol.specs.Request.{Request, change, get, get_schema, rev, query, list, status, snapshot, pump, Asks}
 use Rattle.protocol.specs.Reply.{change_reply, snapshot_reply, pump_reply, value_reply, revision_reply, nodes_reply, names_reply, refusal_reply}
-use Rattle.serve_lines.specs.StatusReply.{status_reply}
 use Rattle.serve_lines.specs.declared.options.Options.{Options}
+use Rattle.serde.specs.Event.{Log, Logs, field_key, unsigned}
+use Rattle.serde.specs.declared.name.Case.TheVariants.{AsIs}
+use Rattle.doc_store.specs.declared.status.Status.{Status}
 
--- the reply to a transaction
-abbrev pub reply_to_change : Result ℕ Refusal → Doc
-reply_to_change (Ok seq) = change_reply seq
-reply_to_change (Err refusal) = refusal_reply refusal
+-- the document of a store's status
+abbrev pub status_reply : Status → Doc
+status_reply s =
+    object (member (codes "broken") (boolean s.broken)
+    (member (codes "capacity") (int (pos s.capacity))
+    (member (codes "documents") (int (pos s.documents))
+    (member (codes "half") (int (pos s.half))
+    (member (codes "ok") (boolean true)
+    (member (codes "opens") (int (pos s.opens))
+    (member (codes "sectors") (int (pos s.sectors))
+    (member (codes "seq") (int (pos s.seq))
+    (member (codes "used") (int (pos s.used)) no_members)))))))))
 
--- the reply to a snapshot
-abbrev pub reply_to_snapshot : Result ℕ Refusal → Doc
-reply_to_snapshot (Ok used) = snapshot_reply used
-reply_to_snapshot (Err refusal) = refusal_reply refusal
+-- the events of a member whose value is a number
+pub record SendsNumber (name : List ℕ) (number : ℕ) (old new : Log) : Type 0 where
+  pub named : Log
+  pub key : Logs old named (field_key name AsIs)
+  pub value : Logs named new (unsigned number)
 
--- the reply to a step of a copy
-abbrev pub reply_to_pump : Result Pump Refusal → Doc
-reply_to_pump (Ok step) = pump_reply step
-reply_to_pump (Err refusal) = refusal_reply refusal
+-- the reply line to what the store replied
+abbrev pub shown_reply : Reply → Doc
+shown_reply (Done seq) = change_reply seq
+shown_reply (Snapped used) = snapshot_reply used
+shown_reply (Pumped step) = pump_reply step
+shown_reply (Refused refusal) = refusal_reply refusal
 
 -- the reply to a request for a value
 abbrev pub found_reply : Result Doc Refusal → Doc
@@ -85,15 +95,14 @@ abbrev pub ChangesNothing : Account → List Event → List Reply → Account �
 ChangesNothing old events said new = (events ≡ []) × (said ≡ []) × (new ≡ old)
 
 -- From old, a request was given this reply and led to new, and these events of the store were given these replies: a
--- transaction, a snapshot or a step of a copy is one event, and answered as the store answers it; a question is none,
--- is answered by what is stored, and changes nothing.
+-- snapshot or a step of a copy is one event, and answered as the store answers it; a question is none, is answered by
+-- what is stored, and changes nothing. A transaction is answered in its batch.
 abbrev pub Replies : Account → Request → List Event → List Reply → Doc → Account → Type 0
-Replies old (change c) events said reply new =
-    (outcome : Result ℕ Refusal) × by_itself.Answers old c outcome new × (reply ≡ reply_to_change outcome) × (events ≡ store.change c ∷ []) × (said ≡ reply_of Done outcome ∷ [])
+Replies old (change t) events said reply new = ⊥
 Replies old snapshot events said reply new =
-    (outcome : Result ℕ Refusal) × SnapshotAnswers old outcome new × (reply ≡ reply_to_snapshot outcome) × (events ≡ store.snapshot ∷ []) × (said ≡ reply_of Snapped outcome ∷ [])
+    (outcome : Result ℕ Refusal) × SnapshotAnswers old outcome new × (reply ≡ shown_reply (reply_of Snapped outcome)) × (events ≡ store.snapshot ∷ []) × (said ≡ reply_of Snapped outcome ∷ [])
 Replies old (pump most) events said reply new =
-    (outcome : Result Pump Refusal) × PumpAnswers old most outcome new × (reply ≡ reply_to_pump outcome) × (events ≡ store.pump most ∷ []) × (said ≡ reply_of Pumped outcome ∷ [])
+    (outcome : Result Pump Refusal) × PumpAnswers old most outcome new × (reply ≡ shown_reply (reply_of Pumped outcome)) × (events ≡ store.pump most ∷ []) × (said ≡ reply_of Pumped outcome ∷ [])
 Replies old (get name path) events said reply new = (found : Result Doc Refusal) × Finds old.state name path found × (reply ≡ found_reply found) × ChangesNothing old events said new
 Replies old (get_schema name) events said reply new = (reply ≡ found_reply (schema_at old.state name)) × ChangesNothing old events said new
 Replies old (rev name) events said reply new = (reply ≡ reply_to_rev (revision_at old.state name)) × ChangesNothing old events said new
@@ -107,23 +116,12 @@ abbrev pub RepliesTo : Account → Result Request ℕ → List Event → List Re
 RepliesTo old (Ok request) events said reply new = Replies old request events said reply new
 RepliesTo old (Err number) events said reply new = (reply ≡ refusal_reply (plain number)) × ChangesNothing old events said new
 
--- From old, a line was given this reply and led to new, by these events and their replies. That memory ran out may be
--- answered to any line before the store is asked.
-abbrev pub Answers : Account → List ℕ → List Event → List Reply → Doc → Account → Type 0
-Answers old line events said reply new =
-    ((reply ≡ refusal_reply (plain MEMORY)) × ChangesNothing old events said new)
-    ⊎ ((asked : Result Request ℕ) × Asks line asked × RepliesTo old asked events said reply new)
-
--- it is no transaction
-abbrev pub IsOther : Result Request ℕ → Type 0
-IsOther (Ok request) = IsNoChange request
-IsOther (Err number) = ⊤
-
--- The same of a line that is no transaction, or of any line if memory ran out for it.
+-- From old, a line by itself was given this reply and led to new, by these events and their replies: it is no
+-- transaction. That memory ran out may be answered to any line before the store is asked.
 abbrev pub AnswersOther : Account → List ℕ → List Event → List Reply → Doc → Account → Type 0
 AnswersOther old line events said reply new =
     ((reply ≡ refusal_reply (plain MEMORY)) × ChangesNothing old events said new)
-    ⊎ ((asked : Result Request ℕ) × Asks line asked × IsOther asked × RepliesTo old asked events said reply new)
+    ⊎ ((asked : Result Request ℕ) × Asks line asked × RepliesTo old asked events said reply new)
 
 -- the lines ask for these transactions
 abbrev pub AskFor : List (List ℕ) → List Transaction → Type 0
@@ -131,13 +129,6 @@ AskFor [] [] = ⊤
 AskFor [] (c ∷ cs) = ⊥
 AskFor (line ∷ lines) [] = ⊥
 AskFor (line ∷ lines) (c ∷ cs) = Asks line (Ok (change c)) × AskFor lines cs
-
--- the reply line to what the store replied
-abbrev pub shown_reply : Reply → Doc
-shown_reply (Done seq) = change_reply seq
-shown_reply (Snapped used) = snapshot_reply used
-shown_reply (Pumped step) = pump_reply step
-shown_reply (Refused refusal) = refusal_reply refusal
 
 -- From old, transactions were made as one batch, and given these replies; that led to new. That memory ran out may be
 -- answered to all of them before the store is asked.

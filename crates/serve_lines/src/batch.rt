@@ -5,7 +5,7 @@ ghost use Rattle.std.specs.Vec.{vec_capacity, vec_len};
 ghost use Rattle.std.specs.VecDeque.{deque_capacity, deque_len};
 ghost use Rattle.doc_tree.specs.Doc.{Doc};
 ghost use Rattle.doc_machine.specs.Transaction.{transaction_of};
-ghost use Rattle.doc_store.specs.Events.{is_done};
+ghost use Rattle.store_commits.specs.Events.{is_done};
 ghost use Rattle.doc_changes.specs.Refusals.{plain};
 ghost use Rattle.protocol.specs.declared.reply.Reply.{Reply as Shown};
 ghost use Rattle.protocol.specs.declared.reply.Reply.TheVariants.{Refused};

@@ -3,14 +3,13 @@ ghost use Rattle.std.specs.Prelude.{ℕ, List};
 ghost use Rattle.doc_changes.specs.State.{State};
 ghost use Rattle.protocol.specs.Reply.{change_reply};
 ghost use Rattle.serve_lines.specs.Kept.{LineTells};
-ghost use Rattle.serve_lines.specs.Laws.{OneIsAnswered, OneNeverWaits};
+ghost use Rattle.serve_lines.specs.Serve.{OneNeverWaits};
 
 use sector_device::SectorDevice;
 
-/// If a batch takes one change, each change is answered by itself, and none waits.
+/// If a batch takes one change, none waits.
 pub fn batches_of_one<D: SectorDevice>()
-    ensures answered { OneIsAnswered }
-    ensures paused { OneNeverWaits D.disk }
+    ensures { OneNeverWaits D.disk }
 {}
 
 /// What is said of a line whose transaction wasn't made is never that one was done, whatever the number.

@@ -39,7 +39,7 @@ pub struct Session {
 }
 
 impl Session {
-    ghost use Rattle.serve_lines.specs.Pieces.{LineEndsFor, LineEnds, GivesReady, ReadsMore, ReadsToAReply, EndsInput, KeepsInput, held_in};
+    ghost use Rattle.serve_lines.specs.Progress.{LineEndsFor, LineEnds, GivesReady, ReadsMore, ReadsToAReply, EndsInput, KeepsInput, held_in};
 
     /// A session that has read nothing. All its memory is taken here, but for what a request or a batch itself takes.
     pub fn new(alloc: Global, options: &Options) -> Result<Session, AllocError>

@@ -3,7 +3,7 @@ ghost use Rattle.std.specs.Prelude.{◌≡◌, IfOk, OnOk};
 ghost use Rattle.serde_json.specs.Events.{SendsValue};
 ghost use Rattle.doc_tree.specs.Text.{data_of};
 ghost use Rattle.protocol.specs.Reply.{line_of};
-ghost use Rattle.serve_lines.specs.StatusReply.{SendsNumber, status_reply};
+ghost use Rattle.serve_lines.specs.Session.{SendsNumber, status_reply};
 
 use doc_store::Status;
 use protocol::shown_line;

@@ -1,6 +1,6 @@
 //! Replies on their way to the writer.
 ghost use Rattle.std.specs.Prelude.{◌≡◌, [], OnOk};
-ghost use Rattle.serve_lines.specs.Written.{KeepsWritten, WritesReply};
+ghost use Rattle.serve_lines.specs.Progress.{KeepsWritten, WritesReply};
 ghost use Rattle.protocol.specs.Room.{HasRoom};
 
 use protocol::{Outbox, Reply};

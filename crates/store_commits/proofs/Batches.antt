@@ -1,37 +1,15 @@
 -- Batches in runs, and what was done of a batch so far.
-use Rattle.std.proofs.Common.{◌≡◌, inl, List, [], ◌∷◌, ◌++◌, map, refl, sym, ap, subst, true, false}
-use Rattle.std.specs.Prelude.{⊤}
+use Rattle.std.proofs.Common.{◌≡◌, List, [], ◌∷◌, ◌++◌, length-append, map, refl, sym, ◌∙◌, subst, true, ◌+◌}
 use Rattle.std.proofs.lemmas.List.{append_assoc, append-nil}
 use Rattle.sector_device.specs.Disk.{Disk, IsCoherent}
 use Rattle.doc_machine.specs.Transaction.{Transaction}
 use Rattle.refusals.specs.declared.numbers.TheConstants.{BROKEN}
 use Rattle.doc_changes.specs.Refusals.{plain}
 use Rattle.store_commits.specs.Account.{Account, StoreView, IsStanding}
-use Rattle.store_commits.specs.Batch.{AreMade, BatchIsCharged, Commit, IsBatch, failed, no_more, passed, stays_broken}
-use Rattle.store_commits.specs.Charged.{Charged, and_batch, begins}
-use Rattle.store_commits.specs.Committed.{changes}
-use Rattle.store_commits.specs.Run.{Batched, Event, Ran, RanBy, RanInBatches, Reply, change, Refused}
-use Rattle.store_commits.specs.Batching.{RanPrefix}
-use Rattle.store_commits.proofs.Charges.{in_batches}
-use Rattle.store_commits.proofs.Running.{charged_by, joined_by, nothing_by, ran_refused}
-
--- a run of events by themselves is one with batches
-pub ran_in_batches : {D : Type 0} (disk : D → Disk) (x y : StoreView D) (es : List Event) (rs : List Reply) → Ran disk x y es rs → RanInBatches disk x y es rs
-ran_in_batches disk x y es rs ran =
-    charged_by disk (λ v fs qs w. Charged disk false v fs qs w) (λ v fs qs w. Charged disk true v fs qs w) x y es rs ran (in_batches disk x y es rs ran.charged)
-
--- ---- lists
-
-pub changes_append : (cs ds : List Transaction) → changes (cs ++ ds) ≡ changes cs ++ changes ds
-changes_append [] ds = refl
-changes_append (c ∷ cs) ds = ap (λ (l : List Event). change c ∷ l) (changes_append cs ds)
-
--- ---- commits behind commits
-
-pub made_append : {D : Type 0} (disk : D → Disk) (x y z : D) (ks ls : List Commit) → AreMade disk x ks y → AreMade disk y ls z → AreMade disk x (ks ++ ls) z
-made_append {D} disk x y z [] ls first second = subst (λ (d : D). AreMade disk d ls z) first second
-made_append disk x y z (passed k ∷ ks) ls first second = (first.0, first.1, made_append disk first.0 y z ks ls first.2 second)
-made_append disk x y z (failed k kept ∷ ks) ls first second = (first.0, first.1, made_append disk first.0 y z ks ls first.2 second)
+use Rattle.store_commits.specs.Batch.{BatchIsMade, Commit, IsBatch, no_more, stays_broken, changes}
+use Rattle.store_commits.specs.Run.{Batched, Event, Lasts, Reply, Refused, a_batch, dones_of, hits_of}
+use Rattle.store_commits.specs.Inside.{RanPrefix}
+use Rattle.store_commits.proofs.Running.{changes_append, changes_length, lasts_behind, lasts_nothing, made_append, one_done}
 
 -- ---- so far
 
@@ -39,7 +17,7 @@ module _ {D : Type 0} (disk : D → Disk) where
   pub batched : (x y : StoreView D) (cs : List Transaction) (rs : List Reply) → RanPrefix disk x y cs rs [] → Batched disk x y cs rs
   batched x y cs rs went =
       let whole = went.goes [] [] y.account (no_more y.account) in
-      let charged : BatchIsCharged disk x cs rs y = record {
+      let is : BatchIsMade disk x cs rs y = record {
         commits = went.commits;
         batch = subst (λ (ks : List Commit). IsBatch x.account cs rs ks y.account) (append-nil went.commits)
             (subst (λ (l : List Reply). IsBatch x.account cs l (went.commits ++ []) y.account) (append-nil rs)
@@ -47,14 +25,14 @@ module _ {D : Type 0} (disk : D → Disk) where
         made = went.made;
       } in
       record {
-        charged = charged;
-        ran = charged_by disk (λ _ _ _ _. ⊤) (λ v es qs w. Charged disk true v es qs w) x y (changes cs) rs went.ran (and_batch [] [] x cs rs y begins refl charged);
+        is = is;
+        ran = record { commits = is.commits; run = one_done x.account y.account (changes cs) rs is.commits (a_batch x.account y.account cs rs is.commits is.batch); made = is.made; lasts = went.lasts };
       }
 
 module _ {D : Type 0} (disk : D → Disk) (coherent : (device : D) → (disk device).honest → IsCoherent (disk device)) where
   -- nothing yet
   pub went_nowhere : (x : StoreView D) (left : List Transaction) → IsStanding (disk x.device) x.account → RanPrefix disk x x [] [] left
-  went_nowhere x left standing = record { commits = []; goes = λ rs more end rest. rest; made = refl; ran = nothing_by disk coherent (λ _ _ _ _. ⊤) x standing tt }
+  went_nowhere x left standing = record { commits = []; goes = λ rs more end rest. rest; made = refl; paired = refl; lasts = lasts_nothing disk coherent x standing }
 
   module _ (x y z : StoreView D) (cs ds left : List Transaction) (rs qs : List Reply) (first : RanPrefix disk x y cs rs (ds ++ left)) (second : RanPrefix disk y z ds qs left) where
     goes_both : (more_rs : List Reply) (more : List Commit) (end : Account) → IsBatch z.account left more_rs more end
@@ -71,8 +49,9 @@ module _ {D : Type 0} (disk : D → Disk) (coherent : (device : D) → (disk dev
       commits = first.commits ++ second.commits;
       goes = goes_both;
       made = made_append disk x.device y.device z.device first.commits second.commits first.made second.made;
-      ran = subst (λ (es : List Event). RanBy disk (λ _ _ _ _. ⊤) x z es (rs ++ qs)) (sym (changes_append cs ds))
-          (joined_by disk coherent (λ _ _ _ _. ⊤) (λ _ _ _ _ _ _ _ _ _. tt) x y z (changes cs) (changes ds) rs qs first.ran second.ran);
+      paired = length-append cs ds ∙ (λ i. first.paired i + second.paired i) ∙ sym (length-append rs qs);
+      lasts = subst (λ (es : List Event). Lasts disk x z (dones_of es (rs ++ qs)) (hits_of es (rs ++ qs))) (sym (changes_append cs ds))
+          (lasts_behind disk coherent x y z (changes cs) (changes ds) rs qs (changes_length cs ∙ first.paired) first.lasts second.lasts);
     }
 
   -- ---- a store that is broken
@@ -83,8 +62,8 @@ module _ {D : Type 0} (disk : D → Disk) (coherent : (device : D) → (disk dev
       commits = [];
       goes = λ rs commits end rest. stays_broken x.account end c more rs commits broken rest;
       made = refl;
-      ran = charged_by disk (λ v es rs w. Charged disk false v es rs w) (λ _ _ _ _. ⊤) x x (change c ∷ []) (Refused (plain BROKEN) ∷ [])
-          (ran_refused disk coherent x x c (plain BROKEN) refl (inl (refl, broken)) standing) tt;
+      paired = refl;
+      lasts = lasts_nothing disk coherent x standing;
     }
 
     pub all_broken : (cs : List Transaction) → RanPrefix disk x x cs (map (λ _. Refused (plain BROKEN)) cs) left

@@ -13,8 +13,7 @@ use Rattle.refusals.specs.declared.numbers.TheConstants.{COMMAND}
 use Rattle.doc_machine.proofs.Transactions.{all_accepted}
 use Rattle.store_commits.specs.Images.{Holds}
 use Rattle.store_commits.proofs.More.{holds_more}
-use Rattle.store_commits.specs.Answers.{frame_sizes}
-use Rattle.store_commits.specs.Committed.{sizes_of}
+use Rattle.store_commits.specs.Batch.{frame_sizes, sizes_of}
 use Rattle.store_commits.specs.Folds.{after_each, all_changes, frames_at}
 
 -- ---- changes behind changes

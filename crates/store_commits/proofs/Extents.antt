@@ -5,8 +5,7 @@ use Rattle.sector_device.proofs.Moments.{left_now}
 use Rattle.store_journal.specs.Carries.{Carried, Carries, EitherCarried, switched}
 use Rattle.store_journal.specs.JournalView.{JournalView, IsKept, carried_of}
 use Rattle.doc_changes.specs.State.{State}
-use Rattle.store_commits.specs.Account.{Account, Copy, account_broken, with_copy}
-use Rattle.store_commits.specs.Extents.{EndsWith, Extent, IsEndingWith, IsStandingAs, StandsAs, extent_of}
+use Rattle.store_commits.specs.Account.{Account, Copy, account_broken, with_copy, EndsWith, Extent, IsEndingWith, IsStandingAs, StandsAs, extent_of}
 use Rattle.store_commits.specs.Inside.{IsHeld, account_of}
 use Rattle.store_commits.specs.Images.{Holds}
 

@@ -1,5 +1,5 @@
 -- Segments one after another, and the whole batch.
-use Rattle.std.proofs.Common.{◌≡◌, inl, inr, ⊎_elim, ℕ, ◌+◌, List, [], ◌∷◌, ◌++◌, length, map, refl, sym, ◌∙◌, ap, subst, Bool, true, false, Option}
+use Rattle.std.proofs.Common.{◌≡◌, ℕ, ◌+◌, List, [], ◌∷◌, ◌++◌, length, map, refl, sym, ◌∙◌, ap, subst, true, false, Option}
 use Rattle.std.proofs.lemmas.List.{append_assoc, append-nil}
 use Rattle.sector_device.specs.Disk.{Disk, IsCoherent}
 use Rattle.store_journal.specs.JournalView.{JournalView}
@@ -10,12 +10,11 @@ use Rattle.doc_changes.specs.Refusals.{plain}
 use Rattle.doc_changes.specs.State.{State}
 use Rattle.doc_machine.specs.Trial.{TrialView, state_at}
 use Rattle.store_commits.specs.Account.{Account, StoreView, IsStanding, with_copy}
-use Rattle.store_commits.specs.Committed.{Slot, asked, waiting}
+use Rattle.store_commits.specs.Batch.{Slot, asked, waiting}
 use Rattle.store_commits.specs.Copying.{Target, copy_of}
 use Rattle.store_commits.specs.Folds.{after_each, all_changes}
-use Rattle.store_commits.specs.Inside.{IsStored, account_of, store_view}
+use Rattle.store_commits.specs.Inside.{IsStored, account_of, store_view, ArePlanned, HasCome, HasCommitted, IsPart, IsReady, AnswersPart, RanPrefix, none_planned, one_planned, tried_from}
 use Rattle.store_commits.specs.Run.{Batched, Refused, Reply}
-use Rattle.store_commits.specs.Batching.{ArePlanned, HasCome, HasCommitted, IsPart, IsReady, AnswersPart, RanPrefix, none_planned, one_planned, tried_from}
 use Rattle.store_commits.specs.declared.segment.Segment.{Segment}
 use Rattle.store_commits.proofs.Batches.{all_broken, batched, went_both, went_nowhere}
 use Rattle.store_commits.proofs.Changes.{after_append, seq_counts, state_before}
@@ -57,7 +56,7 @@ module _ {D : Type 0} (disk : D → Disk) (coherent : (device : D) → (disk dev
       pub answered_both : AnswersPart disk start s copy (slots ++ more) left b new more_copied (rs ++ qs)
       answered_both = record {
         told = both_committed start.broken now.broken new.broken slots more first.told second.told
-            (λ fails. ap (λ (v : StoreView D). v.account.broken) (first.went.ran.still fails) ∙ fails) (λ fails. ap (λ (v : StoreView D). v.account.broken) (second.went.ran.still fails) ∙ fails);
+            (λ fails. ap (λ (v : StoreView D). v.account.broken) ((first.went.lasts.still fails).0) ∙ fails) (λ fails. ap (λ (v : StoreView D). v.account.broken) ((second.went.lasts.still fails).0) ∙ fails);
         stored = subst (λ (u : State). IsStored (disk new.device) new u more_copied) state_both second.stored;
         account = λ works. subst (λ (u : State). with_copy (account_of new u) (copy_of more_copied) ≡ b) state_both (second.account works);
         went = subst (λ (u : State). RanPrefix disk (store_view start s copy) (store_view new u more_copied) (asked (slots ++ more)) (rs ++ qs) left) state_both

@@ -6,14 +6,11 @@ pub mod Replays
 pub mod More
 pub mod Batches
 pub mod Changes
-pub mod Charges
 pub mod Extents
 pub mod Joining
-pub mod One
 pub mod Parts
 mod Moves
 mod Plans
-pub mod Rooms
 pub mod Running
 pub mod Slots
 pub mod SnapshotOutcomes
@@ -21,3 +18,4 @@ pub mod Standing
 mod Stepped
 mod Switches
 mod Waiting
+pub mod Went

@@ -1,5 +1,5 @@
 -- What commits make of a journal, and what a transaction's answer is made of.
-use Rattle.std.proofs.Common.{Bool, ◌≡◌, inl, inr, List, [], ◌∷◌, ◌++◌, refl, sym, subst, true, false, Option, None, ◌↔◌}
+use Rattle.std.proofs.Common.{Bool, ◌≡◌, List, [], ◌∷◌, ◌++◌, refl, sym, subst, true, false, Option, None, ◌↔◌}
 use Rattle.std.proofs.lemmas.List.{append-nil}
 use Rattle.sector_device.specs.Disk.{Disk, Image, IsCoherent, LeavesOnly}
 use Rattle.sector_device.proofs.Moments.{joined, leaves_weaker, left_now}
@@ -7,17 +7,13 @@ use Rattle.store_journal.specs.JournalView.{JournalView}
 use Rattle.doc_machine.specs.Transaction.{Transaction}
 use Rattle.doc_changes.specs.State.{State}
 use Rattle.store_commits.specs.Account.{Account, StoreView, with_copy}
-use Rattle.store_commits.specs.Batch.{AreMade, Commit, IsBatch}
-use Rattle.store_commits.specs.Committed.{Slot, asked, changes, replies_done, replies_in_doubt, waiting}
+use Rattle.store_commits.specs.Batch.{AreMade, Commit, IsBatch, Slot, asked, replies_done, replies_in_doubt, waiting}
 use Rattle.store_commits.specs.Copying.{Target, copy_of}
-use Rattle.store_commits.specs.Folds.{after_each}
-use Rattle.store_commits.specs.Inside.{IsStored, account_of, store_view}
-use Rattle.store_commits.specs.Run.{Reply}
-use Rattle.store_commits.specs.Run.{IsGroup}
-use Rattle.store_commits.specs.Stands.{StandsAfter}
-use Rattle.store_commits.specs.Batching.{FirstCommitted, AnswersPart}
-use Rattle.store_commits.proofs.Batches.{made_append}
-use Rattle.store_commits.proofs.Running.{one_group, widened}
+use Rattle.store_commits.specs.Folds.{after_each, StandsAfter}
+use Rattle.store_commits.specs.Inside.{IsStored, account_of, store_view, FirstCommitted, AnswersPart}
+use Rattle.store_commits.specs.Run.{Lasts, Reply}
+use Rattle.store_commits.proofs.Running.{made_append, widened}
+use Rattle.store_commits.proofs.Slots.{Tells}
 use Rattle.store_commits.proofs.Standing.{not_both, stands_now, standing, stays}
 
 -- By these commits the journal came to hold the state after those that were done. Each image meanwhile stands for the state after some of these, or of those in doubt.
@@ -69,10 +65,10 @@ module _ {D : Type 0} (disk : D → Disk) (coherent : (device : D) → (disk dev
         (subst (λ (ts : List Transaction). StandsAfter state (ts ++ in_doubt) image) (undone broken)
         (left_now (disk before.device) (disk now.device) (StandsAfter state (dones ++ in_doubt)) (coherent now.device (moved.honest.0 honest)) (moved.any_moment honest) image left))
 
-    answered_by : (left : List Transaction) (b : Account) → IsGroup old.account (changes (asked slots)) rs dones in_doubt new.account → (now.broken ≡ false → new.account ≡ b)
+    answered_by : (left : List Transaction) (b : Account) → Tells (asked slots) rs dones in_doubt → (now.broken ≡ false → new.account ≡ b)
         → ((qs : List Reply) (more : List Commit) (end : Account) → IsBatch new.account left qs more end → IsBatch old.account (asked slots ++ left) (rs ++ qs) (commits ++ more) end)
         → AnswersPart disk before state copy slots left b now copied rs
-    answered_by left b group account goes = record {
+    answered_by left b tells account goes = record {
       told = told;
       stored = moved.stored;
       account = account;
@@ -80,18 +76,15 @@ module _ {D : Type 0} (disk : D → Disk) (coherent : (device : D) → (disk dev
         commits = commits;
         goes = goes;
         made = moved.made;
-        ran = record {
-          dones = dones;
-          in_doubt = in_doubt;
-          run = one_group old.account new.account (changes (asked slots)) rs dones in_doubt group;
+        paired = tells.paired;
+        lasts = subst (λ (p : List Transaction × List Transaction). Lasts disk old new p.0 p.1) (λ i. (tells.dones_are i, tells.hits_are i)) (record {
           state_is = refl;
           none_in_doubt = none;
           honest = moved.honest;
           any_moment = λ honest fine. moved.any_moment honest;
           at_end = λ honest fine. end_by now.broken refl honest;
-          charged = tt;
           still = λ fails. not_both before.broken works fails;
-        };
+        });
       };
     }
 
@@ -101,11 +94,11 @@ module _ {D : Type 0} (disk : D → Disk) (coherent : (device : D) → (disk dev
 
     -- all that wait are committed
     pub done_answered : (copied : Option Target) → Moved disk before state now copied (waiting slots) [] commits → now.broken ≡ false → with_copy (account_of now (after_each state (waiting slots))) (copy_of copied) ≡ b
-        → IsGroup a (changes (asked slots)) (replies_done state.seq slots) (waiting slots) [] (with_copy (account_of now (after_each state (waiting slots))) (copy_of copied))
+        → Tells (asked slots) (replies_done state.seq slots) (waiting slots) []
         → ((qs : List Reply) (more : List Commit) (end : Account) → IsBatch (with_copy (account_of now (after_each state (waiting slots))) (copy_of copied)) left qs more end
         → IsBatch a (asked slots ++ left) (replies_done state.seq slots ++ qs) (commits ++ more) end)
         → AnswersPart disk before state copy slots left b now copied (replies_done state.seq slots)
-    done_answered copied moved fine account group goes =
+    done_answered copied moved fine account tells goes =
         let told : FirstCommitted before.broken now.broken slots = record {
           first = slots;
           lost = [];
@@ -113,14 +106,14 @@ module _ {D : Type 0} (disk : D → Disk) (coherent : (device : D) → (disk dev
           none_lost = λ _. refl;
           none_first = λ fails. not_both before.broken works fails;
         } in
-        answered_by copy works now copied slots (replies_done state.seq slots) told [] commits moved (λ _. refl) (λ broken. not_both now.broken fine broken) left b group (λ _. account) goes
+        answered_by copy works now copied slots (replies_done state.seq slots) told [] commits moved (λ _. refl) (λ broken. not_both now.broken fine broken) left b tells (λ _. account) goes
 
     -- a fault hits their commit
     pub in_doubt_answered : Moved disk before state now None [] (waiting slots) commits → now.broken ≡ true → (t : Transaction) (others : List Transaction) → waiting slots ≡ t ∷ others
-        → IsGroup a (changes (asked slots)) (replies_in_doubt slots) [] (waiting slots) (account_of now state)
+        → Tells (asked slots) (replies_in_doubt slots) [] (waiting slots)
         → ((qs : List Reply) (more : List Commit) (end : Account) → IsBatch (account_of now state) left qs more end → IsBatch a (asked slots ++ left) (replies_in_doubt slots ++ qs) (commits ++ more) end)
         → AnswersPart disk before state copy slots left b now None (replies_in_doubt slots)
-    in_doubt_answered moved broken t others some group goes =
+    in_doubt_answered moved broken t others some tells goes =
         let told : FirstCommitted before.broken now.broken slots = record {
           first = [];
           lost = slots;
@@ -128,4 +121,4 @@ module _ {D : Type 0} (disk : D → Disk) (coherent : (device : D) → (disk dev
           none_lost = λ fine. not_both now.broken fine broken;
           none_first = λ _. refl;
         } in
-        answered_by copy works now None slots (replies_in_doubt slots) told (waiting slots) commits moved (λ fine. not_both now.broken fine broken) (λ _. refl) left b group (λ fine. not_both now.broken fine broken) goes
+        answered_by copy works now None slots (replies_in_doubt slots) told (waiting slots) commits moved (λ fine. not_both now.broken fine broken) (λ _. refl) left b tells (λ fine. not_both now.broken fine broken) goes

@@ -1,7 +1,5 @@
 -- Segments of a batch: what becomes of the account, however their commits end.
 use Rattle.std.proofs.Common.{◌≡◌, ◌⊎◌, inl, inr, ⊎_elim, ℕ, ◌+◌, ◌<◌, ◌≤◌, ◌^◌, List, [], ◌∷◌, length, length-append, map, refl, sym, ◌∙◌, ap, subst, arith, Bool, true, false, Option, None, Some, Vec, Global}
-use Rattle.std.specs.List.{list_any}
-use Rattle.std.proofs.lemmas.List.{append-nil}
 use Rattle.sector_device.specs.Disk.{Disk, IsCoherent}
 use Rattle.sector_device.proofs.Moments.{leaves_weaker}
 use Rattle.sector_device.specs.Sectors.{sectors_of}
@@ -9,37 +7,28 @@ use Rattle.store_journal.specs.Layout.{capacity_of}
 use Rattle.store_journal.specs.Calls.{Broke, Switched, Takes}
 use Rattle.store_journal.specs.Carries.{switched}
 use Rattle.store_journal.specs.JournalView.{JournalView, carried_of}
-use Rattle.store_journal.specs.Writes.{append_calls}
 use Rattle.doc_machine.specs.Transaction.{AreFramed, AreGood, Transaction, after_in, changes_of, refusal_in}
 use Rattle.refusals.specs.declared.numbers.TheConstants.{BROKEN, DEVICE, FULL}
 use Rattle.doc_changes.proofs.Framed.{framed_storable}
 use Rattle.doc_changes.specs.Refusals.{plain}
 use Rattle.doc_changes.specs.State.{State}
-use Rattle.store_commits.specs.Account.{Account, account_broken, with_copy}
-use Rattle.store_commits.specs.Answers.{Accepts, IsDone, IsInDoubt, account_with, size_of}
-use Rattle.store_commits.specs.Batch.{Commit, Intent, AnswersForced, alone_done, alone_full, behind_failed, by_itself, failed, passed, snapshot_failed, to_append, to_append_behind, to_snapshot}
-use Rattle.store_commits.specs.Committed.{Slot, AreJudged, waits, said, asked, waiting, sizes_of, account_behind, account_committed, replies_done, replies_in_doubt}
+use Rattle.store_commits.specs.Account.{Account, account_broken, with_copy, extent_of}
+use Rattle.store_commits.specs.Batch.{GoesBehind, IsBatch, behind_in_doubt, failed, is_full, passed, room_in_doubt, room_made, to_append, to_snapshot, Slot, AreCommitted, AreInDoubt, AreJudged, waits, said, asked, waiting, size_of, sizes_of, account_committed, replies_done, replies_in_doubt}
 use Rattle.store_commits.specs.Copying.{Target, copy_of, target_with}
-use Rattle.store_commits.specs.Extents.{extent_of}
-use Rattle.store_commits.specs.Folds.{all_changes, frames_at}
-use Rattle.store_commits.specs.Inside.{IsStored, account_of, store_view}
-use Rattle.store_commits.specs.Room.{Fits, IsOver}
-use Rattle.store_commits.specs.Run.{change, Done, Refused, was_answered}
-use Rattle.store_commits.specs.Snapshot.{RemakesAll, snapshot_bytes}
-use Rattle.store_commits.specs.SnapshotAnswers.{account_with_snapshot}
-use Rattle.store_commits.specs.Stands.{StandsAfter}
-use Rattle.store_commits.specs.Batching.{ArePlanned, IsAppended, IsAppendedBehind, IsPart, IsSegment, IsTried, AnswersPart, answered, behind, bytes_in, fate_of, full, none_planned, one_planned, replies_in, together}
+use Rattle.store_commits.specs.Folds.{all_changes, frames_at, StandsAfter}
+use Rattle.store_commits.specs.Inside.{IsStored, account_of, store_view, ArePlanned, IsAppended, IsAppendedBehind, IsPart, IsSegment, IsTried, AnswersPart, answered, behind, bytes_in, fate_of, full, none_planned, one_planned, replies_in, together}
+use Rattle.store_commits.specs.Snapshot.{NeedsSnapshot, RemakesAll, snapshot_bytes, account_with_snapshot}
+use Rattle.store_commits.specs.Run.{Refused}
 use Rattle.store_commits.specs.declared.event.Reply.{Reply}
 use Rattle.store_commits.specs.declared.segment.Fate.TheVariants.{Committed, InDoubt, NotBegun}
 use Rattle.store_commits.specs.declared.segment.Segment.{Segment}
 use Rattle.store_commits.proofs.Batches.{all_broken}
-use Rattle.store_commits.proofs.Changes.{each_is_all, frames_size, good_last, seq_after, seq_counts, sizes_all, sizes_append}
+use Rattle.store_commits.proofs.Changes.{each_is_all, frames_size, good_last, seq_counts, sizes_all, sizes_append}
 use Rattle.store_commits.proofs.Extents.{broken_as, ending_as, switched_as}
 use Rattle.store_commits.proofs.Migrating.{snapshot_holds}
 use Rattle.store_commits.proofs.Moves.{Moved, done_answered, in_doubt_answered, moved_both, moved_nowhere}
-use Rattle.store_commits.proofs.Rooms.{with_over}
-use Rattle.store_commits.proofs.Running.{was_refused, widened}
-use Rattle.store_commits.proofs.Slots.{asked_append, length_replies, waiting_append}
+use Rattle.store_commits.proofs.Running.{widened}
+use Rattle.store_commits.proofs.Slots.{asked_append, length_replies, slots_done, slots_in_doubt, waiting_append}
 use Rattle.store_commits.proofs.SnapshotOutcomes.{held_snapped, snapped_is, snapshot_moments}
 use Rattle.store_commits.proofs.Snapshots.{remakes_all}
 use Rattle.store_commits.proofs.Standing.{broke_is, held_broke, not_both, standing}
@@ -70,9 +59,6 @@ replies_by false seq slots = replies_in_doubt slots
 said_by : (fine : Bool) (seq : ℕ) (slots : List Slot) (rs : List Reply) → rs ≡ replies_done seq slots → map (answered (fate_of fine)) rs ≡ replies_by fine seq slots
 said_by true seq slots rs is = all_committed rs ∙ is
 said_by false seq slots rs is = ap (map (answered InDoubt)) is ∙ all_in_doubt seq slots
-
-none_more : (n : ℕ) → n + 0 ≡ n
-none_more n = omega arith
 
 -- ---- how many
 
@@ -148,20 +134,22 @@ module _ {D : Type 0} (disk : D → Disk) (coherent : (device : D) → (disk dev
     );
   }
 
-  module _ (left : List Transaction) (c : Transaction) (accepted : refusal_in state c ≡ None) (over : IsOver d (size_of c)) (fits : Fits (account_with_snapshot d) (size_of c))
-      (framed : AreFramed (all_changes (c ∷ []))) (good : AreGood state (all_changes (c ∷ []))) where
-    accepts : Accepts d c
-    accepts = record { works = works; accepted = accepted; room = inr (over, fits) }
+  module _ (left : List Transaction) (c : Transaction) (accepted : refusal_in state c ≡ None) (needs : NeedsSnapshot d (size_of c)) (framed : AreFramed (all_changes (c ∷ []))) (good : AreGood state (all_changes (c ∷ []))) where
+    goes : GoesBehind d c
+    goes = record { works = works; accepted = accepted; needs = needs }
 
     abbrev slots : List Slot
     slots = waits c ∷ []
 
-    behind_in_doubt : (now : JournalView D) → now.broken ≡ true → IsInDoubt d c (account_of now state) → (commits : List Commit) → AnswersForced d c (Refused (plain DEVICE)) commits (account_of now state)
-        → Moved disk before state now None [] (c ∷ []) commits → AnswersPart disk before state copy slots left (account_with d c) now None (replies_in_doubt slots)
-    behind_in_doubt now broken in_doubt commits by moved =
-        in_doubt_answered disk coherent before state copy works now slots commits left (account_with d c) moved broken c [] refl
-        (was_answered d (account_of now state) (change c) (Refused (plain DEVICE)) (inl (refl, in_doubt)))
-        (λ qs rest end batch. by_itself d (account_of now state) end c left (Refused (plain DEVICE)) qs commits rest (accepted, over) by batch)
+    -- the account with the snapshot, and then with the transaction
+    abbrev snapped : Account
+    snapped = account_with_snapshot d
+
+    abbrev end : Account
+    end = account_committed snapped slots
+
+    judged : AreJudged snapped slots
+    judged = (accepted, needs.1, tt)
 
     -- the snapshot was made, and left the journal as mid
 
@@ -169,47 +157,45 @@ module _ {D : Type 0} (disk : D → Disk) (coherent : (device : D) → (disk dev
       first : Moved disk before state mid None [] [] (passed (to_snapshot d) ∷ [])
       first = snapshot_made mid turned_over
 
-      mid_is : account_of mid state ≡ account_with_snapshot d
+      mid_is : account_of mid state ≡ snapped
       mid_is = snapped_is (disk before.device) (disk mid.device) before mid state remakes stored.held turned_over.honest turned_over.kept (copy_of copy) works turned_over.outcome
 
-      judged : AreJudged (account_of mid state) slots
-      judged = subst (λ (x : Account). AreJudged x slots) (sym mid_is) (accepted, fits, tt)
-
-      made_is : account_committed (account_of mid state) slots ≡ account_with d c
-      made_is = ap (λ (x : Account). account_behind x c) mid_is ∙ sym (with_over d c over)
-
-      intent_is : to_append (account_of mid state) slots ≡ to_append_behind d c
-      intent_is = λ i. record { calls = append_calls (mid_is i).rides (mid_is i).used (none_more (size_of c) i); made = made_is i; ending = frames_at state.seq (append-nil (changes_of c) i) }
+      judged_there : AreJudged (account_of mid state) slots
+      judged_there = subst (λ (x : Account). AreJudged x slots) (sym mid_is) judged
 
       turned : (now : JournalView D) (fine : Bool) → IsAppended disk mid now (frames_at state.seq (all_changes (c ∷ []))) (length (all_changes (c ∷ []))) fine
-          → AnswersPart disk before state copy slots left (account_with d c) now None (replies_by fine state.seq slots)
+          → AnswersPart disk before state copy slots left end now None (replies_by fine state.seq slots)
       turned now true appended =
           let ok = appended.outcome.0 refl in
-          let b = account_of now (after_in state c) in
-          let seq = state.seq + length (changes_of c) in
-          let then : b ≡ account_with d c = account_then disk coherent mid state None slots turned_over.outcome.works judged framed good first.stored c [] refl now true appended ok ∙ made_is in
-          let is_done : IsDone d c seq b = record { accepts = accepts; new_is = then; seq_is = sym (seq_after state c) } in
-          let commits = passed (to_snapshot d) ∷ passed (to_append_behind d c) ∷ [] in
-          let moved = subst (λ (k : Intent). Moved disk before state now None (c ∷ []) [] (passed (to_snapshot d) ∷ passed k ∷ [])) intent_is
+          let then = account_then disk coherent mid state None slots turned_over.outcome.works judged_there framed good first.stored c [] refl now true appended ok ∙ ap (λ (x : Account). account_committed x slots) mid_is in
+          let are : AreCommitted snapped slots (account_of now (after_in state c)) = record { works = works; judged = judged; new_is = then } in
+          let moved = subst (λ (x : Account). Moved disk before state now None (c ∷ []) [] (passed (to_snapshot d) ∷ passed (to_append x slots) ∷ [])) mid_is
           (moved_both disk coherent before state mid now None None (c ∷ []) [] (passed (to_snapshot d) ∷ []) (passed (to_append (account_of mid state) slots) ∷ []) first
-          (moved_done disk coherent mid state None slots turned_over.outcome.works judged framed good first.stored c [] refl now true appended ok)) in
-          done_answered disk coherent before state copy works now slots commits left (account_with d c) None moved ok.works then (was_answered d b (change c) (Done seq) is_done)
-          (λ qs rest end batch. by_itself d b end c left (Done seq) qs commits rest (accepted, over) (alone_done d b c seq is_done) batch)
+          (moved_done disk coherent mid state None slots turned_over.outcome.works judged_there framed good first.stored c [] refl now true appended ok)) in
+          done_answered disk coherent before state copy works now slots (passed (to_snapshot d) ∷ passed (to_append snapped slots) ∷ []) left end None moved ok.works then (slots_done snapped state.seq slots judged)
+          (λ qs rest last batch. room_made d (account_of now (after_in state c)) last c left qs rest goes are batch)
       turned now false appended =
           let broke = appended.outcome.1 refl in
-          let then : account_of now state ≡ account_broken (account_with_snapshot d) = broke_is (disk mid.device) (disk now.device) mid now state _ broke ∙ ap account_broken mid_is in
-          behind_in_doubt now broke.broken (record { accepts = accepts; new_is = inr (over, then) }) (passed (to_snapshot d) ∷ failed (to_append_behind d c) (account_of now state) ∷ []) (behind_failed d (account_of now state) c accepts then)
-          (subst (λ (k : Intent). Moved disk before state now None [] (c ∷ []) (passed (to_snapshot d) ∷ failed k (account_of now state) ∷ [])) intent_is
+          let then : account_of now state ≡ account_broken snapped = broke_is (disk mid.device) (disk now.device) mid now state _ broke ∙ ap account_broken mid_is in
+          let are : AreInDoubt snapped slots (account_of now state) = record { works = works; judged = judged; some = λ none. absurd (cc none); new_is = then } in
+          let moved = subst (λ (x : Account). Moved disk before state now None [] (c ∷ []) (passed (to_snapshot d) ∷ failed (to_append x slots) (account_of now state) ∷ [])) mid_is
           (moved_both disk coherent before state mid now None None [] (c ∷ []) (passed (to_snapshot d) ∷ []) (failed (to_append (account_of mid state) slots) (account_of now state) ∷ []) first
-          (moved_in_doubt disk coherent mid state None slots turned_over.outcome.works judged framed good first.stored c [] refl now false appended broke)))
+          (moved_in_doubt disk coherent mid state None slots turned_over.outcome.works judged_there framed good first.stored c [] refl now false appended broke)) in
+          in_doubt_answered disk coherent before state copy works now slots (passed (to_snapshot d) ∷ failed (to_append snapped slots) (account_of now state) ∷ []) left end moved broke.broken c [] refl (slots_in_doubt snapped slots judged)
+          (λ qs rest last batch. behind_in_doubt d (account_of now state) last c left qs rest goes are batch)
+
+    -- or a fault hit it
+    missed : (now : JournalView D) → Tried now (Broke (disk before.device) (disk now.device) (sectors_of (length snapshot) + 3) before now) → AnswersPart disk before state copy slots left end now None (replies_in_doubt slots)
+    missed now is =
+        let then : account_of now state ≡ account_broken d = broke_is (disk before.device) (disk now.device) before now state _ is.outcome in
+        in_doubt_answered disk coherent before state copy works now slots (failed (to_snapshot d) (account_broken d) ∷ []) left end
+        (subst (λ (x : Account). Moved disk before state now None [] (c ∷ []) (failed (to_snapshot d) x ∷ [])) then (snapshot_missed now is (c ∷ []))) is.outcome.broken c [] refl (slots_in_doubt snapped slots judged)
+        (λ qs rest last batch. room_in_doubt d last c left qs rest goes (subst (λ (x : Account). IsBatch x left qs rest last) then batch))
 
     behind_answered : (now : JournalView D) (fine : Bool) → IsAppendedBehind disk before now snapshot (frames_at state.seq (all_changes (c ∷ []))) (length (all_changes (c ∷ []))) fine
-        → AnswersPart disk before state copy slots left (account_with d c) now None (replies_by fine state.seq slots)
+        → AnswersPart disk before state copy slots left end now None (replies_by fine state.seq slots)
     behind_answered now fine (inl was) = turned was.0 was.1 now fine was.2
-    behind_answered now fine (inr none) =
-        let then = broke_is (disk before.device) (disk now.device) before now state _ none.1.outcome in
-        subst (λ (b : Bool). AnswersPart disk before state copy slots left (account_with d c) now None (replies_by b state.seq slots)) (sym none.0)
-        (behind_in_doubt now none.1.outcome.broken (record { accepts = accepts; new_is = inl then }) (failed (to_snapshot d) (account_of now state) ∷ []) (snapshot_failed d (account_of now state) c accepts then) (snapshot_missed now none.1 (c ∷ [])))
+    behind_answered now fine (inr none) = subst (λ (b : Bool). AnswersPart disk before state copy slots left end now None (replies_by b state.seq slots)) (sym none.0) (missed now none.1)
 
   -- ---- whatever the segment is
 
@@ -219,8 +205,7 @@ module _ {D : Type 0} (disk : D → Disk) (coherent : (device : D) → (disk dev
   nothing_by left _ _ (together slots judged forced) framed good few = was_nothing disk coherent before state copy slots works judged framed good stored (none_in d slots judged few) left forced
   nothing_by left _ _ (full c accepted no_room) framed good few =
       done_answered disk coherent before state copy works before (said c (plain FULL) ∷ []) [] left d copy (moved_nowhere disk coherent before state copy stored works) works refl
-      (was_refused d d c (plain FULL) (inr (inr (inl (refl, works, accepted, no_room))), refl))
-      (λ qs rest end batch. by_itself d d end c left (Refused (plain FULL)) qs [] rest (accepted, no_room.0) (alone_full d c works no_room) batch)
+      (record { paired = refl; dones_are = refl; hits_are = refl }) (λ qs rest end batch. is_full d end c left qs rest works accepted no_room batch)
 
   -- some wait
   some_by : (left : List Transaction) (slots : List Slot) (b : Account) → IsSegment d left None slots b → AreFramed (all_changes (waiting slots)) → AreGood state (all_changes (waiting slots)) → (length (all_changes (waiting slots)) ≡ 0 → ⊥)
@@ -246,18 +231,19 @@ module _ {D : Type 0} (disk : D → Disk) (coherent : (device : D) → (disk dev
   behind_by : (left : List Transaction) (v : Vec ℕ Global) (slots : List Slot) (b : Account) → IsSegment d left (Some v) slots b → AreFramed (all_changes (waiting slots)) → AreGood state (all_changes (waiting slots))
       → (now : JournalView D) (fine : Bool) → IsAppendedBehind disk before now v.items (frames_at state.seq (all_changes (waiting slots))) (length (all_changes (waiting slots))) fine
       → AnswersPart disk before state copy slots left b now None (replies_by fine state.seq slots)
-  behind_by left _ _ _ (behind c v bytes accepted over fits) framed good now fine appended =
-      behind_answered left c accepted over fits framed good now fine
+  behind_by left _ _ _ (behind c v bytes accepted needs) framed good now fine appended =
+      behind_answered left c accepted needs framed good now fine
       (subst (λ (l : List ℕ). IsAppendedBehind disk before now l (frames_at state.seq (all_changes (c ∷ []))) (length (all_changes (c ∷ []))) fine) bytes appended)
 
   fits_by : (left : List Transaction) (v : Vec ℕ Global) (slots : List Slot) (b : Account) → IsSegment d left (Some v) slots b → AreGood state (all_changes (waiting slots))
       → (length v.items + length (frames_at state.seq (all_changes (waiting slots))) ≤ capacity_of before.sectors) × (before.seq + length (all_changes (waiting slots)) < 2 ^ 64)
-  fits_by left _ _ _ (behind c v bytes accepted over fits) good =
+  fits_by left _ _ _ (behind c v bytes accepted needs) good =
       let long = ap length bytes in
       let size = frames_size state.seq (all_changes (c ∷ [])) ∙ sym (sizes_all (c ∷ [])) in
       let counted = (good_last state (all_changes (c ∷ [])) good).counted in
       let last = ap (λ (s : State). s.seq) (sym (each_is_all state (c ∷ []))) ∙ seq_counts state (c ∷ []) in
       let seq = stored.held.seq in
+      let fits = needs.1 in
       (omega (arith, long, fits, size), omega (arith, counted, last, seq))
 
   module _ (left : List Transaction) (segment : Segment) (slots : List Slot) (b : Account) (part : IsPart d left segment slots b) where

@@ -1,5 +1,5 @@
 -- Batches that are planned: one transaction more.
-use Rattle.std.proofs.Common.{◌≡◌, ℕ, ◌+◌, ◌≤◌, ◌<◌, List, [], ◌∷◌, ◌++◌, length, length-append, refl, sym, ◌∙◌, ap, subst, arith, true, false, Option, None, Some, Vec, Global}
+use Rattle.std.proofs.Common.{◌≡◌, ℕ, ◌+◌, ◌≤◌, ◌<◌, List, [], ◌∷◌, ◌++◌, length, length-append, refl, sym, ◌∙◌, ap, subst, arith, Option, None, Some, Vec, Global}
 use Rattle.std.proofs.lemmas.List.{append_assoc, append-nil}
 use Rattle.store_journal.specs.Layout.{capacity_of}
 use Rattle.record_text.specs.Change.{Change}
@@ -10,19 +10,15 @@ use Rattle.doc_changes.specs.State.{State, Good}
 use Rattle.doc_machine.specs.Trial.{TrialView, first_or, state_at}
 use Rattle.doc_changes.specs.declared.refusal.Refusal.{Refusal}
 use Rattle.store_commits.specs.Account.{Account}
-use Rattle.store_commits.specs.Answers.{account_with, size_of}
-use Rattle.store_commits.specs.Batch.{IsForced}
-use Rattle.store_commits.specs.Committed.{Slot, waits, said, asked, waiting, account_committed, sizes_of}
+use Rattle.store_commits.specs.Batch.{IsForced, Slot, waits, said, asked, waiting, account_committed, size_of, sizes_of}
 use Rattle.store_commits.specs.Folds.{after_each, all_changes, frames_at}
-use Rattle.store_commits.specs.Room.{IsOver}
+use Rattle.store_commits.specs.Snapshot.{IsOver, snapshot_bytes, account_with_snapshot}
 use Rattle.store_commits.specs.Run.{Done, Refused}
-use Rattle.store_commits.specs.Snapshot.{snapshot_bytes}
-use Rattle.store_commits.specs.Batching.{ArePlanned, PlansOneMore, HasFrames, IsEmpty, IsPart, IsPlanning, IsSegment, behind, full, none_planned, one_planned, together, tried_from}
+use Rattle.store_commits.specs.Inside.{ArePlanned, PlansOneMore, HasFrames, IsEmpty, IsPart, IsPlanning, IsSegment, behind, full, none_planned, one_planned, together, tried_from}
 use Rattle.store_commits.specs.declared.event.Reply.{Reply}
 use Rattle.store_commits.specs.declared.plan.Planning.{Planning}
 use Rattle.store_commits.specs.declared.segment.Segment.{Segment}
 use Rattle.store_commits.proofs.Changes.{after_push, all_push, befores_push, each_is_all, framed_append, frames_append, good_append, good_first, good_last, seq_after, seq_counts, sizes_append}
-use Rattle.store_commits.proofs.Rooms.{with_over}
 use Rattle.store_commits.proofs.Slots.{judged_append, replies_append, waiting_append}
 use Rattle.store_commits.proofs.Waiting.{committed_is}
 
@@ -235,13 +231,13 @@ module _ (a : Account) (slots : List Slot) (p : Planning) (t : TrialView) (is : 
             let then : u.state ≡ after_in b.state c = made.state ∙ ap (λ (s : State). after_in s c) (sym state_then) in
             let number : u.state.seq ≡ b.state.seq + length (changes_of c) = ap (λ (s : State). s.seq) then ∙ seq_after b.state c in
             let one = append-nil (changes_of c) in
-            let used = ap (λ (x : Account). x.used) (with_over b c is_over) in (
+            let end = account_committed (account_with_snapshot b) (waits c ∷ []) in (
               waits c,
               refl,
-              forced (waits c) (account_with b c) (λ xs. (accepted_then, is_over))
+              forced (waits c) end (λ xs. (accepted_then, is_over))
                   (λ xs. record {
-                    is = subst (λ (o : Option (Vec ℕ Global)). IsSegment b (asked xs) o (waits c ∷ []) (account_with b c)) (sym some_snapshot)
-                        (behind c snapshot (snapshot_is ∙ documents) accepted_then is_over (omega (arith, fits, size, half, sectors)));
+                    is = subst (λ (o : Option (Vec ℕ Global)). IsSegment b (asked xs) o (waits c ∷ []) end) (sym some_snapshot)
+                        (behind c snapshot (snapshot_is ∙ documents) accepted_then (is_over, omega (arith, fits, size, half, sectors)));
                     has = record {
                       framed = subst AreFramed (sym one) made.framed;
                       good = subst (AreGood b.state) (sym one) good_here;
@@ -250,7 +246,7 @@ module _ (a : Account) (slots : List Slot) (p : Planning) (t : TrialView) (is : 
                     };
                     replies = says ∙ ap (λ (n : ℕ). Done n ∷ []) number;
                   })
-                  (good_last b.state (changes_of c) good_here) u then (tried_made u made) left bytes (omega (arith, left_is, used, size, half, sectors)) (bytes_made u made bytes bytes_are) refl,
+                  (good_last b.state (changes_of c) good_here) u then (tried_made u made) left bytes (omega (arith, left_is, size, half, sectors)) (bytes_made u made bytes bytes_are) refl,
             )
 
 -- ---- nothing is planned yet

@@ -1,12 +1,16 @@
 -- Slots behind slots, and the replies to them.
 use Rattle.std.proofs.Common.{◌≡◌, ◌⊎◌, inl, inr, ℕ, ◌+◌, List, [], ◌∷◌, ◌++◌, length, length-append, refl, sym, ◌∙◌, ap, arith, Bool, true, false, suc}
+use Rattle.std.proofs.lemmas.Bool.{ne_eqb}
 use Rattle.std.proofs.lemmas.List.{append_assoc, append-nil}
+use Rattle.doc_machine.proofs.Transactions.{own_transaction}
 use Rattle.doc_machine.specs.Transaction.{Transaction, changes_of}
+use Rattle.refusals.specs.declared.numbers.TheConstants.{DEVICE}
 use Rattle.store_commits.specs.Account.{Account}
-use Rattle.store_commits.specs.Committed.{Slot, waits, said, asked, waiting, account_behind, account_committed, AreJudged, replies_done}
+use Rattle.store_commits.specs.Batch.{Slot, waits, said, asked, waiting, account_behind, account_committed, AreJudged, changes, replies_done, replies_in_doubt}
+use Rattle.store_commits.specs.Events.{dones_of, hits_of}
 use Rattle.store_commits.specs.Folds.{all_changes}
 use Rattle.store_commits.specs.Run.{Done, Refused, Reply}
-use Rattle.store_commits.specs.Batching.{FirstCommitted}
+use Rattle.store_commits.specs.Inside.{FirstCommitted}
 
 pub asked_append : (xs ys : List Slot) → asked (xs ++ ys) ≡ asked xs ++ asked ys
 asked_append [] ys = refl
@@ -36,6 +40,38 @@ pub length_replies : (seq : ℕ) (slots : List Slot) → length (replies_done se
 length_replies seq [] = refl
 length_replies seq (waits t ∷ slots) = ap suc (length_replies (seq + length (changes_of t)) slots)
 length_replies seq (said t r ∷ slots) = ap suc (length_replies seq slots)
+
+-- what replies tell of transactions: one each, those that were done, and those in doubt
+pub record Tells (ts : List Transaction) (rs : List Reply) (dones in_doubt : List Transaction) : Type 0 where
+  pub paired : length ts ≡ length rs
+  pub dones_are : dones ≡ dones_of (changes ts) rs
+  pub hits_are : in_doubt ≡ hits_of (changes ts) rs
+
+-- the transactions of one commit, done
+pub slots_done : (a : Account) (seq : ℕ) (slots : List Slot) → AreJudged a slots → Tells (asked slots) (replies_done seq slots) (waiting slots) []
+slots_done a seq [] judged = record { paired = refl; dones_are = refl; hits_are = refl }
+slots_done a seq (waits t ∷ slots) judged =
+    let more = slots_done (account_behind a t) (seq + length (changes_of t)) slots judged.2 in
+    record { paired = ap suc more.paired; dones_are = ap (λ (l : List Transaction). t ∷ l) more.dones_are; hits_are = more.hits_are }
+slots_done a seq (said t r ∷ slots) judged =
+    let more = slots_done a seq slots judged.1 in record {
+      paired = ap suc more.paired;
+      dones_are = more.dones_are;
+      hits_are = rw (ne_eqb r.number DEVICE (own_transaction a.state t r judged.0).1) more.hits_are;
+    }
+
+-- and hit
+pub slots_in_doubt : (a : Account) (slots : List Slot) → AreJudged a slots → Tells (asked slots) (replies_in_doubt slots) [] (waiting slots)
+slots_in_doubt a [] judged = record { paired = refl; dones_are = refl; hits_are = refl }
+slots_in_doubt a (waits t ∷ slots) judged =
+    let more = slots_in_doubt (account_behind a t) slots judged.2 in
+    record { paired = ap suc more.paired; dones_are = more.dones_are; hits_are = ap (λ (l : List Transaction). t ∷ l) more.hits_are }
+slots_in_doubt a (said t r ∷ slots) judged =
+    let more = slots_in_doubt a slots judged.1 in record {
+      paired = ap suc more.paired;
+      dones_are = more.dones_are;
+      hits_are = rw (ne_eqb r.number DEVICE (own_transaction a.state t r judged.0).1) more.hits_are;
+    }
 
 -- the middle of four lists, of which one is none
 pub swap : {X : Type 0} (a b c d : List X) → (b ≡ []) ⊎ (c ≡ []) → (a ++ c) ++ (b ++ d) ≡ (a ++ b) ++ (c ++ d)

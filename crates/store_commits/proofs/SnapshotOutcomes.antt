@@ -13,12 +13,11 @@ use Rattle.refusals.specs.declared.numbers.TheConstants.{DEVICE}
 use Rattle.doc_changes.specs.declared.refusal.Refusal.{Refusal}
 use Rattle.store_commits.specs.Account.{Copy, with_copy}
 use Rattle.store_commits.specs.Inside.{IsHeld, account_of}
-use Rattle.store_commits.specs.SnapshotAnswers.{CanHold, account_with_snapshot}
-use Rattle.store_commits.specs.Snapshot.{RemakesAll, snapshot_bytes}
+use Rattle.store_commits.specs.Snapshot.{CanHold, account_with_snapshot, RemakesAll, snapshot_bytes}
 use Rattle.store_commits.specs.Images.{Holds}
 use Rattle.store_commits.proofs.Migrating.{snapshot_holds}
 use Rattle.store_commits.proofs.Snapshots.{remakes_all}
-use Rattle.store_commits.specs.Stands.{StandsAfter}
+use Rattle.store_commits.specs.Folds.{StandsAfter}
 use Rattle.store_commits.proofs.Standing.{held_broke, stands_by, stands_now}
 
 module _ {D : Type 0} (old new : Disk) (before now : JournalView D) (state : State) (remakes : RemakesAll state) (held : IsHeld old before state) (same : old.honest ↔ new.honest) (kept : IsKept new now) where

@@ -10,7 +10,7 @@ use Rattle.doc_changes.specs.State.{State}
 use Rattle.store_commits.specs.Account.{Account, IsStanding, account_broken}
 use Rattle.store_commits.specs.Inside.{IsHeld, account_of}
 use Rattle.store_commits.specs.Images.{Holds, Stands}
-use Rattle.store_commits.specs.Stands.{StandsAfter}
+use Rattle.store_commits.specs.Folds.{StandsAfter}
 
 -- an image that carries bytes of format 2 that hold the state's documents, with its seq, stands for it
 pub stands_by : (state : State) (c : Carried) → c.version ≡ 2 → c.seq ≡ state.seq → Holds 2 state.seq c.bytes state.documents → (image : Image) → Carries c image → Stands state image

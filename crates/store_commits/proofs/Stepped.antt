@@ -5,8 +5,7 @@ use Rattle.sector_device.specs.Disk.{Disk}
 use Rattle.sector_device.proofs.Charges.{failed_joined}
 use Rattle.store_journal.specs.Calls.{Broke, Stepped}
 use Rattle.store_journal.specs.JournalView.{JournalView}
-use Rattle.store_commits.specs.Copying.{Target, count_of}
-use Rattle.store_commits.specs.Pumping.{calls_of_step, standing_after, written_of}
+use Rattle.store_commits.specs.Copying.{Target, count_of, calls_of_step, standing_after, written_of}
 use Rattle.store_commits.proofs.Switches.{broke_behind}
 
 module _ {D : Type 0} (disk : D → Disk) (before mid now : JournalView D) (t : Target) (most answer : ℕ)

@@ -11,21 +11,16 @@ use Rattle.store_journal.specs.JournalView.{JournalView, carried_of}
 use Rattle.store_journal.specs.Writes.{append_calls}
 use Rattle.doc_machine.specs.Transaction.{AreAccepted, AreFramed, AreGood, Transaction, after_in, changes_of}
 use Rattle.doc_changes.specs.State.{State, Good}
-use Rattle.store_commits.specs.Account.{Account, Copy, account_broken, with_copy}
-use Rattle.store_commits.specs.Answers.{copy_with, size_of}
-use Rattle.store_commits.specs.Batch.{Commit, IsBatch, IsForced, commit_for, commit_in_doubt, commit_made, failed, passed, to_append}
-use Rattle.store_commits.specs.Committed.{Slot, waits, said, asked, waiting, sizes_of, account_behind, account_committed, AreJudged, AreCommitted, AreInDoubt, calls_for, replies_done, replies_in_doubt}
-use Rattle.store_commits.specs.Extents.{EndsWith, Extent, extent_of}
+use Rattle.store_commits.specs.Account.{Account, Copy, account_broken, with_copy, EndsWith, Extent, extent_of}
+use Rattle.store_commits.specs.Batch.{Commit, IsBatch, IsForced, commit_for, commit_in_doubt, commit_made, failed, passed, to_append, Slot, waits, said, asked, waiting, copy_with, size_of, sizes_of, account_behind, account_committed, AreJudged, AreCommitted, AreInDoubt, calls_for, replies_done, replies_in_doubt}
 use Rattle.store_commits.specs.Copying.{IsCopied, Target, copy_of, target_with}
-use Rattle.store_commits.specs.Folds.{after_each, all_changes, frames_at}
-use Rattle.store_commits.specs.Inside.{IsHeld, IsStored, account_of}
-use Rattle.store_commits.specs.Run.{were_done, were_in_doubt}
+use Rattle.store_commits.specs.Folds.{after_each, all_changes, frames_at, StandsAfter}
+use Rattle.store_commits.specs.Inside.{IsHeld, IsStored, account_of, IsAppended, AnswersPart}
 use Rattle.store_commits.specs.Images.{Holds}
-use Rattle.store_commits.specs.Stands.{StandsAfter}
-use Rattle.store_commits.specs.Batching.{IsAppended, AnswersPart}
 use Rattle.store_commits.proofs.Changes.{accepted_append, accepted_in, each_is_all, frames_size, good_last, holds_all, seq_counts, sizes_all, some_accepted}
 use Rattle.store_commits.proofs.Extents.{broken_as, either_as, ending_as}
 use Rattle.store_commits.proofs.Moves.{Moved, done_answered, in_doubt_answered, moved_nowhere}
+use Rattle.store_commits.proofs.Slots.{slots_done, slots_in_doubt}
 use Rattle.store_commits.proofs.Standing.{broke_is, held_broke, stands_by, stands_now}
 
 -- ---- over lists
@@ -201,7 +196,7 @@ module _ {D : Type 0} (disk : D → Disk) (coherent : (device : D) → (disk dev
       was_made left forced =
           let b = with_copy (account_of now (after_each state cs)) (copy_of (target_with frames copy)) in
           let k = passed (to_append a slots) in
-          done_answered disk coherent before state copy works now slots (k ∷ []) left (account_committed a slots) (target_with frames copy) moved_done ok.works account_then (were_done a b slots are_committed)
+          done_answered disk coherent before state copy works now slots (k ∷ []) left (account_committed a slots) (target_with frames copy) moved_done ok.works account_then (slots_done a state.seq slots judged)
           (λ qs rest end batch. subst (λ (ks : List Commit). IsBatch a (asked slots ++ left) (replies_done state.seq slots ++ qs) (ks ++ rest) end) (one_commit (waiting slots) k first others some)
           (commit_made a b end slots left qs rest are_committed (subst (λ (x : Account). IsForced x left) (sym account_then) forced) batch))
 
@@ -241,7 +236,7 @@ module _ {D : Type 0} (disk : D → Disk) (coherent : (device : D) → (disk dev
       pub was_in_doubt : (left : List Transaction) → IsForced (account_committed a slots) left → AnswersPart disk before state copy slots left (account_committed a slots) now None (replies_in_doubt slots)
       was_in_doubt left forced =
           in_doubt_answered disk coherent before state copy works now slots (failed (to_append a slots) (account_of now state) ∷ []) left (account_committed a slots) moved_in_doubt broke.broken first others some
-          (were_in_doubt a (account_of now state) slots are_in_doubt) (λ qs rest end batch. commit_in_doubt a (account_of now state) end slots left qs rest are_in_doubt forced batch)
+          (slots_in_doubt a slots judged) (λ qs rest end batch. commit_in_doubt a (account_of now state) end slots left qs rest are_in_doubt forced batch)
 
   -- ---- nothing waits
 
@@ -251,7 +246,7 @@ module _ {D : Type 0} (disk : D → Disk) (coherent : (device : D) → (disk dev
       let then : b ≡ account_committed a slots = ap (λ (ts : List Transaction). with_copy (account_of before (after_each state ts)) (copy_of copy)) none ∙ sym (committed_none a slots none) in
       let are : AreCommitted a slots b = record { works = works; judged = judged; new_is = then } in
       let moved = subst (λ (ts : List Transaction). Moved disk before state before copy ts [] []) (sym none) (moved_nowhere disk coherent before state copy stored works) in
-      done_answered disk coherent before state copy works before slots [] left (account_committed a slots) copy moved works then (were_done a b slots are)
+      done_answered disk coherent before state copy works before slots [] left (account_committed a slots) copy moved works then (slots_done a state.seq slots judged)
       (λ qs rest end batch. subst (λ (ts : List Transaction). IsBatch a (asked slots ++ left) (replies_done state.seq slots ++ qs) (commit_for ts (passed (to_append a slots)) ++ rest) end) none
       (commit_made a b end slots left qs rest are (subst (λ (x : Account). IsForced x left) (sym then) forced) batch))
 

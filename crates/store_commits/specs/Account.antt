@@ -1,8 +1,9 @@
--- The view of a store.
-use Rattle.std.specs.Prelude.{◌≡◌, ℕ, Bool, true, false, Option, None}
+-- The view of a store, and the extent of its state on an image: in how many bytes of which half it is.
+use Rattle.std.specs.Prelude.{◌≡◌, ℕ, Bool, true, false, Option, None, List, ◌++◌, length}
 use Rattle.sector_device.specs.Disk.{Disk, Image}
 use Rattle.doc_changes.specs.State.{State}
-use Rattle.store_commits.specs.Images.{Stands}
+use Rattle.store_commits.specs.Images.{Stands, Holds}
+use Rattle.store_journal.specs.Carries.{Carries}
 
 -- a copy that runs: the length of its target, and how many of these bytes the other half holds
 pub record Copy : Type 0 where
@@ -39,3 +40,37 @@ pub record StoreView (D : Type 0) : Type 0 where
 -- of a working store on an honest device, each image that a crash may leave holds its state
 abbrev pub IsStanding : Disk → Account → Type 0
 IsStanding disk account = disk.honest → account.broken ≡ false → (image : Image) → disk.left image → Stands account.state image
+
+-- a state, how many bytes hold it in which half, whether small commits ride, and the sectors of the device
+pub record Extent : Type 0 where
+  pub state : State
+  pub used : ℕ
+  pub half : ℕ
+  pub rides : Bool
+  pub sectors : ℕ
+
+abbrev pub extent_of : Account → Extent
+extent_of a = record { state = a.state; used = a.used; half = a.half; rides = a.rides; sectors = a.sectors }
+
+-- the image has `sectors` sectors, and carries the state in format 2, or 3, in `used` bytes in that half
+pub record StandsAs (l : Extent) (image : Image) : Type 0 where
+  pub bytes : List ℕ
+  pub opens : ℕ
+  pub carries : Carries (record { version = 2; rides = l.rides; half = l.half; bytes = bytes; seq = l.state.seq; opens = opens }) image
+  pub holds : Holds 2 l.state.seq bytes l.state.documents
+  pub used_is : l.used ≡ length bytes
+  pub sectors_is : l.sectors ≡ length image
+
+-- of a working store on an honest device, every image that a crash may leave is as its account
+abbrev pub IsStandingAs : Disk → Account → Type 0
+IsStandingAs disk account = disk.honest → account.broken ≡ false → (image : Image) → disk.left image → StandsAs (extent_of account) image
+
+-- so does this one, and its bytes end with these
+pub record EndsWith (ending : List ℕ) (l : Extent) (image : Image) : Type 0 where
+  pub stands : StandsAs l image
+  pub front : List ℕ
+  pub ends : stands.bytes ≡ front ++ ending
+
+-- of an honest device, every image that a crash may leave is as the account, and its bytes end with these
+abbrev pub IsEndingWith : List ℕ → Disk → Account → Type 0
+IsEndingWith ending disk account = disk.honest → (image : Image) → disk.left image → EndsWith ending (extent_of account) image

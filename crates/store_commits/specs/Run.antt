@@ -1,55 +1,66 @@
--- Runs: the events of a store, its answers, and what becomes of it, of its device's images and of its device's calls.
-use Rattle.std.specs.Prelude.{◌≡◌, ◌↔◌, List, [], ◌∷◌, ◌++◌, true, false}
+-- Runs: the events of a store, its answers and commits, what becomes of it, and what a crash may leave of its device.
+use Rattle.std.specs.Prelude.{◌≡◌, ◌↔◌, ◌⊎◌, List, [], ◌∷◌, ◌++◌, true, false, ℕ, Result, Ok, Err, if◌then◌else◌, nat_eq}
 use Rattle.sector_device.specs.Disk.{Disk, Image, LeavesOnly}
+use Rattle.refusals.specs.declared.numbers.TheConstants.{DEVICE, MEMORY}
+use Rattle.doc_changes.specs.Refusals.{plain}
+use Rattle.doc_changes.specs.declared.refusal.Refusal.{Refusal}
 use Rattle.doc_machine.specs.Transaction.{Transaction}
-use Rattle.store_commits.specs.Folds.{after_each}
-use Rattle.store_commits.specs.Stands.{StandsAfter}
+use Rattle.store_commits.specs.Folds.{after_each, StandsAfter}
 use Rattle.store_commits.specs.Account.{Account, StoreView}
-use Rattle.store_commits.specs.Batch.{BatchIsCharged}
-use Rattle.store_commits.specs.Charged.{Answered, Charged}
-use Rattle.store_commits.specs.Committed.{Slot, asked, waiting, changes, AreCommitted, AreInDoubt, replies_done, replies_in_doubt}
-pub use Rattle.store_commits.specs.Events.{Event, change, snapshot, pump, Reply, Done, Snapped, Pumped, Refused, done_by, hit_by, reply_of}
+use Rattle.store_commits.specs.Batch.{AreMade, BatchIsMade, Commit, Intent, IsBatch, failed, passed, to_snapshot, changes}
+use Rattle.store_commits.specs.Copying.{PumpAnswers, account_stepped, calls_of_pump}
+use Rattle.store_commits.specs.Snapshot.{SnapshotAnswers}
+use Rattle.store_commits.specs.declared.pump.Pump.{Pump}
+pub use Rattle.store_commits.specs.Events.{Event, change, snapshot, pump, Reply, Done, Snapped, Pumped, Refused, dones_of, hits_of, reply_of}
 
--- Events that are answered together, one by itself or the transactions of one commit, from an account to an account: their replies, the transactions that were done, and those that a fault of the device hit after they were accepted.
-pub data IsGroup : Account → List Event → List Reply → List Transaction → List Transaction → Account → Type 0 where
-  was_answered : (a b : Account) (e : Event) (r : Reply) → Answered a e r b → IsGroup a (e ∷ []) (r ∷ []) (done_by e r) (hit_by e r) b
-  were_done : (a b : Account) (slots : List Slot) → AreCommitted a slots b → IsGroup a (changes (asked slots)) (replies_done a.state.seq slots) (waiting slots) [] b
-  were_in_doubt : (a b : Account) (slots : List Slot) → AreInDoubt a slots b → IsGroup a (changes (asked slots)) (replies_in_doubt slots) [] (waiting slots) b
+-- a step of a copy
+abbrev pub to_step : Account → ℕ → Intent
+to_step a most = record { calls = calls_of_pump a most; made = account_stepped a most; ending = [] }
 
--- groups of events one after another
-pub data IsRun : Account → List Event → List Reply → List Transaction → List Transaction → Account → Type 0 where
-  nothing : (a : Account) → IsRun a [] [] [] [] a
-  one_more : (a b d : Account) (events more_events : List Event) (replies more_replies : List Reply) (dones more_dones in_doubt more_in_doubt : List Transaction)
-      → IsRun a events replies dones in_doubt b → IsGroup b more_events more_replies more_dones more_in_doubt d
-      → IsRun a (events ++ more_events) (replies ++ more_replies) (dones ++ more_dones) (in_doubt ++ more_in_doubt) d
+-- The commit of a snapshot or a step, by its answer and what became of the account: it passed, or the device failed in it, or there was none.
+abbrev pub commits_of : {A : Type 0} → Result A Refusal → Intent → Account → List Commit
+commits_of (Ok answer) k new = passed k ∷ []
+commits_of (Err r) k new = if nat_eq r.number DEVICE then failed k new ∷ [] else []
 
--- A call made such a run of the store, and this is what a crash may leave meanwhile and at its end, and what the device was asked, said by Charge.
-pub record RanBy {D : Type 0} (disk : D → Disk) (Charge : StoreView D → List Event → List Reply → StoreView D → Type 0) (old new : StoreView D) (events : List Event) (replies : List Reply) : Type 0 where
-  pub dones : List Transaction
-  pub in_doubt : List Transaction
-  pub run : IsRun old.account events replies dones in_doubt new.account
+-- What is done at once: a batch; a snapshot; a step of a copy; or a transaction is refused, since memory ran out.
+pub data IsDone : Account → List Event → List Reply → List Commit → Account → Type 0 where
+  a_batch : (a b : Account) (ts : List Transaction) (replies : List Reply) (commits : List Commit) → IsBatch a ts replies commits b → IsDone a (changes ts) replies commits b
+  a_snapshot : (a b : Account) (r : Result ℕ Refusal) → SnapshotAnswers a r b → IsDone a (snapshot ∷ []) (reply_of Snapped r ∷ []) (commits_of r (to_snapshot a) b) b
+  a_step : (a b : Account) (most : ℕ) (r : Result Pump Refusal) → PumpAnswers a most r b → IsDone a (pump most ∷ []) (reply_of Pumped r ∷ []) (commits_of r (to_step a most) b) b
+  no_memory : (a : Account) (t : Transaction) → IsDone a (change t ∷ []) (Refused (plain MEMORY) ∷ []) [] a
+
+-- the same, one after another
+pub data IsRun : Account → List Event → List Reply → List Commit → Account → Type 0 where
+  nothing : (a : Account) → IsRun a [] [] [] a
+  one_more : (a b d : Account) (events more_events : List Event) (replies more_replies : List Reply) (commits more_commits : List Commit)
+      → IsRun a events replies commits b → IsDone b more_events more_replies more_commits d
+      → IsRun a (events ++ more_events) (replies ++ more_replies) (commits ++ more_commits) d
+
+-- Transactions were done, and others were accepted, but a fault hit them: this is what a crash may leave meanwhile, and at the end.
+pub record Lasts {D : Type 0} (disk : D → Disk) (old new : StoreView D) (dones in_doubt : List Transaction) : Type 0 where
   -- the state is the one after those that were done, and while the store works no other was accepted
   pub state_is : new.account.state ≡ after_each old.account.state dones
   pub none_in_doubt : new.account.broken ≡ false → in_doubt ≡ []
   pub honest : (disk old.device).honest ↔ (disk new.device).honest
-  -- at each moment each image holds the state after some of the accepted transactions, each whole, the first of them
-  -- first
+  -- at each moment each image holds the state after some of the accepted transactions, each whole, the first of them first
   pub any_moment : (disk old.device).honest → old.account.broken ≡ false → LeavesOnly (disk old.device) (disk new.device) (StandsAfter old.account.state (dones ++ in_doubt))
   -- at the end for the one after all that were done, with or without those that were hit
   pub at_end : (disk old.device).honest → old.account.broken ≡ false → (image : Image) → (disk new.device).left image → StandsAfter new.account.state in_doubt image
-  pub charged : Charge old events replies new
   -- of a broken store nothing changes
-  pub still : old.account.broken ≡ true → new ≡ old
+  pub still : old.account.broken ≡ true → (new ≡ old) × (dones ++ in_doubt ≡ [])
 
--- each event by itself: it made its calls of the device, or one of these failed, or it made none
-abbrev pub Ran : {D : Type 0} → (D → Disk) → StoreView D → StoreView D → List Event → List Reply → Type 0
-Ran disk old new events replies = RanBy disk (λ x es rs y. Charged disk false x es rs y) old new events replies
+-- A call made such a run of the store, its commits asked this of the device, and that is what a crash may leave.
+pub record Ran {D : Type 0} (disk : D → Disk) (old new : StoreView D) (events : List Event) (replies : List Reply) : Type 0 where
+  pub commits : List Commit
+  pub run : IsRun old.account events replies commits new.account
+  pub made : AreMade disk old.device commits new.device
+  pub lasts : Lasts disk old new (dones_of events replies) (hits_of events replies)
 
--- each event by itself, or the transactions of a batch together, which made as few commits as their frames' room allows
-abbrev pub RanInBatches : {D : Type 0} → (D → Disk) → StoreView D → StoreView D → List Event → List Reply → Type 0
-RanInBatches disk old new events replies = RanBy disk (λ x es rs y. Charged disk true x es rs y) old new events replies
+-- A call answered a whole batch so, and that is a run of its transactions.
+pub record Batched {D : Type 0} (disk : D → Disk) (old new : StoreView D) (ts : List Transaction) (replies : List Reply) : Type 0 where
+  pub is : BatchIsMade disk old ts replies new
+  pub ran : Ran disk old new (changes ts) replies
 
--- A call answered a whole batch so, with the calls of the device that this costs; and that is a run of its transactions.
-pub record Batched {D : Type 0} (disk : D → Disk) (old new : StoreView D) (cs : List Transaction) (replies : List Reply) : Type 0 where
-  pub charged : BatchIsCharged disk old cs replies new
-  pub ran : RanInBatches disk old new (changes cs) replies
+-- A transaction by itself is a batch of one; or memory ran out, and nothing was done.
+abbrev pub Transacts : {D : Type 0} → (D → Disk) → StoreView D → Transaction → Result ℕ Refusal → StoreView D → Type 0
+Transacts disk old t r new = BatchIsMade disk old (t ∷ []) (reply_of Done r ∷ []) new ⊎ ((r ≡ Err (plain MEMORY)) × (new ≡ old))

@@ -8,9 +8,7 @@ ghost use Rattle.store_journal.specs.JournalView.{IsKept, carried_of};
 ghost use Rattle.doc_changes.specs.Refusals.{plain};
 ghost use Rattle.doc_changes.specs.State.{Good};
 ghost use Rattle.refusals.specs.declared.numbers.TheConstants.{DEVICE};
-ghost use Rattle.store_commits.specs.Copying.{HasSpare, IsBegun, count_of, target_with, target_of, view_of};
-ghost use Rattle.store_commits.specs.Pumping.{calls_of_step, standing_after};
-ghost use Rattle.store_commits.specs.Stepping.{HasStepped};
+ghost use Rattle.store_commits.specs.Copying.{HasSpare, IsBegun, count_of, target_with, target_of, view_of, HasStepped, calls_of_step, standing_after};
 
 use crate::creations;
 use crate::pump::{CopyState, Pump};

@@ -6,11 +6,10 @@ ghost use Rattle.doc_machine.specs.Transaction.{RefusesTransaction, changes_of, 
 ghost use Rattle.doc_machine.specs.Transaction.{Transaction as Asked};
 ghost use Rattle.doc_machine.specs.Trial.{TrialView, state_at};
 ghost use Rattle.store_commits.specs.Account.{Account, with_copy};
-ghost use Rattle.store_commits.specs.Committed.{Slot, asked};
+ghost use Rattle.store_commits.specs.Batch.{Slot, asked};
 ghost use Rattle.store_commits.specs.Copying.{HasSpare, copy_of, target_of};
 ghost use Rattle.store_commits.specs.Folds.{frames_at};
-ghost use Rattle.store_commits.specs.Inside.{account_of};
-ghost use Rattle.store_commits.specs.Batching.{ArePrepared, PlansOneMore, IsPlanning, bytes_in};
+ghost use Rattle.store_commits.specs.Inside.{account_of, ArePrepared, PlansOneMore, IsPlanning, bytes_in};
 
 use crate::copying::{Copying, reserve};
 use crate::creations;
@@ -77,7 +76,7 @@ pub(crate) fn prepare<D: SectorDevice>(
 }
 
 impl Segment {
-    ghost use Rattle.store_commits.specs.Batching.{IsEmpty};
+    ghost use Rattle.store_commits.specs.Inside.{IsEmpty};
 
     // Nothing waits, and nothing is answered.
     fn new(alloc: Global) -> Segment

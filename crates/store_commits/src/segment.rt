@@ -6,10 +6,9 @@ ghost use Rattle.store_journal.specs.Layout.{capacity_of};
 ghost use Rattle.doc_machine.specs.Transaction.{Transaction};
 ghost use Rattle.doc_changes.specs.State.{State};
 ghost use Rattle.store_commits.specs.Account.{Account, with_copy};
-ghost use Rattle.store_commits.specs.Committed.{Slot};
+ghost use Rattle.store_commits.specs.Batch.{Slot};
 ghost use Rattle.store_commits.specs.Copying.{HasSpare, copy_of, target_with, target_of};
-ghost use Rattle.store_commits.specs.Inside.{IsStored, account_of, store_view};
-ghost use Rattle.store_commits.specs.Batching.{ArePrepared, HasCommitted, IsAppended, IsAppendedBehind, IsPart, IsReady, AnswersPart, answered, bytes_in, fate_of, replies_in};
+ghost use Rattle.store_commits.specs.Inside.{IsStored, account_of, store_view, ArePrepared, HasCommitted, IsAppended, IsAppendedBehind, IsPart, IsReady, AnswersPart, answered, bytes_in, fate_of, replies_in};
 ghost use Rattle.store_commits.specs.declared.event.Reply.{Reply as Said};
 
 use crate::copying::{Copying, grow};

@@ -2,16 +2,16 @@
 
 ghost use Rattle.std.specs.Prelude.{◌≡◌, ◌≤◌, IfOk, IfErr, OnErr, OnOk, length};
 ghost use Rattle.command_line.specs.declared.limits.TheConstants.{MAX_SECTORS};
-ghost use Rattle.doc_store.specs.Snapshot.{snapshot_bytes};
-ghost use Rattle.doc_store.specs.Status.{status_of};
-ghost use Rattle.doc_store.specs.Account.{Account};
+ghost use Rattle.store_commits.specs.Snapshot.{snapshot_bytes};
+ghost use Rattle.doc_store.specs.Formats.{status_of};
+ghost use Rattle.store_commits.specs.Account.{Account};
 ghost use Rattle.file_device.specs.File.{file_disk};
 ghost use Rattle.jpstore.specs.Copies.{IsCopiedFile, IsFilled, account_copied};
 ghost use Rattle.jpstore.specs.Files.{IsOpenedIn, IsUnopenedIn};
 ghost use Rattle.jpstore.specs.Shown.{Shows};
 ghost use Rattle.protocol.specs.Reply.{line_of};
 ghost use Rattle.sector_device.specs.declared.history.History.{Created};
-ghost use Rattle.serve_lines.specs.StatusReply.{status_reply};
+ghost use Rattle.serve_lines.specs.Session.{status_reply};
 
 use crate::fault::Fault;
 use crate::lines::show_line;

@@ -2,7 +2,7 @@
 
 ghost use Rattle.std.specs.Prelude.{◌≡◌, false, IfOk, IfErr, OnErr, OnOk};
 ghost use Rattle.sector_device.specs.Disk.{LeavesOnly};
-ghost use Rattle.doc_store.specs.Account.{IsStanding};
+ghost use Rattle.store_commits.specs.Account.{IsStanding};
 ghost use Rattle.doc_store.specs.Formats.{InEither, format_of, number_of};
 ghost use Rattle.doc_tree.specs.Text.{data_of};
 ghost use Rattle.file_device.specs.File.{file_disk};

@@ -1,5 +1,4 @@
-use Rattle.store_commits.specs.Charged.{Charged}
-use Rattle.std.specs.Prelude.{[], true, false}
+use Rattle.std.specs.Prelude.{[]}
 use Rattle.store_commits.proofs.Running.{ran_nothing}
 use Rattle.doc_store.proofs.Promised.{run_keeps}
 use Rattle.doc_store.proofs.laws.runs_keep_the_promise.Goals as goal
@@ -7,8 +6,4 @@ use Rattle.doc_store.proofs.laws.runs_keep_the_promise.Goals as goal
 pub returns : goal.returns
 returns g c =
     let disk = g.D.SectorDevice.disk in
-    record {
-      none = λ x standing. run_keeps disk (λ x es rs y. Charged disk false x es rs y) x x [] [] (ran_nothing disk g.met.D.SectorDevice.coherent false x standing);
-      alone = run_keeps disk (λ x es rs y. Charged disk false x es rs y);
-      batches = run_keeps disk (λ x es rs y. Charged disk true x es rs y);
-    }
+    record { none = λ x standing. run_keeps disk x x [] [] (ran_nothing disk g.met.D.SectorDevice.coherent x standing); runs = run_keeps disk }

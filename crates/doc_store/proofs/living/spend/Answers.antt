@@ -2,13 +2,13 @@ use Rattle.std.proofs.Common.{◌≡◌, ◌-◌, ⊎_elim, inl, inr, List, true
 use Rattle.doc_changes.specs.Refusals.{plain}
 use Rattle.refusals.specs.declared.numbers.TheConstants.{DEVICE}
 use Rattle.doc_store.specs.Lives.{events_of, replies_of}
-use Rattle.doc_store.specs.Telling.{Told}
+use Rattle.doc_store.specs.Ending.{Told}
 use Rattle.doc_store.specs.Timed.{left}
 use Rattle.store_commits.specs.Events.{event_of}
 use Rattle.store_commits.specs.Run.{Event}
 use Rattle.doc_store.proofs.Ending.{failed_to_open, leaves_opened, leaves_unopened, rooms_unopened, sized_unopened, unopened}
 use Rattle.doc_store.proofs.Opened.{why_of}
-use Rattle.doc_store.proofs.Timing.{late_from, left_has_room, so_far, timely_from}
+use Rattle.doc_store.proofs.Timing.{late_from, left_has_room, run_leaves, timely_from}
 use Rattle.doc_store.proofs.living.spend.Goals as goal
 
 pub returns-clause-leaves : goal.returns-clause-leaves
@@ -20,14 +20,14 @@ returns-clause-leaves g c = rw c.into_device.ensures.device (λ s life settled s
     let end = c.ask_all.new.store in
     let told = subst (λ (es : List Event). Told disk start end es c.ask_all.new.self) (ap (λ events. map event_of events.items) (sym same)) c.ask_all.ensures.told in
     let faults = (disk end.device).own_failures - given.own_failures in
-    let at_open = told.ran.honest.1 honest in
+    let at_open = told.ran.lasts.honest.1 honest in
     let coherent = g.met.D.SectorDevice.coherent c.args.device (c.in-Ok.ensures.honest at_open) in
     let sectors = opened.sectors_is ∙ sym (coherent.shape given.seen coherent.seen).count in
     let state = c.in-Ok.ensures.exact s (all given.seen coherent.seen) at_open in
     leaves_opened disk given start end faults settled s life c.ask_all.new.self c.status-began.result.seq told at_open opened.works opened.no_copy state
     (ap (λ status. status.seq) c.status-began.ensures.status ∙ ap (λ state. state.seq) state) image is_left
-    (λ t. timely_from disk c.args.device start end life.stop (events_of life) (replies_of c.ask_all.new.self) told.hit opened.works c.know.ensures.stands_as (opened.found at_open) sectors
-    (rw (opened.found_is at_open) opened.made) told.asked s settled (left t image true) refl honest is_left))
+    (λ t. timely_from disk c.args.device start end life.stop (events_of life) (replies_of c.ask_all.new.self) opened.works c.know.ensures.stands_as (opened.found at_open) sectors
+    (rw (opened.found_is at_open) opened.made) told.ran s settled (left t image true) refl honest is_left))
 
 pub returns-in-Err-clause-leaves : goal.returns-in-Err-clause-leaves
 returns-in-Err-clause-leaves g c = λ s life settled same all alone honest image is_left.
@@ -56,8 +56,8 @@ pub returns-clause-rooms : goal.returns-clause-rooms
 returns-clause-rooms g c = rw c.into_device.ensures.device (λ honest lacks.
     let told = c.ask_all.ensures.told in
     let last = c.ask_all.new.store in
-    absurd (left_has_room told.hit last.account lacks.0
-    ((so_far g.D.SectorDevice.disk c.in-Ok.store 0 0 c.in-Ok.ensures.opened.works c.know.ensures.stands_as (map event_of c.args.events.items) (replies_of c.ask_all.new.self) last told.hit told.asked).leaves honest lacks.0 lacks.1) lacks.2))
+    absurd (left_has_room told.ran.commits last.account lacks.0
+    (run_leaves g.D.SectorDevice.disk c.in-Ok.store last (map event_of c.args.events.items) (replies_of c.ask_all.new.self) told.ran c.in-Ok.ensures.opened.works c.know.ensures.stands_as honest lacks.0 lacks.1) lacks.2))
 
 pub returns-in-Err-clause-rooms : goal.returns-in-Err-clause-rooms
 returns-in-Err-clause-rooms g c = λ honest lacks.

@@ -4,7 +4,7 @@ use Rattle.sector_device.specs.Disk.{Image}
 use Rattle.sector_device.specs.declared.history.History.{History}
 use Rattle.sector_device.specs.History.{moment_of, seen_after, left_after, left_since, disk_after}
 use Rattle.doc_store.specs.Opening.{IsOpenedFrom, IsRefusedAs, LacksRoom, NotOpened, OldOrStands}
-use Rattle.doc_store.specs.Stands.{Stands}
+use Rattle.store_commits.specs.Images.{Stands}
 use Rattle.doc_store.proofs.Opened.{why_of}
 use Rattle.file_device.specs.File.{file_disk}
 use Rattle.jpstore.specs.Files.{IsRefusedIn}

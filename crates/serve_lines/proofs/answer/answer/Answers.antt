@@ -1,6 +1,6 @@
-use Rattle.std.proofs.Common.{[], Err, Result, inl, inr, ap, refl, subst, IfOk}
+use Rattle.std.proofs.Common.{[], Err, Result, inl, inr, ap, refl, subst}
 use Rattle.doc_changes.specs.declared.refusal.Refusal.{Refusal}
-use Rattle.protocol.specs.Read.{asked_by, IsNoChange, ReadsRequest}
+use Rattle.protocol.specs.Read.{asked_by, ReadsRequest}
 use Rattle.protocol.specs.declared.request.Request.{Request}
 use Rattle.protocol.specs.Reply.{refusal_reply}
 use Rattle.serve_lines.specs.Session.{AnswersOther}
@@ -12,8 +12,7 @@ returns-in-Ok g c = λ options line asks.
     let reply = c.reply_to.ensures in
     let request = asked_by c.in-Ok.request in
     let asked = subst (λ (a : Result Request Refusal). ReadsRequest line a) c.in-Ok.is asks in
-    let other = subst (λ (a : Result Request Refusal). IfOk a (λ r. IsNoChange (asked_by r))) c.in-Ok.is c.requires in
-    let answered = asks_so g.D.SectorDevice.disk options c.args.store.now c.reply_to.new.store line request reply.0 asked other (reply.2 options) in
+    let answered = asks_so g.D.SectorDevice.disk options c.args.store.now c.reply_to.new.store line request reply.0 asked (reply.2 options) in
     (reply.0, reply.1, answered)
 
 pub returns-in-Err : goal.returns-in-Err
@@ -22,6 +21,6 @@ returns-in-Err g c = λ options line asks.
     let reads = subst (λ (a : Result Request Refusal). ReadsRequest line a) c.in-Err.is asks in
     let other : AnswersOther c.args.store.now.account line [] [] said c.args.store.now.account = elim reads [
       | inl memory ↦ inl (ap refusal_reply memory, (refl, refl, refl))
-      | inr none ↦ inr (Err none.0, none.2, tt, (ap refusal_reply none.1, (refl, refl, refl)))
+      | inr none ↦ inr (Err none.0, none.2, (ap refusal_reply none.1, (refl, refl, refl)))
     ] in
     (said, refl, unasked g.D.SectorDevice.disk options c.args.store.now line said other)

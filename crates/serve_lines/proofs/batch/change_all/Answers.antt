@@ -1,7 +1,7 @@
 use Rattle.std.proofs.Common.{List, map, arith, ap, subst}
 use Rattle.std.proofs.lemmas.List.{length-map}
 use Rattle.doc_machine.specs.Transaction.{Transaction, transaction_of}
-use Rattle.doc_store.specs.Run.{Batched}
+use Rattle.store_commits.specs.Run.{Batched}
 use Rattle.serve_lines.specs.LineReplies.{FollowsBatch}
 use Rattle.serve_lines.proofs.Batching.{batch_behind, made_each}
 use Rattle.serve_lines.proofs.batch.change_all.Goals as goal

@@ -2,7 +2,7 @@ use Rattle.std.proofs.Common.{◌≡◌, ◌<◌, ℕ, map, length, replicate, a
 use Rattle.std.proofs.lemmas.List.{length-map, append-nil}
 use Rattle.doc_machine.specs.Transaction.{transaction_of}
 use Rattle.doc_changes.specs.Refusals.{plain}
-use Rattle.doc_store.specs.Account.{StoreView}
+use Rattle.store_commits.specs.Account.{StoreView}
 use Rattle.refusals.specs.declared.numbers.TheConstants.{MEMORY}
 use Rattle.protocol.specs.Reply.{refusal_reply}
 use Rattle.protocol.specs.declared.reply.Reply.TheVariants.{Refused}

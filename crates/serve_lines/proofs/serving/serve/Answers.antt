@@ -2,7 +2,7 @@ use Rattle.std.proofs.Common.{◌≡◌, ◌⊎◌, inl, inr, ⊎_elim, ℕ, Lis
 use Rattle.std.proofs.lemmas.List.{append-nil}
 use Rattle.std.specs.Io.KnownBytes.{Appends, Consumes}
 use Rattle.std.specs.Result.{IsErrOf}
-use Rattle.doc_store.specs.Account.{StoreView}
+use Rattle.store_commits.specs.Account.{StoreView}
 use Rattle.doc_store.specs.Promise.{KeepsPromise}
 use Rattle.protocol.specs.Lines.{lines_of}
 use Rattle.serve_lines.specs.Kept.{no_line}
@@ -31,15 +31,15 @@ ends_so f named is = let same : f ≡ named = cc is in ap (λ (x : ServeFault). 
 pub returns-in-Ok-clause-promise : goal.returns-in-Ok-clause-promise
 returns-in-Ok-clause-promise g c =
     let session = c.in-Ok.ensures.ok.3.told.session in
-    (session.events, session.said, c.runs_keep_the_promise.ensures.batches c.args.store.now c.answer_all-ended.new.store session.events session.said session.ran)
+    (session.events, session.said, c.runs_keep_the_promise.ensures.runs c.args.store.now c.answer_all-ended.new.store session.events session.said session.ran)
 
 pub returns-in-Ok-clause-promised : goal.returns-in-Ok-clause-promised
 returns-in-Ok-clause-promised g c =
-    λ lines replies was. c.runs_keep_the_promise.ensures.batches c.args.store.now c.answer_all-ended.new.store was.events was.said was.ran
+    λ lines replies was. c.runs_keep_the_promise.ensures.runs c.args.store.now c.answer_all-ended.new.store was.events was.said was.ran
 
 pub returns-in-Err-clause-promised : goal.returns-in-Err-clause-promised
 returns-in-Err-clause-promised g c =
-    λ lines replies was. c.runs_keep_the_promise.ensures.batches c.args.store.now c.answer_all-ended.new.store was.events was.said was.ran
+    λ lines replies was. c.runs_keep_the_promise.ensures.runs c.args.store.now c.answer_all-ended.new.store was.events was.said was.ran
 
 -- whatever ended it, what had been done until then was one run
 pub returns-in-Err-clause-promise : goal.returns-in-Err-clause-promise
@@ -47,9 +47,9 @@ returns-in-Err-clause-promise g c =
     let old = c.args.store.now in
     let new = c.answer_all-ended.new.store in
     let keep = c.runs_keep_the_promise.ensures in
-    ⊎_elim (λ is. (let session = (c.in-Err.ensures.reader is).2.writes.session in (session.events, session.said, keep.batches old new session.events session.said session.ran)))
-    (⊎_elim (λ is. (let session = (c.in-Err.ensures.writer is).2.session in (session.events, session.said, keep.batches old new session.events session.said session.ran)))
-    (⊎_elim (λ is. (let session = (c.in-Err.ensures.turns is).2.writes.session in (session.events, session.said, keep.batches old new session.events session.said session.ran)))
+    ⊎_elim (λ is. (let session = (c.in-Err.ensures.reader is).2.writes.session in (session.events, session.said, keep.runs old new session.events session.said session.ran)))
+    (⊎_elim (λ is. (let session = (c.in-Err.ensures.writer is).2.session in (session.events, session.said, keep.runs old new session.events session.said session.ran)))
+    (⊎_elim (λ is. (let session = (c.in-Err.ensures.turns is).2.writes.session in (session.events, session.said, keep.runs old new session.events session.said session.ran)))
     (λ is. (let same = (c.in-Err.ensures.memory is).0 in ([], [], subst (λ (v : StoreView g.row.D.Denot). KeepsPromise g.D.SectorDevice.disk v new [] []) same (keep.none new c.status-broken.ensures.standing)))))) (one_of c.in-Err.fault)
 
 pub returns-in-Ok-clause-kept : goal.returns-in-Ok-clause-kept
@@ -60,7 +60,7 @@ returns-in-Ok-clause-kept g c =
     let left_new = g.R.Read.remaining c.answer_all-ended.new.reader in
     let ok = c.in-Ok.ensures.ok in
     let told = ok.3.told in (
-      kept_so g.D.SectorDevice.disk c.args.options.now old new left left_new ok.0 ok.1 (c.runs_keep_the_promise.ensures.batches old new) (lines_of ok.0) [] told.replies told.session (sym (append-nil (lines_of ok.0))),
+      kept_so g.D.SectorDevice.disk c.args.options.now old new left left_new ok.0 ok.1 (c.runs_keep_the_promise.ensures.runs old new) (lines_of ok.0) [] told.replies told.session (sym (append-nil (lines_of ok.0))),
       λ is. (refl, ok.2),
       λ not_writer. told.wrote,
     )
@@ -77,9 +77,9 @@ returns-in-Err-clause-kept g c =
     let before = g.W.Write.contents c.args.writer.now in
     let after = g.W.Write.contents c.answer_all-ended.new.writer in
     let keep = c.runs_keep_the_promise.ensures in
-    ⊎_elim (λ is. (let r = c.in-Err.ensures.reader is in (kept_paused disk options old new left left_new r.0 r.1 (keep.batches old new) before after r.2, λ ok. absurd (cc ok), λ not_writer. r.2.writes.wrote)))
-    (⊎_elim (λ is. (let r = c.in-Err.ensures.writer is in (kept_broken_off disk options old new left left_new r.0 r.1 (keep.batches old new) r.2, λ ok. absurd (cc ok), λ not_writer. absurd (not_writer (ends_so c.in-Err.fault Writer is)))))
-    (⊎_elim (λ is. (let r = c.in-Err.ensures.turns is in (kept_paused disk options old new left left_new r.0 r.1 (keep.batches old new) before after r.2, λ ok. absurd (cc ok), λ not_writer. r.2.writes.wrote)))
+    ⊎_elim (λ is. (let r = c.in-Err.ensures.reader is in (kept_paused disk options old new left left_new r.0 r.1 (keep.runs old new) before after r.2, λ ok. absurd (cc ok), λ not_writer. r.2.writes.wrote)))
+    (⊎_elim (λ is. (let r = c.in-Err.ensures.writer is in (kept_broken_off disk options old new left left_new r.0 r.1 (keep.runs old new) r.2, λ ok. absurd (cc ok), λ not_writer. absurd (not_writer (ends_so c.in-Err.fault Writer is)))))
+    (⊎_elim (λ is. (let r = c.in-Err.ensures.turns is in (kept_paused disk options old new left left_new r.0 r.1 (keep.runs old new) before after r.2, λ ok. absurd (cc ok), λ not_writer. r.2.writes.wrote)))
     (λ is. (let same = c.in-Err.ensures.memory is in (
       record {
         read = [];

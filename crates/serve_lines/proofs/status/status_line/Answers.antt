@@ -1,4 +1,4 @@
-use Rattle.serve_lines.specs.StatusReply.{status_reply}
+use Rattle.serve_lines.specs.Session.{status_reply}
 use Rattle.serve_lines.proofs.status.status_line.Goals as goal
 
 pub returns : goal.returns

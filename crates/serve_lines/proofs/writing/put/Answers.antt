@@ -1,5 +1,5 @@
 use Rattle.std.proofs.Common.{◌≡◌, ◌++◌, ◌∙◌, List, ℕ, subst}
-use Rattle.serve_lines.specs.Written.{HasWritten}
+use Rattle.serve_lines.specs.Progress.{HasWritten}
 use Rattle.protocol.specs.Reply.{line_of}
 use Rattle.protocol.specs.Says.{Says}
 use Rattle.protocol.specs.declared.reply.Reply.{Reply}

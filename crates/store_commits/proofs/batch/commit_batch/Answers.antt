@@ -6,8 +6,7 @@ use Rattle.doc_changes.specs.Refusals.{plain}
 use Rattle.doc_changes.specs.State.{State}
 use Rattle.store_commits.specs.Account.{StoreView, with_copy}
 use Rattle.store_commits.specs.Copying.{Target, copy_of, target_of}
-use Rattle.store_commits.specs.Inside.{IsStored, account_of, store_view}
-use Rattle.store_commits.specs.Batching.{HasCommitted}
+use Rattle.store_commits.specs.Inside.{IsStored, account_of, store_view, HasCommitted}
 use Rattle.store_commits.specs.declared.event.Reply.TheVariants.{Refused}
 use Rattle.store_commits.proofs.Joining.{broken_whole}
 use Rattle.store_commits.proofs.Parts.{planned_replies}

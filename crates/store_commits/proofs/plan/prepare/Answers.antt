@@ -1,9 +1,8 @@
 use Rattle.std.proofs.Common.{◌-◌, [], refl, sym, subst, ◌∙◌, arith}
 use Rattle.store_commits.specs.Account.{with_copy}
-use Rattle.store_commits.specs.Committed.{account_committed}
+use Rattle.store_commits.specs.Batch.{account_committed}
 use Rattle.store_commits.specs.Copying.{HasSpare, copy_of, target_of}
-use Rattle.store_commits.specs.Inside.{account_of}
-use Rattle.store_commits.specs.Batching.{IsPlanning}
+use Rattle.store_commits.specs.Inside.{account_of, IsPlanning}
 use Rattle.store_commits.proofs.Parts.{planned_bytes}
 use Rattle.store_commits.proofs.Plans.{planned_ends, planning_begins}
 use Rattle.store_commits.proofs.plan.prepare.Given.{Over}

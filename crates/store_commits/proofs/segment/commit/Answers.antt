@@ -2,7 +2,7 @@ use Rattle.std.proofs.Common.{sym, ◌∙◌, subst, ap, ℕ, List, Option, arit
 use Rattle.store_journal.specs.Calls.{Takes}
 use Rattle.store_commits.specs.Account.{Account}
 use Rattle.store_commits.specs.Copying.{Target, target_of, target_with}
-use Rattle.store_commits.specs.Batching.{IsAppended, IsAppendedBehind, IsPart, AnswersPart, answered}
+use Rattle.store_commits.specs.Inside.{IsAppended, IsAppendedBehind, IsPart, AnswersPart, answered}
 use Rattle.store_commits.specs.declared.segment.Fate.{Fate}
 use Rattle.store_commits.proofs.Parts.{none_waits, not_begun, one_behind, part_fits, part_takes, some_wait}
 use Rattle.store_commits.proofs.segment.commit.Goals as goal

@@ -1,11 +1,11 @@
 use Rattle.std.proofs.Common.{◌≡◌, ◌-◌, [], List, length, ap, sym, subst, ◌∙◌, arith}
 use Rattle.std.proofs.lemmas.List.{nil_from_length}
 use Rattle.std.specs.Vec.Iter.{into_iter_items}
-use Rattle.store_commits.specs.Committed.{waiting}
+use Rattle.store_commits.specs.Batch.{waiting}
 use Rattle.store_commits.specs.Copying.{HasSpare, target_of}
 use Rattle.store_commits.specs.Folds.{all_changes}
 use Rattle.store_commits.specs.Run.{Reply}
-use Rattle.store_commits.specs.Batching.{HasCome, bytes_in, replies_in}
+use Rattle.store_commits.specs.Inside.{HasCome, bytes_in, replies_in}
 use Rattle.store_commits.specs.declared.segment.Segment.{Segment}
 use Rattle.store_commits.proofs.Joining.{all_come, come_further, come_nowhere, committed, how_many, next_ready}
 use Rattle.store_commits.proofs.segment.commit_all.Goals as goal

@@ -2,10 +2,9 @@ use Rattle.std.proofs.Common.{◌≤◌, ◌+◌, List, vec_len, vec_capacity}
 use Rattle.std.specs.Vec.Iter.{into_iter_items}
 use Rattle.doc_changes.specs.State.{State}
 use Rattle.store_commits.specs.Account.{Account, with_copy}
-use Rattle.store_commits.specs.Committed.{Slot}
+use Rattle.store_commits.specs.Batch.{Slot}
 use Rattle.store_commits.specs.Copying.{HasSpare, copy_of, target_of}
-use Rattle.store_commits.specs.Inside.{IsStored, account_of}
-use Rattle.store_commits.specs.Batching.{ArePlanned, HasCome, bytes_in, replies_in}
+use Rattle.store_commits.specs.Inside.{IsStored, account_of, ArePlanned, HasCome, bytes_in, replies_in}
 use Rattle.store_commits.proofs.segment.commit_all.Given as goal
 
 abbrev pub invariant-loop-segment : goal.invariant-loop-segment

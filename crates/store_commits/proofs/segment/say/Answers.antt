@@ -1,7 +1,7 @@
 use Rattle.std.proofs.Common.{◌≡◌, ◌∙◌, ◌++◌, ◌∷◌, [], ◌+◌, ap, sym, List, map, length, arith, add-one}
 use Rattle.std.proofs.lemmas.List.{map-append, append_assoc}
 use Rattle.std.specs.Vec.Iter.{into_iter_items}
-use Rattle.store_commits.specs.Batching.{answered}
+use Rattle.store_commits.specs.Inside.{answered}
 use Rattle.store_commits.specs.declared.event.Reply.{Reply}
 use Rattle.store_commits.proofs.segment.say.Goals as goal
 

@@ -1,6 +1,6 @@
 use Rattle.std.proofs.Common.{◌≡◌, ◌≤◌, ◌+◌, ◌++◌, map, length, vec_len, vec_capacity}
 use Rattle.std.specs.Vec.Iter.{into_iter_items}
-use Rattle.store_commits.specs.Batching.{answered}
+use Rattle.store_commits.specs.Inside.{answered}
 use Rattle.store_commits.proofs.segment.say.Given as goal
 
 abbrev pub invariant-loop-reply : goal.invariant-loop-reply

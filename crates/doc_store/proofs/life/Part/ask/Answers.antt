@@ -11,8 +11,7 @@ returns-clause-told g c = λ start events told.
     let items = rw c.unwrap.ensures at c.push.ensures.items in
     let replies : c.push.new.self.items ≡ old.replies.items ++ r ∷ [] = rw items (ap (λ v. v.items ++ r ∷ []) grows.replies) in
     told_more g.D.SectorDevice.disk g.met.D.SectorDevice.coherent start c.args.store.now c.answer-reply.new.store events (event_of c.args.event) r old
-    (record c.answer-reply.new.self { replies = c.push.new.self }) told c.answer-reply.ensures.ran
-    c.answer-reply.ensures.answered c.answer-reply.ensures.charged c.know.ensures.stands_as c.answer-reply.ensures.left replies grows.accepted grows.acknowledged
+    (record c.answer-reply.new.self { replies = c.push.new.self }) told c.answer-reply.ensures.ran replies grows.accepted grows.acknowledged
 
 pub returns-clause-room : goal.returns-clause-room
 returns-clause-room g c = λ n room.

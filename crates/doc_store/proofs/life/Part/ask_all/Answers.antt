@@ -3,7 +3,7 @@ use Rattle.std.proofs.lemmas.List.{map-append, append-nil, append_assoc, nil_fro
 use Rattle.std.specs.Vec.Iter.{into_iter_items}
 use Rattle.doc_store.proofs.Telling.{told_nothing}
 use Rattle.store_commits.specs.Events.{event_of}
-use Rattle.doc_store.specs.Telling.{Told, HasPlaces}
+use Rattle.doc_store.specs.Ending.{Told, HasPlaces}
 use Rattle.store_commits.specs.declared.event.Event.{Event as ProgramEvent}
 use Rattle.doc_store.proofs.life.Part.ask_all.Goals as goal
 

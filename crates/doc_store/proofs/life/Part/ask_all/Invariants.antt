@@ -1,7 +1,7 @@
 use Rattle.std.proofs.Common.{◌≡◌, ◌++◌, map, length}
 use Rattle.std.specs.Vec.Iter.{into_iter_items}
 use Rattle.store_commits.specs.Account.{IsStanding}
-use Rattle.doc_store.specs.Telling.{Told, HasPlaces}
+use Rattle.doc_store.specs.Ending.{Told, HasPlaces}
 use Rattle.store_commits.specs.Events.{event_of}
 use Rattle.doc_store.proofs.life.Part.ask_all.Given as goal
 

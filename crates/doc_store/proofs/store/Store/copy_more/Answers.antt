@@ -1,13 +1,12 @@
-use Rattle.std.proofs.Common.{◌≤◌, [], length, sym, subst, ◌∙◌, arith, Option}
+use Rattle.std.proofs.Common.{◌≤◌, [], length, sym, subst, arith, Option}
 use Rattle.std.proofs.lemmas.Result.{err_from_is_err_and}
 use Rattle.store_journal.specs.Layout.{capacity_of}
 use Rattle.store_commits.specs.Account.{with_copy}
 use Rattle.store_commits.specs.Copying.{IsCopying, Target, copy_of, target_of, view_of}
 use Rattle.store_commits.specs.Inside.{account_of}
-use Rattle.store_commits.specs.Run.{pump}
-use Rattle.store_commits.specs.declared.event.Reply.TheVariants.{Refused}
-use Rattle.doc_store.specs.Leaving.{LeavesThen}
-use Rattle.doc_store.proofs.Pumps.{begun_at, begun_copying, step_moments, step_stored, stood_pump}
+use Rattle.store_commits.specs.Batch.{FailedCommit}
+use Rattle.store_commits.specs.Run.{to_step}
+use Rattle.doc_store.proofs.Pumps.{begun_at, begun_copying, step_moments, step_failed, step_stored}
 use Rattle.store_commits.proofs.Standing.{standing, stays}
 use Rattle.doc_store.proofs.store.Store.copy_more.Given.{Over}
 use Rattle.doc_store.proofs.store.Store.copy_more.Goals as goal
@@ -53,8 +52,8 @@ invariant_of-self-2 g c =
 pub returns-clause-standing : goal.returns-clause-standing
 returns-clause-standing g c = standing (g.D.SectorDevice.disk c.step.new.journal.device) c.step.new.journal c.self.inside.machine (invariant_of-self-2 g c).held
 
-pub returns-in_err-pump-clause-left : goal.returns-in_err-pump-clause-left
-returns-in_err-pump-clause-left g c =
+pub returns-in_err-pump-clause-failed : goal.returns-in_err-pump-clause-failed
+returns-in_err-pump-clause-failed g c =
     let disk = g.D.SectorDevice.disk in
     let p = err_from_is_err_and c.from_residual-in_err-pump.result c.from_residual-in_err-pump.ensures.1 in
     let before = c.self.inside.journal in
@@ -65,8 +64,7 @@ returns-in_err-pump-clause-left g c =
     let at = begun_at (disk before.device) before state copy t c.in_ok-copying.ensures.ok in
     let step = c.in_err-pump.ensures in
     let now = c.step.new.journal in
-    let works = sym c.is_broken.ensures.broken ∙ c.if-is_broken.false in
     let fits : length t.bytes ≤ capacity_of before.sectors = omega (arith, c.if-capacity-len.false, c.capacity.ensures, c.len.ensures, c.in_ok-copying.copying.target.ok) in
-    rw (p.1, p.2) (rw (← c.self.view_is)
-    (subst (λ (l : Option Target). LeavesThen (disk now.device) (with_copy (account_of before state) (copy_of copy)) (pump c.args.max) (Refused c.in_err-pump.field-0.0) (with_copy (account_of now state) (copy_of l))) (sym c.in_ok-copying.ensures.taken)
-    (λ _. stood_pump disk g.met.D.SectorDevice.coherent before now state c.self.invariant.held step.honest step.kept (copy_of copy) _ step.err.1 c.args.max t copying.holds at works fits step.any_moment step.before_last)))
+    rw (p.1, p.2) (λ _. rw (← c.self.view_is)
+    (subst (λ (l : Option Target). FailedCommit disk before.device now.device (to_step (with_copy (account_of before state) (copy_of copy)) c.args.max) (with_copy (account_of now state) (copy_of l))) (sym c.in_ok-copying.ensures.taken)
+    (step_failed disk g.met.D.SectorDevice.coherent before now state c.self.invariant.held step.honest step.kept (copy_of copy) c.args.max t step.err.1 copying.holds at fits step.any_moment step.before_last)))

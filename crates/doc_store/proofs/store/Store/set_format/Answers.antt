@@ -1,6 +1,6 @@
 use Rattle.std.proofs.Common.{◌∙◌, subst, sym}
 use Rattle.store_commits.specs.Copying.{copy_of, target_of}
-use Rattle.doc_store.specs.Naming.{IsNamed}
+use Rattle.doc_store.specs.Formats.{IsNamed}
 use Rattle.doc_store.proofs.Formats.{format_moments, images_are, stays_formatted}
 use Rattle.doc_store.proofs.Pumps.{held_so}
 use Rattle.doc_store.proofs.store.Store.set_format.Goals as goal

@@ -5,13 +5,12 @@ use Rattle.doc_changes.proofs.Framed.{framed_storable}
 use Rattle.store_commits.specs.Account.{StoreView}
 use Rattle.store_commits.specs.Copying.{copy_of, target_of}
 use Rattle.store_commits.specs.Inside.{account_of}
-use Rattle.store_commits.specs.SnapshotAnswers.{CanHold, snapshot_size}
-use Rattle.store_commits.specs.Snapshot.{snapshot_bytes}
-use Rattle.store_commits.specs.Stands.{StandsAfter}
+use Rattle.store_commits.specs.Snapshot.{CanHold, snapshot_size, snapshot_bytes}
+use Rattle.store_commits.specs.Folds.{StandsAfter}
 use Rattle.store_commits.proofs.SnapshotOutcomes.{snapped_held, snapshot_moments}
 use Rattle.store_commits.proofs.Snapshots.{remakes_all}
 use Rattle.store_commits.proofs.Standing.{standing}
-use Rattle.doc_store.proofs.Pumps.{stood_snapshot}
+use Rattle.doc_store.proofs.Pumps.{snapshot_failed, snapshot_passed}
 use Rattle.doc_store.proofs.store.Store.write_anew.Given.{Over}
 use Rattle.doc_store.proofs.store.Store.write_anew.Goals as goal
 
@@ -55,9 +54,16 @@ returns-clause-moments_err g c = IfErr-weaker c.commit_snapshot.result _ _ (λ _
 pub returns-clause-standing : goal.returns-clause-standing
 returns-clause-standing g c = standing (g.D.SectorDevice.disk c.commit_snapshot.new.journal.device) c.commit_snapshot.new.journal c.self.inside.machine (invariant_of-self-2 g c).held
 
-pub returns-clause-left : goal.returns-clause-left
-returns-clause-left g c =
+pub returns-clause-passed : goal.returns-clause-passed
+returns-clause-passed g c =
     let told = c.commit_snapshot.ensures in
     let bytes = bytes_are g c in
     rw (← c.self.view_is)
-    (stood_snapshot g.D.SectorDevice.disk g.met.D.SectorDevice.coherent c.self.inside.journal c.commit_snapshot.new.journal c.self.inside.machine c.self.invariant.held told.honest told.kept (copy_of (target_of c.self.inside.copy)) c.commit_snapshot.result (rw bytes at told.err) (rw bytes at told.any_moment))
+    (snapshot_passed g.D.SectorDevice.disk g.met.D.SectorDevice.coherent c.self.inside.journal c.commit_snapshot.new.journal c.self.inside.machine c.self.invariant.held told.honest told.kept (copy_of (target_of c.self.inside.copy)) (can_snapshot g c).works c.commit_snapshot.result (rw bytes at told.ok))
+
+pub returns-clause-failed : goal.returns-clause-failed
+returns-clause-failed g c =
+    let told = c.commit_snapshot.ensures in
+    let bytes = bytes_are g c in
+    rw (← c.self.view_is)
+    (snapshot_failed g.D.SectorDevice.disk g.met.D.SectorDevice.coherent c.self.inside.journal c.commit_snapshot.new.journal c.self.inside.machine c.self.invariant.held told.honest told.kept (copy_of (target_of c.self.inside.copy)) c.commit_snapshot.result (rw bytes at told.err) (rw bytes at told.any_moment))

@@ -1,4 +1,4 @@
-use Rattle.std.proofs.Common.{◌≡◌, inl, inr, ⊎_elim, ◌∙◌, ℕ, ◌++◌, List, length, take, drop, ap, sym, arith, Bool, true, false}
+use Rattle.std.proofs.Common.{◌≡◌, inl, inr, ⊎_elim, ◌∙◌, ℕ, ◌++◌, List, length, take, drop, ap, arith, Bool, true, false}
 use Rattle.std.proofs.lemmas.List.{append-nil, drop_all, take_all}
 use Rattle.sector_device.specs.Memory.{mem_disk, mem_coherent}
 use Rattle.doc_changes.specs.State.{State}

@@ -1,5 +1,5 @@
 use Rattle.std.proofs.Common.{ap, sym, append_assoc, arith, ◌++◌, ◌∷◌, [], ◌∙◌, List, ℕ, subst}
-use Rattle.serve_lines.specs.Pieces.{HasRead, held_in}
+use Rattle.serve_lines.specs.Progress.{HasRead, held_in}
 use Rattle.serve_lines.specs.Serve.{BreaksOff}
 use Rattle.serve_lines.specs.declared.session.Session.{Session}
 use Rattle.serve_lines.proofs.Ending.{breaks_off}

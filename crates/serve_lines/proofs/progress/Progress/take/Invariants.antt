@@ -1,7 +1,6 @@
 use Rattle.std.proofs.Common.{◌≡◌, ℕ, List, ◌+◌, ◌++◌, length, Option}
-use Rattle.doc_store.specs.Account.{StoreView}
-use Rattle.serve_lines.specs.Pieces.{held_in}
-use Rattle.serve_lines.specs.Progress.{SoFar}
+use Rattle.store_commits.specs.Account.{StoreView}
+use Rattle.serve_lines.specs.Progress.{held_in, SoFar}
 use Rattle.serve_lines.specs.declared.options.Options.{Options}
 use Rattle.serve_lines.proofs.progress.Progress.take.Given as goal
 

@@ -3,8 +3,7 @@ use Rattle.std.proofs.lemmas.List.{append-nil}
 use Rattle.doc_tree.specs.Doc.{Doc}
 use Rattle.protocol.specs.declared.reply.Reply.{Reply}
 use Rattle.protocol.specs.Reply.{count_of, reply_lines}
-use Rattle.serve_lines.specs.Written.{HasWritten}
-use Rattle.serve_lines.specs.Progress.{HasReplied}
+use Rattle.serve_lines.specs.Progress.{HasWritten, HasReplied}
 use Rattle.serve_lines.specs.LineReplies.{AllSay}
 use Rattle.serve_lines.proofs.Batching.{says_none}
 use Rattle.serve_lines.proofs.Hearing.{first_says}

@@ -1,5 +1,5 @@
 use Rattle.std.proofs.Common.{ap, ◌++◌, ◌∙◌, sym, subst}
-use Rattle.serve_lines.specs.Pieces.{HasRead}
+use Rattle.serve_lines.specs.Progress.{HasRead}
 use Rattle.serve_lines.specs.declared.session.Session.{Session}
 use Rattle.serve_lines.proofs.Telling.{with_ok, any_err}
 use Rattle.serve_lines.proofs.Ending.{breaks_off}

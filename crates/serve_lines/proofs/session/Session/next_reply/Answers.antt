@@ -1,8 +1,7 @@
 use Rattle.std.proofs.Common.{ap, append_assoc, arith, refl, sym, ◌++◌, ◌∷◌, [], ◌∙◌, List, ℕ, subst, length, length-append}
 use Rattle.std.proofs.lemmas.List.{append-nil}
 use Rattle.protocol.specs.Lines.{line_feed}
-use Rattle.serve_lines.specs.EndOfLine.{HasCut}
-use Rattle.serve_lines.specs.Pieces.{HasRead, waiting_in}
+use Rattle.serve_lines.specs.Progress.{HasCut, HasRead, waiting_in}
 use Rattle.serve_lines.proofs.Ending.{parted, reaches_more}
 use Rattle.serve_lines.proofs.Hearing.{hears_given, hears_same}
 use Rattle.serve_lines.proofs.session.Session.next_reply.Goals as goal

@@ -1,5 +1,5 @@
 use Rattle.std.proofs.Common.{◌≡◌, ◌≤◌, ◌+◌, ℕ, List, [], ◌++◌, length}
-use Rattle.serve_lines.specs.Pieces.{ReadsMore, held_in}
+use Rattle.serve_lines.specs.Progress.{ReadsMore, held_in}
 use Rattle.serve_lines.proofs.session.Session.next_reply.Given as goal
 
 abbrev pub invariant-lines : goal.invariant-lines

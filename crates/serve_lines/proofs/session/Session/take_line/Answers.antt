@@ -3,8 +3,7 @@ use Rattle.std.proofs.lemmas.List.{append-nil}
 use Rattle.doc_tree.specs.Doc.{Doc}
 use Rattle.protocol.specs.Lines.{line_feed}
 use Rattle.protocol.specs.declared.reply.Reply.{Reply}
-use Rattle.serve_lines.specs.EndOfLine.{EndsLine, HasCut}
-use Rattle.serve_lines.specs.Pieces.{waiting_in}
+use Rattle.serve_lines.specs.Progress.{EndsLine, HasCut, waiting_in}
 use Rattle.serve_lines.specs.LineReplies.{AllSay}
 use Rattle.serve_lines.specs.declared.options.Options.{Options}
 use Rattle.serve_lines.proofs.Batching.{says_none}

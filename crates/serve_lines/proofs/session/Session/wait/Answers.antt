@@ -2,7 +2,7 @@ use Rattle.std.proofs.Common.{List, ◌∷◌, ◌++◌, ◌∙◌, [], ap, sym,
 use Rattle.std.proofs.lemmas.List.{length-map, map-append}
 use Rattle.doc_machine.specs.Transaction.{transaction_of}
 use Rattle.protocol.specs.declared.reply.Reply.{Reply}
-use Rattle.serve_lines.specs.Pieces.{waiting_in}
+use Rattle.serve_lines.specs.Progress.{waiting_in}
 use Rattle.serve_lines.specs.LineReplies.{AllSay}
 use Rattle.serve_lines.proofs.Batching.{batch_of_some}
 use Rattle.serve_lines.proofs.session.Session.wait.Goals as goal

@@ -1,6 +1,6 @@
 use Rattle.std.proofs.Common.{subst, ℕ, codes}
 use Rattle.std.proofs.lemmas.Result.{on_ok_weaker}
-use Rattle.serve_lines.specs.StatusReply.{SendsNumber}
+use Rattle.serve_lines.specs.Session.{SendsNumber}
 use Rattle.serve_lines.proofs.status.StatusReplySerialize.serialize.Goals as goal
 
 pub returns : goal.returns

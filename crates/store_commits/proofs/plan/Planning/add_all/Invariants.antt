@@ -3,8 +3,8 @@ use Rattle.std.specs.Vec.Iter.{into_iter_items}
 use Rattle.doc_machine.specs.Trial.{state_at}
 use Rattle.doc_machine.specs.Transaction.{transaction_of}
 use Rattle.store_commits.specs.Account.{Account}
-use Rattle.store_commits.specs.Committed.{Slot, asked}
-use Rattle.store_commits.specs.Batching.{IsPlanning}
+use Rattle.store_commits.specs.Batch.{Slot, asked}
+use Rattle.store_commits.specs.Inside.{IsPlanning}
 use Rattle.store_commits.proofs.plan.Planning.add_all.Given as goal
 
 abbrev pub invariant-loop-transaction : goal.invariant-loop-transaction

@@ -6,7 +6,7 @@ use Rattle.doc_changes.specs.declared.refusal.Refusal.{Refusal}
 use Rattle.doc_machine.proofs.Transactions.{taken_back}
 use Rattle.store_commits.specs.Run.{Done, Refused, Reply}
 use Rattle.store_commits.specs.Snapshot.{snapshot_bytes}
-use Rattle.store_commits.specs.Batching.{IsEmpty}
+use Rattle.store_commits.specs.Inside.{IsEmpty}
 use Rattle.store_commits.specs.declared.segment.Segment.{Segment}
 use Rattle.store_commits.proofs.Changes.{frames_size}
 use Rattle.store_commits.proofs.Plans.{further_behind, further_full}
