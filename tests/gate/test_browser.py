@@ -273,6 +273,9 @@ def see_a_transaction(page):
     feed = page.text("#feed")
     assert f"shelf-1 still at revision {rev}" in feed and "replace /bolts 39" in feed, feed
     assert "move /nuts to /screws" in feed and "[7]" in feed, feed
+    page.picture("transaction")
+    assert "One transaction " in feed and len(page.all("#feed .transaction .change")) == 3, feed
+    assert f"#{rev + 1} to #{rev + 3}" in feed and page.all("#feed > .change"), feed
     page.until(lambda: "screws" in page.text("#tree"), "the new value")
     page.until(lambda: "t" in page.text("#names").split(), "the new document")
 
@@ -390,6 +393,12 @@ def use_a_phone(page):
         "return getComputedStyle(document.body).backgroundColor.match(/\\d+/g).slice(0, 3).map(Number)")
     assert max(red, green, blue) < 64
     page.picture("phone")
+    page.until(lambda: page.text("#live") == "live", "the stream of changes")
+    page.ask("POST", "transactions", {"changes": [{"cmd": "create", "name": name, "doc": {}, "schema": True} for name in "vw"]})
+    page.until(lambda: "w created" in page.text("#feed"), "the changes of a transaction")
+    page.browser.execute_script("document.querySelector('#feed .transaction').scrollIntoView()")
+    assert page.browser.execute_script("return document.documentElement.scrollWidth") <= 390
+    page.picture("phone-transaction")
     page.browser.execute_cdp_cmd("Emulation.clearDeviceMetricsOverride", {})
     page.browser.execute_cdp_cmd("Emulation.setEmulatedMedia", {"features": []})
 

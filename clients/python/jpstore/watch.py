@@ -19,13 +19,16 @@ from .wire.forks import check_process, in_each_child
 from .wire.program import Path
 from .wire.session import PAUSE, may_come
 
-__all__ = ["Change", "Gone", "Progress", "UNWATCHED", "Watch", "Watcher"]
+__all__ = ["Change", "Gone", "Progress", "UNSERVED", "UNWATCHED", "Watch", "Watcher"]
 
 C = TypeVar("C")
 S = TypeVar("S", bound="Watch")
 
 #: What is said to those who would watch a store without a hub.
 UNWATCHED = "only the store of a hub can be watched: serve the file by a hub, and connect to its socket"
+
+#: What is said to those who would let a store grow without a hub.
+UNSERVED = "only the store of a hub grows while it is open: close it, and use `grow_file`"
 
 
 @dataclass(frozen=True)
@@ -34,6 +37,14 @@ class Change:
 
     seq: int
     command: Dict[str, Any]
+    #: The numbers of the first and the last change of its transaction, if that has several.
+    first: Optional[int] = None
+    last: Optional[int] = None
+
+    def record(self) -> Dict[str, Any]:
+        """What a hub tells of it: `change`, `seq`, and of a transaction `first` and `last`."""
+        span = {} if self.first is None else {"first": self.first, "last": self.last}
+        return {"change": self.command, **span, "seq": self.seq}
 
 
 class Gone(JpstoreError):
@@ -81,7 +92,7 @@ class Progress:
         self._until = None
         if "change" in record:
             self.since = record["seq"]
-            return Change(record["seq"], record["change"])
+            return Change(record["seq"], record["change"], record.get("first"), record.get("last"))
         if record["ok"]:
             self.since, self.history = record["from"], record["history"]
             self._last = record["seq"] if self._last is None else self._last

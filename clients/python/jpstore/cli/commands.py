@@ -185,7 +185,7 @@ def _watch(words: argparse.Namespace) -> None:
     with Watch(words.store, words.since, follow=not words.past, wait=getattr(words, "wait", None)) as changes:
         for change in changes:
             if words.name in (None, change.command.get("name")):
-                print_record({"change": change.command, "seq": change.seq})
+                print_record(change.record())
 
 
 def _follow(words: argparse.Namespace) -> None:

@@ -175,7 +175,7 @@ class Shell(cmd.Cmd):
             since = number_of(word, "SINCE")
         with contextlib.suppress(KeyboardInterrupt), self.store.watch(since) as changes:
             for change in changes:
-                print_record({"change": change.command, "seq": change.seq})
+                print_record(change.record())
 
     def do_follow(self, line: str) -> None:
         """follow NAME [POINTER]: a document of a hub's store now and after each change of it, until Ctrl-C."""

@@ -85,7 +85,7 @@ async def _next_of(watch: AsyncWatch) -> Optional[Change]:
 
 
 def _event(change: Change) -> bytes:
-    return b"data: %b\n\n" % canonical({"change": change.command, "seq": change.seq})
+    return b"data: %b\n\n" % canonical(change.record())
 
 
 def _id_of(watch: AsyncWatch) -> bytes:

@@ -8,7 +8,7 @@ since: the saved changes count only if the store has the bytes that it had when 
 import re
 import uuid
 from collections import deque
-from typing import Deque, List, Optional, Sequence
+from typing import Deque, Iterable, List, Optional, Sequence
 
 from ..errors import JpstoreError
 from ..wire.standard_streams import complain
@@ -24,7 +24,9 @@ _MOST_CHANGES, _MOST_BYTES = 1 << 16, 1 << 24
 # The most names that are kept.
 _MOST_NAMES = 64
 
-_LINE = re.compile(rb'\{"change":(.*),"seq":\d+\}', re.DOTALL)
+# What is before the text of a change in its line, and what is after it, which is no longer than this.
+_HEAD, _TAIL = b'{"change":', re.compile(rb'(?:,"first":\d+,"last":\d+)?,"seq":\d+\}\Z')
+_MOST_TAIL = 100
 
 
 class History:
@@ -80,17 +82,17 @@ class History:
                 break
         return lines
 
-    def add(self, texts: Sequence[bytes]) -> List[bytes]:
-        """Adds changes, in order, and returns their lines."""
-        lines = [b'{"change":%b,"seq":%d}' % (text, seq) for seq, text in enumerate(texts, self.last + 1)]
+    def add(self, texts: Sequence[bytes], sizes: Iterable[int] = ()) -> List[bytes]:
+        """Adds changes, in order, and returns their lines. `sizes` tells how many of them each transaction has."""
+        lines = _lines_of(texts, self.last, sizes)
         self._lines += lines
         self._bytes += sum(map(len, lines))
         self._trim()
         return lines
 
-    def record(self, texts: Sequence[bytes], position: Position) -> None:
+    def record(self, texts: Sequence[bytes], position: Position, sizes: Iterable[int] = ()) -> None:
         """Adds the changes of a commit, and notes them and the position after it in the file."""
-        lines = self.add(texts)
+        lines = self.add(texts, sizes)
         if texts:
             self._ends.append(self.last)
         if self._file is None or self._trace is None:
@@ -111,6 +113,17 @@ class History:
             position = position._replace(digest=trace.after([], position))
             file.rewrite(self._names, self.base, self._lines, position)
         except OSError as error:
+            self._without_file(error)
+
+    def go_on(self, position: Position) -> None:
+        """Goes on in another file of the store, which has the same changes."""
+        if self._file is None or self._trace is None:
+            return
+        try:
+            self._trace = self._trace.anew()
+            position = position._replace(digest=self._trace.after([], position))
+            self._file.rewrite(self._names, self.base, self._lines, position)
+        except (OSError, JpstoreError) as error:
             self._without_file(error)
 
     def _without_file(self, error: Exception) -> None:
@@ -138,9 +151,20 @@ class History:
         return max(self._end, min(seq, self._unknown))
 
 
+def _lines_of(texts: Sequence[bytes], before: int, sizes: Iterable[int]) -> List[bytes]:
+    """The lines of the changes after number `before`. Those of a transaction tell its first and its last number."""
+    lines: List[bytes] = []
+    for size in (*sizes, *([1] * len(texts))):
+        some = texts[len(lines):len(lines) + size]
+        first, last = before + len(lines) + 1, before + len(lines) + len(some)
+        span = b',"first":%d,"last":%d' % (first, last) if len(some) > 1 else b""
+        lines += [b'{"change":%b%b,"seq":%d}' % (text, span, seq) for seq, text in enumerate(some, first)]
+    return lines
+
+
 def _text_in(line: bytes) -> Optional[bytes]:
-    found = _LINE.fullmatch(line)
-    return found.group(1) if found else None
+    tail = _TAIL.search(line, max(len(_HEAD), len(line) - _MOST_TAIL))
+    return line[len(_HEAD):tail.start()] if tail and line.startswith(_HEAD) else None
 
 
 def open_history(store: str) -> History:

@@ -31,8 +31,7 @@ class Served:
     """
 
     def __init__(self, program: Process, history: History, group: int, pump: int) -> None:
-        assert program.stdin and program.stdout
-        self._input, self._output = program.stdin, program.stdout
+        self._take(program)
         self.history = history
         self._group, self._pump = group, pump
         self._status: Dict[str, Any] = {}
@@ -41,6 +40,19 @@ class Served:
         self._copying = False
         #: Whether the device failed.
         self.broken = False
+
+    def _take(self, program: Process) -> None:
+        assert program.stdin and program.stdout
+        #: The program that serves the store's file.
+        self.program = program
+        self._input, self._output = program.stdin, program.stdout
+
+    async def go_on(self, program: Process, status: Dict[str, Any], inode: int) -> None:
+        """Goes on with the program of another file, which has taken the place of the store's and has its changes."""
+        self._take(program)
+        self._status, self._tried, self._copying = status, -1, False
+        self.history.inode = inode
+        await asyncio.get_running_loop().run_in_executor(None, self.history.go_on, self._position())
 
     async def begin(self) -> None:
         """Asks where the store is."""
@@ -67,6 +79,10 @@ class Served:
         self._input.write(b"".join(lines))
         for line in lines:
             yield refusal(10) if line == TOO_LONG else await self._reply()
+
+    async def ask(self, lines: Sequence[bytes]) -> List[bytes]:
+        """The replies to lines that change nothing."""
+        return [reply async for reply in self.questions(lines)]
 
     async def snapshot(self, line: bytes) -> bytes:
         """The reply to a line that makes a snapshot, or a step of one."""
@@ -99,14 +115,17 @@ class Served:
         replies = [await self._reply() for _ in lines]
         await self._take_status()
         texts: List[bytes] = []
+        sizes: List[int] = []
         for reply, line in zip(replies, lines):
             seq = seq_in(reply)
             if seq is not None:
-                texts += map(canonical, changes_in(json.loads(line.decode())))
+                changes = changes_in(json.loads(line.decode()))
+                texts += map(canonical, changes)
+                sizes.append(len(changes))
                 self._check_number(seq, len(texts))
         self._check_number(self._status["seq"], len(texts))
         if texts:
-            self.history.record(texts, self._position())
+            self.history.record(texts, self._position(), sizes)
         return replies
 
     def _check_number(self, number: int, count: int) -> None:

@@ -18,6 +18,10 @@ class Trace:
         self._last = Position(-1, 0, 0, 0, 0)
         self._made: Any = None
 
+    def anew(self) -> "Trace":
+        """That of another file which has the path now."""
+        return Trace(self._path)
+
     def after(self, texts: Sequence[bytes], position: Position) -> str:
         """The digest of the bytes up to a position, before which these changes were made last."""
         frames = [frame_of(seq, text) for seq, text in enumerate(texts, self._last.seq + 1)]

@@ -176,13 +176,16 @@ class Applier:
     def _take(self, note: Note, task: Optional[_Task] = None, places: Sequence[int] = ()) -> None:
         """Takes lines as accepted, and the note that was made after them."""
         texts: List[bytes] = []
+        sizes: List[int] = []
         if task is not None:
             for place in places:
-                texts += _texts_of(task.lines[place])
+                some = _texts_of(task.lines[place])
+                texts += some
+                sizes.append(len(some))
                 task.answers[place] = done(self.seq + len(texts))
         texts.append(note.patch(None))
         self.seq += len(texts)
-        self._history.record(texts, _NOWHERE)
+        self._history.record(texts, _NOWHERE, sizes)
         self.note = note
 
     async def _settle(self, task: _Task, reply: bytes) -> Done:

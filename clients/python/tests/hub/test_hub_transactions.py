@@ -39,14 +39,15 @@ def test_each_change_is_told_with_its_number(place):
             assert store.transaction(changes) == 5
             assert json.loads(lines.readline())["seq"] == 1
             assert [json.loads(lines.readline()) for _ in changes] == \
-                [{"change": change, "seq": seq} for seq, change in enumerate(changes, 2)]
+                [{"change": change, "first": 2, "last": 5, "seq": seq} for seq, change in enumerate(changes, 2)]
         assert lines_of_watch(hub, 1)[0] == \
-            '{"change":{"cmd":"create","doc":{"a":"\u00e4","b":1},"name":"d","schema":true},"seq":2}'.encode()
+            ('{"change":{"cmd":"create","doc":{"a":"\u00e4","b":1},"name":"d","schema":true},'
+             '"first":2,"last":5,"seq":2}').encode()
 
         async def watched():
             async with AsyncStore.connect(hub.path) as other:
                 return [change async for change in other.watch(1, follow=False)]
-        assert asyncio.run(watched()) == [Change(seq, change) for seq, change in enumerate(changes, 2)]
+        assert asyncio.run(watched()) == [Change(seq, change, 2, 5) for seq, change in enumerate(changes, 2)]
         assert [json.loads(line)["seq"] for line in place.run("watch", "socket", "--since", "3", "--past").stdout.split(
             b"\n")[:-1]] == [4, 5]
 

@@ -592,16 +592,33 @@ function detailsOf(change) {
   return details;
 }
 
-function showChange({ change, seq }) {
+// The list of a transaction's changes, which come one after another: the one that is on top, or a new one.
+function listOf({ first, last }) {
+  const top = $("feed").firstElementChild;
+  if (top?.dataset.first === String(first)) return top.querySelector("ol");
+  const list = element("ol", {});
+  const item = element("li", { className: "transaction" },
+    element("p", {}, "One transaction ", element("span", { className: "number" }, `#${first} to #${last}`)), list);
+  item.dataset.first = first;
+  $("feed").prepend(item);
+  return list;
+}
+
+function dropOldChanges() {
+  for (const item of [...$("feed").querySelectorAll("li.change")].slice(MOST_CHANGES)) item.remove();
+  for (const list of $("feed").querySelectorAll("ol:empty")) list.parentElement.remove();
+}
+
+function showChange({ change, seq, first, last }) {
   $("no-changes").hidden = true;
   const seen = new Date();
-  const item = element("li", { className: isQuestion(change) ? "quiet" : "" },
+  const item = element("li", { className: isQuestion(change) ? "change quiet" : "change" },
     element("time", { dateTime: seen.toISOString(), title: "when this page was told" }, seen.toLocaleTimeString("en-GB")),
     element("span", { className: "number" }, `#${seq}`),
     change.cmd === "delete" ? change.name : element("a", { href: `#/${change.name}` }, change.name), ` ${doneBy(change)}`,
     ...detailsOf(change).map((detail) => element("span", { className: "what" }, detail)));
-  $("feed").prepend(item);
-  while ($("feed").childElementCount > MOST_CHANGES) $("feed").lastElementChild.remove();
+  (first === undefined ? $("feed") : listOf({ first, last })).prepend(item);
+  dropOldChanges();
 }
 
 let waiting = null;
