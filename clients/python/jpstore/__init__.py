@@ -13,7 +13,7 @@ from typing import TYPE_CHECKING, Any
 
 from .adapt import Adapted, Schema
 from .client import Node, Pumped, Status, Store
-from .dump import LoadStopped, dump, grow, load
+from .dump import LoadStopped, dump, grow, grow_file, load
 from .errors import (
     AccessError, Broken, Conflict, Ended, Full, Invalid, JpstoreError, JpstoreWarning, Malformed, NoMemory, NotFound,
     Outdated, Refused, TimedOut, TooLarge, Unsendable,
@@ -37,7 +37,8 @@ __all__ = [
     "Gone", "Invalid", "JpstoreError", "JpstoreWarning", "Latest", "LoadStopped", "Malformed", "Moment", "NoMemory",
     "Node", "NotFound", "Outdated", "Pumped", "REFUSALS", "Refusal", "Refused", "Scaled", "Schema", "Status", "Store",
     "TimedOut", "TooLarge", "Unsendable", "Watch", "__version__", "check_file", "copy_file", "create", "delete", "dump",
-    "explain", "format_file", "grow", "load", "patch", "run_hub", "set_schema", "transaction", "upgrade_file",
+    "explain", "format_file", "grow", "grow_file", "load", "patch", "run_hub", "set_schema", "transaction",
+    "upgrade_file",
 ]
 
 

@@ -7,6 +7,7 @@ from typing import Any, Callable, Iterable, Iterator, List, Mapping, NamedTuple,
 from .client import Status, Store
 from .wire.dump_end import end_line, is_end_line, whole_dump
 from .errors import JpstoreError, Refused, Unsendable
+from .larger import Larger
 from .moment import moment_of
 from .progress import Progress
 from .wire.commands import Command, changes_in, is_changing, line_of, line_of_creation, line_of_schema, patch
@@ -14,7 +15,8 @@ from .wire.limits import MOST_LINE_BYTES, MOST_OPERATIONS
 from .wire.program import Path, copy_file
 from .wire.values import escaped
 
-__all__ = ["GROUP_LINES", "LoadStopped", "document_lines", "dump", "grow", "load", "open_store"]
+__all__ = ["GROUP_LINES", "LoadStopped", "document_lines", "dump", "grow", "grow_file", "load",
+           "open_store"]
 
 #: A group has at most this many lines, and ends with the one that makes it longer than this many bytes.
 GROUP_LINES, _GROUP_BYTES = 256, 1 << 22
@@ -217,6 +219,28 @@ def grow(file: Path, new: Path, sectors: int, program: Optional[Path] = None) ->
         os.unlink(part)
         raise
     sync_folder(new)
+    return status
+
+
+def grow_file(file: Path, sectors: int, program: Optional[Path] = None) -> Status:
+    """Makes the store in `file`, which nobody serves, one of this many sectors; returns its status.
+
+    It keeps its documents with their revisions, its count of changes, and its format. They are compared, as openings
+    read them, before the larger file takes the name. If it is stopped, the name leads to the smaller file or to the
+    larger one, each of which is whole.
+    """
+    with open_store(file, program) as old:
+        larger = Larger(os.fspath(file), sectors, None if program is None else os.fspath(program))
+        try:
+            larger.take()
+            with Progress("copy"):
+                larger.copy()
+            with open_store(larger.path, program) as grown:
+                _compare(old, grown)
+                status = grown.status()
+                larger.replace()
+        finally:
+            larger.remove()
     return status
 
 

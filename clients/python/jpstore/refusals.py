@@ -124,7 +124,7 @@ _ROWS = [
     Refusal(60, "full",
             "there is no room for the change, not even after a snapshot; or the requested snapshot is longer than a "
             "half",
-            "make a larger store by `python3 -m jpstore grow FILE NEW --sectors N`; a `delete` takes room too"),
+            "make it larger by `jpstore-cli grow STORE`, also while a hub serves it; a `delete` takes room too"),
     Refusal(61, "device",
             "reading, writing or syncing the file failed during this change, snapshot or step, perhaps as the file "
             "system is full; the next opening shows whether it is stored",
@@ -168,13 +168,13 @@ _ROWS = [
 #: The refusals by number.
 REFUSALS: Dict[int, Refusal] = {row.number: row for row in _ROWS}
 
-#: The refusals of a hub or a node that no store has: changes that are gone, a line after `watch`, and a line for which
-#: no majority of the log answered in time, whose change is not made and never will be.
-GONE, WATCHING, NO_MAJORITY = 80, 81, 82
+#: The refusals of a hub or a node that no store has: changes that are gone, a line after `watch`, a line for which no
+#: majority of the log answered in time, whose change is not made and never will be, and a store that did not grow.
+GONE, WATCHING, NO_MAJORITY, NOT_GROWN = 80, 81, 82, 83
 
 #: The name of each refusal, by its number.
 NAMES: Dict[int, str] = {**{row.number: row.name for row in _ROWS},
-                         GONE: "gone", WATCHING: "watching", NO_MAJORITY: "no-majority"}
+                         GONE: "gone", WATCHING: "watching", NO_MAJORITY: "no-majority", NOT_GROWN: "not-grown"}
 
 #: What the program says on standard error, without the number after it, and what it means.
 COMPLAINTS: Dict[str, str] = {

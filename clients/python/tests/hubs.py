@@ -65,13 +65,19 @@ class Hub:
 
     def program(self):
         """The process of the program that it serves by."""
+        return self.programs()[0]
+
+    def programs(self):
+        """The processes of its programs, of which there is one, unless the store grows."""
+        found = []
         for process in filter(str.isdigit, os.listdir("/proc")):
             with contextlib.suppress(OSError):
                 with open(f"/proc/{process}/stat", encoding="ascii", errors="replace") as opened:
                     # After the name, which is in brackets: the state and the parent.
                     if int(opened.read().rpartition(")")[2].split()[1]) == self.process.pid:
-                        return int(process)
-        raise AssertionError("the hub has no program")
+                        found.append(int(process))
+        assert found, "the hub has no program"
+        return found
 
     def ends(self, status):
         """Waits for its end, and returns what it wrote to standard error."""

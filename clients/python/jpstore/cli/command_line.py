@@ -53,8 +53,8 @@ exit status:
 # What STORE may be; most commands take either.
 _A_STORE = "a file, or the socket of a hub"
 _A_FILE = "the file of a store"
-_STORES = {"format": "the new file", "check": _A_FILE, "copy": _A_FILE, "grow": _A_FILE, "upgrade": _A_FILE,
-           "hub": _A_FILE, "watch": "the socket of a hub", "follow": "the socket of a hub"}
+_STORES = {"format": "the new file", "check": _A_FILE, "copy": _A_FILE, "upgrade": _A_FILE, "hub": _A_FILE,
+           "watch": "the socket of a hub", "follow": "the socket of a hub"}
 
 # A command of two words, whose FILE is no store.
 _ADAPT = "schema adapt"

@@ -4,13 +4,13 @@ import os
 import re
 from typing import Dict, List, Tuple
 
-from ..dump import grow
-from ..errors import accessing
+from ..dump import grow, grow_file
+from ..errors import JpstoreError, accessing
 from ..sizes import sectors_of_size
 from ..wire.program import check_file, copy_file, format_file, upgrade_file
 from ..wire.store_file import SECTOR
 from .display import shown_status
-from .opening import Row, Word, program_of
+from .opening import Row, Word, is_socket, opened, program_of
 from .printing import said
 
 __all__ = ["FILE_COMMANDS", "SIZE_WORDS"]
@@ -50,8 +50,18 @@ def _copy(words: argparse.Namespace) -> None:
 
 
 def _grow(words: argparse.Namespace) -> None:
-    status = grow(words.store, words.new, words.sectors or 2 * _sectors_in(words.store), program_of(words))
-    said(words, vars(status), f"{words.new} has the same documents\n{shown_status(status)}")
+    if words.new is not None and is_socket(words.store):
+        raise JpstoreError("the store of a hub grows in its place: leave NEW out")
+    if words.new is not None:
+        status = grow(words.store, words.new, words.sectors or 2 * _sectors_in(words.store), program_of(words))
+        said(words, vars(status), f"{words.new} has the same documents\n{shown_status(status)}")
+        return
+    if is_socket(words.store):
+        with opened(words) as store:
+            status = store.grow(words.sectors or 2 * store.status().sectors)
+    else:
+        status = grow_file(words.store, words.sectors or 2 * _sectors_in(words.store), program_of(words))
+    said(words, vars(status), f"{words.store} has grown\n{shown_status(status)}")
 
 
 def _upgrade(words: argparse.Namespace) -> None:
@@ -83,8 +93,11 @@ FILE_COMMANDS: Dict[str, Row] = {
     "check": (_check, "reads and judges all of a store, and shows its status", "check inventory", []),
     "copy": (_copy, "copies a store into a new file, with its revisions and counts", "copy inventory saved", [
         _NEW, *_sizes("that of STORE")]),
-    "grow": (_grow, "makes a larger store of the same documents, and compares them", "grow inventory larger --size 4M",
-             [_NEW, *_sizes("twice that of STORE")]),
+    "grow": (_grow, "makes a store larger: in its place, also while a hub serves it, or as another file",
+             "grow inventory.socket --size 32M", [
+                 ("new", {"metavar": "NEW", "nargs": "?", "help": "a new file for the larger store; STORE, a file that "
+                                                                  "nobody serves, stays as it is then"}),
+                 *_sizes("twice that of STORE")]),
     "upgrade": (_upgrade, "brings a store to format 3, or back to 2", "upgrade inventory", [
         ("--format", {"metavar": "V", "type": int, "choices": (2, 3), "default": 3,
                       "help": "the format to bring it to, 2 or 3 (3)"})]),

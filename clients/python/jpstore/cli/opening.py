@@ -10,7 +10,7 @@ from ..errors import accessing
 from ..progress import Progress
 from ..wire.texts import value_of_text
 
-__all__ = ["Do", "Row", "Word", "opened", "program_of", "value_in", "value_of_word"]
+__all__ = ["Do", "Row", "Word", "is_socket", "opened", "program_of", "value_in", "value_of_word"]
 
 #: What a sub-command does with its words; its result is the exit status, if that is not 0.
 Do = Callable[[argparse.Namespace], Optional[int]]
@@ -27,10 +27,15 @@ def program_of(words: argparse.Namespace) -> Optional[str]:
     return getattr(words, "program", None)
 
 
+def is_socket(path: str) -> bool:
+    """Whether it is the socket of a hub, and not a file."""
+    return os.path.exists(path) and stat.S_ISSOCK(os.stat(path).st_mode)
+
+
 def opened(words: argparse.Namespace, batch: int = 1) -> Store:
     """The store in a file, or that of the hub whose socket is named."""
     wait, timeout = getattr(words, "wait", 0.0), getattr(words, "timeout", None)
-    if os.path.exists(words.store) and stat.S_ISSOCK(os.stat(words.store).st_mode):
+    if is_socket(words.store):
         return Store.connect(words.store, wait=wait, timeout=timeout)
     with Progress("open"):
         return Store(words.store, program=program_of(words), wait=wait, timeout=timeout, batch=batch)

@@ -12,7 +12,7 @@ __all__ = ["fault_of_depth", "fault_of_form", "fault_of_name"]
 _VALUES = {
     "changes": f"a list of 1 to {MOST_CHANGES:,} changes", "cmd": "a text", "from": "a whole number from 0",
     "history": "a text", "if_rev": "a whole number from 0", "max": "a whole number from 1 to 1,000,000",
-    "name": "a text", "path": "a text",
+    "name": "a text", "path": "a text", "sectors": "a whole number from 0",
 }
 
 _DEEPEST = 64

@@ -10,21 +10,26 @@ import contextlib
 import os
 import signal
 import sys
-from asyncio.subprocess import Process
 from collections import deque
 from typing import (
-    IO, Any, AsyncIterator, Callable, Deque, Dict, List, NamedTuple, Optional, Sequence, Set, Tuple, Union,
+    IO, Any, AsyncIterator, Awaitable, Callable, Deque, Dict, List, NamedTuple, Optional, Sequence, Set, Tuple, TypeVar,
+    Union,
 )
 
+from ..errors import JpstoreError
+from ..larger import Unsettled, remove_leftovers
+from ..refusals import NOT_GROWN
 from ..wire.limits import MOST_GROUP
 from ..wire.line_splitter import lines_of
 from ..wire.program import find_program, serve_words
+from ..wire.replies import refusal
 from ..wire.spawn import ended_serving, opened_serving
 from ..wire.standard_streams import announce, complain
 from ..wire.stream import StreamEnded
 from .clients import Caller, Client, Connected
 from .export import export, send
-from .history import History, open_history
+from .growing import Growing
+from .history import open_history
 from .line_kinds import Kind, kind_of, own_command
 from .program import Served
 from .unix_socket import Listening, check_free
@@ -48,6 +53,8 @@ _OURS: Dict[str, Any] = {"cleanup_socket": False} if sys.version_info >= (3, 13)
 _FAREWELL = 5
 
 
+T = TypeVar("T")
+
 _Lines = List[Tuple[Client, bytes]]
 
 # What is called with the hub, once clients may connect.
@@ -62,14 +69,42 @@ class Round(NamedTuple):
     snapshots: _Lines
 
 
+class _Turn:
+    """What is done between two rounds, and who waits for that."""
+
+    def __init__(self, do: Callable[[], Awaitable[Any]], done: "asyncio.Future[Any]") -> None:
+        self._do, self._done = do, done
+
+    async def take(self) -> None:
+        """Does it; raises what ends the hub: the program's end, and what a disk didn't keep."""
+        try:
+            result = await self._do()
+        except EOFError:
+            self.refuse(ConnectionAbortedError())
+            raise
+        except Exception as error:
+            self.refuse(error)
+            if isinstance(error, Unsettled):
+                raise
+        else:
+            if not self._done.done():
+                self._done.set_result(result)
+
+    def refuse(self, error: Exception) -> None:
+        """Tells the one who waits that it isn't done."""
+        if not self._done.done():
+            self._done.set_exception(error)
+
+
 class Hub:
     """The clients of a program that serves."""
 
-    def __init__(self, served: Served) -> None:
-        self._served = served
+    def __init__(self, served: Served, file: str, program: str) -> None:
+        self._served, self._file, self._program = served, file, program
         self._clients: Dict[Client, None] = {}
         self._welcomes: "Set[asyncio.Future[None]]" = set()
-        self._exports: Deque["asyncio.Future[IO[bytes]]"] = deque()
+        self._turns: Deque[_Turn] = deque()
+        self._growth: Optional["asyncio.Future[bytes]"] = None
         self._woken = asyncio.Event()
         self._news = News()
         self._stopping = False
@@ -104,14 +139,53 @@ class Hub:
             if own["cmd"] == "watch":
                 await serve_watch(own, lines, client.writer, self._served.history, self._news)
                 return
-            await self._exported(client)
+            if own["cmd"] == "grow":
+                client.writer.write(await self._grown(own["sectors"]))
+            else:
+                await self._exported(client)
 
     async def _exported(self, client: Connected) -> None:
         """Hands the client all documents of one moment, as fast as it takes them."""
-        wanted: "asyncio.Future[IO[bytes]]" = asyncio.get_running_loop().create_future()
-        self._exports.append(wanted)
+        try:
+            spool: IO[bytes] = await self._turn(self._export)
+        except OSError as error:
+            complain(f"an export is broken off: {error}")
+            # So that the connection is closed.
+            raise ConnectionAbortedError() from None
+        await send(spool, client.writer)
+
+    async def _grown(self, sectors: int) -> bytes:
+        """The reply to a line that asks for a larger file."""
+        if self._growth is not None:
+            return refusal(NOT_GROWN, why="it grows already")
+        self._growth = asyncio.ensure_future(self._grow(sectors))
+        try:
+            return await asyncio.shield(self._growth)
+        except (OSError, JpstoreError) as error:
+            return refusal(NOT_GROWN, why=str(error))
+        finally:
+            if self._growth is not None and self._growth.done():
+                self._growth = None
+
+    async def _grow(self, sectors: int) -> bytes:
+        growing = Growing(self._served, self._file, self._program, sectors)
+        grown = await growing.run(self._turn)
+        self.attend_program()
+        announce(f"{self._file} has {sectors:,} sectors now")
+        return grown
+
+    def attend_program(self) -> None:
+        """Ends the hub if the program that serves the store ends, which may be while no reply is awaited."""
+        program = self._served.program
+        ending = asyncio.ensure_future(program.wait())
+        ending.add_done_callback(lambda _: self.stop() if self._served.program is program else None)
+
+    async def _turn(self, do: Callable[[], Awaitable[T]]) -> T:
+        """Does something between two rounds; `ConnectionAbortedError` if the hub ends before."""
+        done: "asyncio.Future[T]" = asyncio.get_running_loop().create_future()
+        self._turns.append(_Turn(do, done))
         self._woken.set()
-        await send(await wanted, client.writer)
+        return await done
 
     async def ask(self, lines: Sequence[bytes], timeout: float) -> List[bytes]:
         """The replies to lines of a caller in this process; `StreamEnded` if the hub ends or is silent before."""
@@ -137,16 +211,19 @@ class Hub:
             some = self._take_round((Kind.CHANGE, Kind.QUESTION, Kind.SNAPSHOT))
             if any(some):
                 await self._do(some)
-            elif not self._exports:
+            elif not self._turns:
                 await self._woken.wait()
-            if self._exports:
-                await self._export(self._exports.popleft())
+            if self._turns:
+                await self._turns.popleft().take()
 
     async def close(self) -> None:
         """Closes all connections, which the clients have some seconds to take their replies from."""
         self._stopping = True
-        for wanted in self._exports:
-            _refuse(wanted)
+        for turn in self._turns:
+            turn.refuse(ConnectionAbortedError())
+        if self._growth is not None:
+            self._growth.cancel()
+            await asyncio.wait([self._growth])
         closings = [asyncio.ensure_future(client.close()) for client in self._clients]
         if closings:
             await asyncio.wait(closings, timeout=_FAREWELL)
@@ -179,25 +256,10 @@ class Hub:
         if self._served.broken:
             raise EOFError
 
-    async def _export(self, wanted: "asyncio.Future[IO[bytes]]") -> None:
+    async def _export(self) -> IO[bytes]:
         async def between() -> None:
             await self._do(self._take_round((Kind.QUESTION,)))
-        try:
-            spool = await export(self._served, between)
-        except OSError as error:
-            complain(f"an export is broken off: {error}")
-            _refuse(wanted)
-            return
-        if wanted.done():
-            spool.close()
-        else:
-            wanted.set_result(spool)
-
-
-def _refuse(wanted: "asyncio.Future[IO[bytes]]") -> None:
-    """Lets the connection that waits for an export be closed."""
-    if not wanted.done():
-        wanted.set_exception(ConnectionAbortedError())
+        return await export(self._served, between)
 
 
 def _lines_in(some: _Lines) -> List[bytes]:
@@ -221,13 +283,9 @@ async def _answer(some: _Lines, replies: AsyncIterator[bytes]) -> None:
             client.answer(together)
 
 
-async def _serve(program: Process, served: Served, path: str, ready: Ready) -> None:
+async def _serve(hub: Hub, path: str, ready: Ready) -> None:
     """Serves until the hub is stopped, the program ends, or the device fails."""
-    hub = Hub(served)
-    await served.begin()
-    # The program may end while no reply is awaited.
-    ending = asyncio.ensure_future(program.wait())
-    ending.add_done_callback(lambda _: hub.stop())
+    hub.attend_program()
     listening = Listening(path)
     try:
         server = await asyncio.start_unix_server(hub.welcome, sock=listening.socket, backlog=_BACKLOG, **_OURS)
@@ -245,15 +303,19 @@ async def _serve(program: Process, served: Served, path: str, ready: Ready) -> N
 async def serve_hub(file: str, path: str, program: Optional[str] = None, *, pump: int = 0, wait: float = 0,
                     ready: Ready) -> None:
     """Serves the store in `file` at the socket `path`. Calls `ready` with the hub, once clients may connect."""
-    words = serve_words(find_program(program), file, MOST_GROUP)
+    found = find_program(program)
+    words = serve_words(found, file, MOST_GROUP)
     # Before the store is opened, which may take a while.
     check_free(path)
     process = await opened_serving(words, wait)
+    served: Optional[Served] = None
     try:
-        history: History = open_history(file)
-        await _serve(process, Served(process, history, MOST_GROUP, pump), path, ready)
+        remove_leftovers(file)
+        served = Served(process, open_history(file), MOST_GROUP, pump)
+        await served.begin()
+        await _serve(Hub(served, file, found), path, ready)
     finally:
-        ended = await ended_serving(words, process)
+        ended = await ended_serving(words, served.program if served else process)
     if ended.status != 0:
         raise ended
 

@@ -6,10 +6,11 @@ from typing import Any, AsyncIterator, Dict, Optional, Set
 from ..errors import JpstoreError
 from ..hub.export import send
 from ..hub.watch import serve_watch
+from ..refusals import NOT_GROWN
 from ..wire.commands import STATUS, changes_in
 from ..wire.forms import Kind
 from ..wire.line_splitter import lines_of
-from ..wire.replies import REFUSED, line_of_reply
+from ..wire.replies import REFUSED, line_of_reply, refusal
 from .appending import Lost
 from .line_reader import Asked, read_line
 from .node import Node
@@ -19,6 +20,9 @@ __all__ = ["Clients"]
 
 # How many lines of a connection may wait for their replies.
 _MOST_AHEAD = 256
+
+# All nodes have files of one size.
+_NO_GROWTH = "a node does not grow while it serves"
 
 
 class Clients:
@@ -113,6 +117,9 @@ class _Client:
             return True
         if command["cmd"] == "copy":
             await self._copied()
+            return True
+        if command["cmd"] == "grow":
+            self._writer.write(refusal(NOT_GROWN, why=_NO_GROWTH))
             return True
         # All that a majority has now is in the export.
         status = await self._node.asking.question(STATUS, self._linear)

@@ -76,6 +76,7 @@ FORMS: Dict[str, Form] = {
     "snapshot": Form(Kind.SNAPSHOT, _WORD),
     "pump": Form(Kind.SNAPSHOT, {**_WORD, "max": _is_step}),
     "export": Form(Kind.OWN, _WORD),
+    "grow": Form(Kind.OWN, {**_WORD, "sectors": _is_count}),
     "watch": Form(Kind.OWN, {**_WORD, "from": _is_count, "history": _is_text}, frozenset(["from", "history"])),
     "node": Form(Kind.NODE, _WORD),
     "copy": Form(Kind.NODE, _WORD),

@@ -13,7 +13,7 @@ from .texts import value_of_text
 
 __all__ = [
     "Outcome", "Request", "accepted", "change", "checked", "create", "delete", "doc_and_schema", "explainable", "get",
-    "in_pieces", "lines_of_group", "names", "outcomes_of", "patch", "pump", "put", "query", "query_all", "rev",
+    "grow", "in_pieces", "lines_of_group", "names", "outcomes_of", "patch", "pump", "put", "query", "query_all", "rev",
     "rev_and_doc", "rev_and_value", "schema", "set_schema", "snapshot", "status", "taken", "texts", "transaction",
 ]
 
@@ -24,6 +24,9 @@ Reply = Dict[str, Any]
 
 # The refusals of a text: it is not JSON, or has a number that is not a 64-bit whole number.
 _OF_TEXT = (11, 12)
+
+# What a server answers that knows no such command.
+_NO_COMMAND = 14
 
 # The most documents that are asked together: a reply may have 16 MiB.
 _TOGETHER = 32
@@ -193,6 +196,20 @@ def in_pieces(names_asked: Sequence[str]) -> Iterator[Sequence[str]]:
 def status() -> Request[Status]:
     """The status of the store."""
     return _request([{"cmd": "status"}], lambda replies: Status.of(replies[0]))
+
+
+def grow(sectors: int) -> Request[Status]:
+    """The status of a hub's store after it has gone on in a larger file."""
+    asked = {"cmd": "grow", "sectors": sectors}
+
+    def read(replies: List[bytes]) -> Status:
+        reply: Reply = json.loads(replies[0])
+        if reply["ok"]:
+            return Status.of(reply)
+        if reply["number"] == _NO_COMMAND:
+            raise JpstoreError("what serves here can't grow the store: end it, and name the file instead")
+        raise JpstoreError(f"the store has not grown: {reply['why']}") if "why" in reply else refusal_of(reply, asked)
+    return Request([asked], read)
 
 
 def snapshot() -> Request[int]:

@@ -67,7 +67,7 @@ def test_no_room_for_a_new_file(place):
 def test_a_full_store(place):
     place.format(16)
     shown = told(place, "new", "store", "d", '"' + "x" * 3600 + '"', status=8)
-    assert "60 full" in shown and "jpstore grow FILE NEW" in shown
+    assert "60 full" in shown and "`jpstore-cli grow STORE`" in shown
 
 
 def test_a_text_without_quotes(place):
