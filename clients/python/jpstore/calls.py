@@ -117,6 +117,20 @@ async def _once(steps: Steps, work: Once) -> int:
     return await steps.ask(work.request()) if made is None else made
 
 
+async def noted(steps: Steps, work: Once) -> Optional[int]:
+    """As `Store.noted`."""
+    for left in range(ATTEMPTS - 1, -1, -1):
+        try:
+            return work.take(await steps.ask(work.asked))
+        except NotFound:
+            return None
+        except Outdated:
+            # Another note was made meanwhile.
+            if not left:
+                raise
+    raise JpstoreError(NO_ATTEMPT)
+
+
 async def query_all(steps: Steps, path: str, prefix: str) -> Dict[str, List[Node]]:
     """As `Store.query_all`."""
     found: Dict[str, List[Node]] = {}

@@ -14,7 +14,7 @@ from .follow import Values, followed
 from .moment import Moment, moment_of
 from .once import KEPT, NOTES, Once
 from .results import Node, Pumped, Status
-from .watch import UNWATCHED, Watch
+from .watch import UNSERVED, UNWATCHED, Watch
 from .wire import requests
 from .wire.commands import Command
 from .wire.connection import Connection
@@ -189,6 +189,10 @@ class Store:
         """
         return finished(calls.once(_Steps(self), Once(key, list(changes), notes, keep), attempts, pause))
 
+    def noted(self, key: str, notes: str = NOTES) -> Optional[int]:
+        """The number that `once` returned for this key, if it is noted; None if its changes are not made."""
+        return finished(calls.noted(_Steps(self), Once(key, [], notes, KEPT)))
+
     @overload
     def group(self, changes: Iterable[Command], *, check: Literal[True] = True) -> List[int]: ...
 
@@ -248,6 +252,12 @@ class Store:
     def snapshot(self) -> int:
         """Writes the store anew without its history, which makes room; returns how many bytes are used then."""
         return self._do(requests.snapshot())
+
+    def grow(self, sectors: int) -> Status:
+        """Lets a hub go on in a larger file, of this many sectors, without refusing a change; returns its status."""
+        if self.hub is None:
+            raise JpstoreError(UNSERVED)
+        return self._do(requests.grow(sectors))
 
     def pump(self, most: int) -> Pumped:
         """A step of a snapshot that is copied between changes, of 1 to 1,000,000 sectors at most."""

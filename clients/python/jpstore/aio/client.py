@@ -11,7 +11,7 @@ from ..calls import ATTEMPTS
 from ..errors import Invalid, JpstoreError
 from ..once import KEPT, NOTES, Once
 from ..results import Node, Pumped, Status
-from ..watch import UNWATCHED
+from ..watch import UNSERVED, UNWATCHED
 from ..wire import requests
 from ..wire.commands import Command
 from ..wire.program import Path, find_program, serve_words
@@ -133,6 +133,10 @@ class AsyncStore:
         """As `Store.once`."""
         return await calls.once(_Steps(self), Once(key, list(changes), notes, keep), attempts, pause)
 
+    async def noted(self, key: str, notes: str = NOTES) -> Optional[int]:
+        """As `Store.noted`."""
+        return await calls.noted(_Steps(self), Once(key, [], notes, KEPT))
+
     @overload
     async def group(self, changes: Iterable[Command], *, check: Literal[True] = True) -> List[int]: ...
 
@@ -179,6 +183,12 @@ class AsyncStore:
     async def snapshot(self) -> int:
         """As `Store.snapshot`."""
         return await self._do(requests.snapshot())
+
+    async def grow(self, sectors: int) -> Status:
+        """As `Store.grow`."""
+        if self.hub is None:
+            raise JpstoreError(UNSERVED)
+        return await self._do(requests.grow(sectors))
 
     async def pump(self, most: int) -> Pumped:
         """As `Store.pump`."""

@@ -6,6 +6,7 @@ import contextlib
 import os
 import re
 import signal
+import socket
 import subprocess
 import sys
 
@@ -14,33 +15,38 @@ from pages import blocks_of, clone, how_to_run, page
 from support import PATIENCE
 
 _PAGE = page("use", "MODELLING.md")
+_SHOWN = "127.0.0.1:8080"
 
 
 def _definitions(text):
-    """What a Python block defines and later ones use: all of it before its first `with`."""
-    return re.split(r"^with ", text, maxsplit=1, flags=re.M)[0]
+    """What a Python block defines and later ones use: all of it before its first `with`, `print` or `for`."""
+    return re.split(r"^(?:with |print\(|for )", text, maxsplit=1, flags=re.M)[0]
 
 
 @pytest.mark.time_limit(5 * PATIENCE)
 def test_the_blocks_of_the_page_run(place):
-    for library in ("jsonschema", "jsonpatch"):
+    for library in ("aiohttp", "jsonschema", "jsonpatch", "requests"):
         pytest.importorskip(library)
     try:
         run_blocks(place)
     finally:
-        end_hub(place)
+        end_servers(place)
 
 
-def end_hub(place):
-    """Ends the hub that a block has started, if no later one has ended it."""
-    with contextlib.suppress(OSError, ValueError), open(place.path("hub.pid"), encoding="ascii") as opened:
-        os.kill(int(opened.read()), signal.SIGKILL)
+def end_servers(place):
+    """Ends what a block has started, if no later one has ended it."""
+    for name in ("hub.pid", "http.pid"):
+        with contextlib.suppress(OSError, ValueError), open(place.path(name), encoding="ascii") as opened:
+            os.kill(int(opened.read()), signal.SIGKILL)
 
 
 def run_blocks(place):
     """Runs each block of the page, and holds what it writes against the one after it."""
-    environment, before, said = clone(place), "", None
-    for kind, text in blocks_of(_PAGE):
+    environment, before, said = {**clone(place), "NO_PROXY": "*", "no_proxy": "*"}, "", None
+    with socket.socket() as free:
+        free.bind(("127.0.0.1", 0))
+        host = "127.0.0.1:%d" % free.getsockname()[1]
+    for kind, text in blocks_of(_PAGE.replace("http shop >", f"http shop --listen {host} >").replace(_SHOWN, host)):
         if not kind:
             assert said == text
             continue

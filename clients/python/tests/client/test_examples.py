@@ -1,0 +1,111 @@
+"""The programs of clients/python/examples do what they say, over a hub that is killed in the midst."""
+import contextlib
+import http.client
+import json
+import os
+import re
+import signal
+import socket
+import subprocess
+import sys
+import time
+
+import pytest
+from hubs import Hub
+from support import PACKAGE, PATIENCE, until
+
+
+def words(name, *more):
+    return [sys.executable, os.path.join(PACKAGE, "examples", name + ".py"), *map(str, more)]
+
+
+def said(place, name, *more):
+    ended = subprocess.run(words(name, *more), env=place.environment(), stdout=subprocess.PIPE, stderr=subprocess.PIPE,
+                           timeout=PATIENCE, check=False)
+    assert (ended.returncode, ended.stderr) == (0, b""), ended
+    return ended.stdout.decode()
+
+
+def test_the_configuration(place):
+    pytest.importorskip("jsonschema")
+    pytest.importorskip("jsonpatch")
+    place.format()
+    with Hub(place) as hub:
+        assert said(place, "configuration", hub.path) == (
+            "the service saw ['info', 'debug', 'warn']\n"
+            "on debug: ['service-03']\n"
+            "refused: at `/sampling_percent`: 101 is greater than the maximum of 100 "
+            "(schema `/properties/sampling_percent/maximum`)\n"
+            "{'log': 'debug', 'owner': 'payments', 'port': 8003, 'sampling_percent': 25}\n")
+
+
+@pytest.mark.time_limit(4 * PATIENCE)
+def test_the_inventory_over_kills_of_the_hub(place):
+    place.format(32768)
+    with Hub(place) as hub:
+        said(place, "inventory", hub.path, "seed")
+        writers = [subprocess.Popen(words("inventory", hub.path, "sell", name, 150), env=place.environment(),
+                                    stdout=subprocess.PIPE, stderr=subprocess.PIPE) for name in ("a", "b")]
+        time.sleep(0.5)
+    # The block above has killed the hub; so does each of these but the last.
+    for _ in range(2):
+        with Hub(place):
+            time.sleep(0.7)
+    with Hub(place) as hub:
+        sold = []
+        for writer in writers:
+            output, errors = writer.communicate(timeout=2 * PATIENCE)
+            assert (writer.returncode, errors) == (0, b"")
+            sold.append(int(re.fullmatch(rb"sold (\d+)\n", output).group(1)))
+        # The same orders again: each is noted, and none is made twice.
+        again = int(said(place, "inventory", hub.path, "sell", "a", 50).split()[1])
+        gone = said(place, "inventory", hub.path, "count")
+    assert 0 < again <= sold[0]
+    assert re.fullmatch(rf"gone {sum(sold)} low \d+\n", gone), (sold, gone)
+
+
+@contextlib.contextmanager
+def back_end(place, hub):
+    with socket.socket() as free:
+        free.bind(("127.0.0.1", 0))
+        port = free.getsockname()[1]
+    with subprocess.Popen(words("orders", hub.path, port), env=place.environment(), stdout=subprocess.DEVNULL,
+                          stderr=subprocess.DEVNULL) as process:
+        try:
+            yield port
+        finally:
+            process.send_signal(signal.SIGTERM)
+
+
+def ask(port, method, path, body=None, key=None):
+    connection = http.client.HTTPConnection("127.0.0.1", port, timeout=PATIENCE)
+    with contextlib.closing(connection):
+        connection.request(method, path, body, {"Idempotency-Key": key} if key else {})
+        answer = connection.getresponse()
+        return answer.status, json.loads(answer.read(), parse_float=str)
+
+
+def answers(port):
+    with contextlib.suppress(OSError):
+        return ask(port, "GET", "/orders/none")[0] == 404
+
+
+def test_the_back_end_for_orders(place):
+    for library in ("aiohttp", "jsonschema", "jsonpatch"):
+        pytest.importorskip(library)
+    place.format()
+    with Hub(place) as hub, back_end(place, hub) as port:
+        until(lambda: answers(port), "the back end")
+        order = '{"lines": [{"sku": "a", "count": 3, "price": 19.99}, {"sku": "b", "count": 1, "price": 5}]}'
+        for _ in range(2):
+            assert ask(port, "POST", "/orders", order, "k1") == (201, {"key": "k1", "total": "64.97"})
+        with hub.connect() as store:
+            hour, = store.names("orders-")
+            assert list(store.get(hour)) == ["k1"] and store.get(hour, "/k1/total_e2") == 6497
+        status, found = ask(port, "GET", f"/orders/{hour.partition('-')[2]}/k1")
+        assert (status, found["total"], found["lines"][0]["price"]) == (200, "64.97", "19.99")
+        status, refused = ask(port, "POST", "/orders", order.replace("19.99", "19.995"), "k2")
+        assert status == 400 and "/lines/0/price: 19.995 has more than 2 places" in refused["detail"]
+        status, refused = ask(port, "POST", "/orders", order.replace('"count": 3', '"count": 0'), "k2")
+        assert status == 422 and "0 is less than the minimum of 1" in refused["detail"]
+        assert ask(port, "POST", "/orders", order)[0] == 400
