@@ -16,6 +16,8 @@ import subprocess
 import sys
 import tempfile
 
+from test_clients import python_with_tools
+
 ROOT = pathlib.Path(__file__).resolve().parents[2]
 README = ROOT / "README.md"
 FORMAT = ROOT / "docs" / "inside" / "FORMAT.md"
@@ -23,11 +25,10 @@ CREATE = '{"cmd":"create","doc":{"a":1},"name":"d","schema":true}\n'
 SECTOR = 512
 
 
-def session(text):
-    """The session that the page has, without the line that finds the program in a clone, and what it prints."""
-    found = re.search(r"^```sh\n(?P<words>.*?)^```$.*?^```\n(?P<output>.*?)^```$", text, re.M | re.S)
-    words = "".join(line for line in found["words"].splitlines(True) if not line.startswith("PATH="))
-    return words, found["output"]
+def sessions(text):
+    """Each block of the page's session, without the line that finds the programs in a clone, and what it prints."""
+    for words, output in re.findall(r"^```sh\n(.*?)^```$.*?^```\n(.*?)^```$", text, re.M | re.S):
+        yield "".join(line for line in words.splitlines(True) if not line.startswith("export PATH=")), output
 
 
 class Place:
@@ -39,21 +40,25 @@ class Place:
         self.folder.mkdir()
         programs.mkdir()
         (programs / "jpstore").symlink_to(os.path.abspath(program))
-        self.environment = {**os.environ, "LC_ALL": "C", "PATH": f"{programs}{os.pathsep}{os.environ['PATH']}"}
+        path = os.pathsep.join([str(programs), os.path.dirname(python_with_tools() or sys.executable), os.environ["PATH"]])
+        self.environment = {**os.environ, "LC_ALL": "C", "PATH": path, "PYTHONPATH": str(ROOT / "clients" / "python")}
 
-    def run(self, words, given=""):
-        return subprocess.run(["sh", "-e", "-c", words], input=given, cwd=self.folder, env=self.environment, capture_output=True,
-                              text=True, timeout=300, check=False)
+    def run(self, words, given="", errors=subprocess.PIPE):
+        return subprocess.run(["sh", "-e", "-c", words], input=given, cwd=self.folder, env=self.environment, stdout=subprocess.PIPE,
+                              stderr=errors, text=True, timeout=300, check=False)
 
     def store(self):
         return self.folder / "store"
 
 
 def the_session_of_readme_prints_what_the_page_shows(place):
-    words, output = session(README.read_text(encoding="utf-8"))
-    ended = place.run(words)
-    assert (ended.returncode, ended.stdout, ended.stderr) == (0, output, ""), ended
-    assert os.listdir(place.folder) == ["demo"]
+    blocks = list(sessions(README.read_text(encoding="utf-8")))
+    assert len(blocks) == 2
+    for words, output in blocks:
+        # As on a terminal, where both are shown.
+        ended = place.run(words, errors=subprocess.STDOUT)
+        assert (ended.returncode, ended.stdout) == (0, output), ended
+    assert sorted(os.listdir(place.folder)) == ["counts.json", "demo", "demo.changes"]
 
 
 def the_commands_by_which_readme_builds_have_the_options_that_it_gives(place):
