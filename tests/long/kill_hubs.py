@@ -7,8 +7,8 @@ The parts, all of them if none is named, `kills` and `once` with N kills in each
 
   kills   8 clients write through a hub that is started again and again. Each time it is killed by signal 9, or the program
           under it is, also while it starts; now and then it is ended by SIGTERM. The clients connect again by themselves. Two
-          of them are processes that are killed too, and go on after what they had noted.
-          One watcher lives through all of it, another is a process that is killed too and goes on after what it had
+          of them are processes that are killed too, and go on after what they had noted. Meanwhile the store grows again and
+          again. One watcher lives through all of it, another is a process that is killed too and goes on after what it had
           written. In the end each acknowledged change is stored under its number, and each watcher has each change once, those
           of a transaction one after another and none of them alone.
   once    8 clients count up by `once` while hubs and programs are killed as in `kills`: each a document of its own, and one of
@@ -370,7 +370,10 @@ def one_life(place):
         time.sleep(random.uniform(0, LIFE))
     try:
         if how == "program":
-            os.kill(program_of(hub), signal.SIGKILL)
+            # While the store grows there are several.
+            for program in programs_of(hub):
+                with contextlib.suppress(ProcessLookupError):
+                    os.kill(program, signal.SIGKILL)
         else:
             hub.send_signal(signal.SIGTERM if how == "term" else signal.SIGKILL)
     except AssertionError:
@@ -381,10 +384,10 @@ def one_life(place):
     return how
 
 
-def program_of(hub):
+def programs_of(hub):
     holder = object.__new__(Hub)
     holder.process = hub
-    return holder.program()
+    return holder.programs()
 
 
 def kills(place, rounds, number):
@@ -397,6 +400,8 @@ def kills(place, rounds, number):
     reading = threading.Thread(target=lambda: told.extend(living), daemon=True)
     reading.start()
     clients = [Client(path, index, stop) for index in range(CLIENT_COUNT)]
+    growths = []
+    threading.Thread(target=grow_again, args=(path, stop, growths), daemon=True).start()
     time.sleep(LIFE)
     first.kill()
     first.wait()
@@ -435,8 +440,17 @@ def kills(place, rounds, number):
     print(f"{rounds} kills ({ends.count('hub')} of the hub, {ends.count('start')} of the hub while it started, "
           f"{ends.count('program')} of its program), and {ends.count('term')} ends by SIGTERM; {watchers} kills of a watcher, "
           f"{sum(each.kills for each in processes)} of clients")
-    print(f"{seq} changes, {acknowledged} acknowledged, {lost} replies lost: each acknowledged change is stored under its "
+    print(f"{seq} changes, {acknowledged} acknowledged, {lost} replies lost, {len(growths)} growths answered: each acknowledged change is stored under its "
           "number, and both watchers were told each change once, in order")
+
+
+def grow_again(path, stop, growths):
+    """Lets the store grow again and again by a few sectors, and notes each growth that was answered."""
+    while not stop.is_set():
+        with contextlib.suppress(JpstoreError):
+            with Store.connect(path, wait=1) as store:
+                growths.append(store.grow(store.status().sectors + 2).sectors)
+        time.sleep(random.random() / 4)
 
 
 def logged(log):

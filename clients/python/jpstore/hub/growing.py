@@ -108,6 +108,7 @@ class Growing:
         await self._catch_up(self._served.history.last)
         status = await self._compare()
         inode = self._larger.inode
+        await self._served.announce(self._larger.path, status, inode)
         await _in_thread(self._larger.replace)
         old, self._program = self._served.program, self._program
         await self._served.go_on(self._program, status, inode)

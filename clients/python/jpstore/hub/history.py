@@ -115,6 +115,15 @@ class History:
         except OSError as error:
             self._without_file(error)
 
+    def announce(self, path: str, position: Position) -> None:
+        """Notes the position in a file that is about to take the place of the store's, and has the same changes."""
+        if self._file is None:
+            return
+        try:
+            self._file.append([], position._replace(digest=Trace(path).after([], position)))
+        except (OSError, JpstoreError) as error:
+            self._without_file(error)
+
     def go_on(self, position: Position) -> None:
         """Goes on in another file of the store, which has the same changes."""
         if self._file is None or self._trace is None:
@@ -172,19 +181,18 @@ def open_history(store: str) -> History:
     journal = Journal(store, _MOST_CHANGES)
     file, trace, found = HistoryFile(store), Trace(store), journal.committed
     saved = file.read()
-    if saved is not None and not _is_of_this_store(saved, journal, trace):
-        saved = None
-    history = _joined(saved, journal) or _of_frames(journal, journal.surely_changes())
+    noted = next((each for each in saved.positions if _is_of_this_store(each, journal, trace)), None) if saved else None
+    history = _joined(saved, noted, journal) or _of_frames(journal, journal.surely_changes())
     history.keep(file, trace, Position(found.half, found.inode, found.opens, found.seq, found.length))
     return history
 
 
-def _is_of_this_store(saved: Saved, journal: Journal, trace: Trace) -> bool:
+def _is_of_this_store(noted: Position, journal: Journal, trace: Trace) -> bool:
     """Whether the store has, at the noted place, all the bytes that it had when they were noted.
 
     Nothing less shows it: numbers of changes, lengths and single changes may be those of another store by chance.
     """
-    noted, found = saved.position, journal.committed
+    found = journal.committed
     if noted.inode != found.inode or noted.opens >= found.opens:
         return False
     if noted.half != found.half:
@@ -194,11 +202,10 @@ def _is_of_this_store(saved: Saved, journal: Journal, trace: Trace) -> bool:
     return noted.seq <= found.seq and noted.used <= found.length and noted.digest == trace.after([], noted)
 
 
-def _joined(saved: Optional[Saved], journal: Journal) -> Optional[History]:
+def _joined(saved: Optional[Saved], noted: Optional[Position], journal: Journal) -> Optional[History]:
     """The saved changes, and those that the store's file has after them; None if these are not known."""
-    if saved is None:
+    if saved is None or noted is None:
         return None
-    noted = saved.position
     history = History(saved.base, saved.lines)
     frames = journal.changes_after(history.last, noted.used)
     if frames is None or sum(frame.end - frame.begin for frame in frames) > _MOST_BYTES:

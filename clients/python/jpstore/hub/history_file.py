@@ -43,12 +43,15 @@ class Position(NamedTuple):
 
 
 class Saved(NamedTuple):
-    """What the file has: the lines of the changes after number `base`, and the position after the last of them."""
+    """What the file has: the lines of the changes after number `base`, and the position after the last of them.
+
+    While the store grew there are two positions: that of the smaller file, and that of the larger one.
+    """
 
     names: List[Name]
     base: int
     lines: List[bytes]
-    position: Position
+    positions: List[Position]
 
 
 class HistoryFile:
@@ -125,7 +128,7 @@ def _is_header(text: bytes) -> bool:
 
 def _saved(texts: Iterator[bytes]) -> Optional[Saved]:
     header: Dict[str, Any] = json.loads(next(texts, b"{}"))
-    position: Optional[Position] = None
+    positions: List[Position] = []
     lines: List[bytes] = []
     noted = 0
     for text in texts:
@@ -134,11 +137,13 @@ def _saved(texts: Iterator[bytes]) -> Optional[Saved]:
             lines.append(text)
         elif not found and text.startswith(b'{"digest":'):
             position, noted = Position(**json.loads(text)), len(lines)
+            positions = [each for each in positions[-1:] if each.seq == position.seq and each.inode != position.inode]
+            positions.append(position)
         else:
             break
-    if position is None or position.seq != header["base"] + noted:
+    if not positions or positions[-1].seq != header["base"] + noted:
         return None
-    return Saved([Name(*each) for each in header["names"]], header["base"], lines[:noted], position)
+    return Saved([Name(*each) for each in header["names"]], header["base"], lines[:noted], positions)
 
 
 def _open_own(path: str, how: int) -> int:

@@ -47,6 +47,11 @@ class Served:
         self.program = program
         self._input, self._output = program.stdin, program.stdout
 
+    async def announce(self, path: str, status: Dict[str, Any], inode: int) -> None:
+        """Notes, for a hub after a kill, that another file is about to take the place of the store's."""
+        position = _position_of(status, inode)
+        await asyncio.get_running_loop().run_in_executor(None, self.history.announce, path, position)
+
     async def go_on(self, program: Process, status: Dict[str, Any], inode: int) -> None:
         """Goes on with the program of another file, which has taken the place of the store's and has its changes."""
         self._take(program)
@@ -145,8 +150,7 @@ class Served:
         self._status = status
 
     def _position(self) -> Position:
-        status = self._status
-        return Position(status["half"], self.history.inode, status["opens"], status["seq"], status["used"])
+        return _position_of(self._status, self.history.inode)
 
     async def _reply(self) -> bytes:
         reply = await self._output.readline()
@@ -154,6 +158,10 @@ class Served:
             raise EOFError
         self.broken = self.broken or reply.startswith(_FAILED)
         return reply
+
+
+def _position_of(status: Dict[str, Any], inode: int) -> Position:
+    return Position(status["half"], inode, status["opens"], status["seq"], status["used"])
 
 
 def _most_room(line: bytes) -> int:

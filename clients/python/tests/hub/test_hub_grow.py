@@ -10,7 +10,9 @@ import time
 
 import pytest
 from hubs import Hub, Writers, check_moment, count_up
-from jpstore import JpstoreError, Watch, create, grow_file, patch, upgrade_file
+from jpstore import JpstoreError, Store, Watch, copy_file, create, grow_file, patch, upgrade_file
+from jpstore.hub.history import open_history
+from jpstore.hub.history_file import Position
 from support import PATIENCE, raised, until
 
 # How many kills are tried, and the most seconds before one. `JPSTORE_KILLS` tries more.
@@ -187,6 +189,33 @@ def test_no_kill_in_the_midst_loses_an_answered_change(place, of_hub):
         for name, count in acknowledged.items():
             assert count <= found[name] <= count + 1, f"{name} was acknowledged {count}, and has {found[name]}"
     assert grown > 256
+
+
+@pytest.mark.parametrize("renamed", [False, True])
+def test_a_kill_before_or_after_the_renaming_keeps_the_changes_of_watchers(place, renamed):
+    with place.made(512) as store:
+        store.group([create("d", {"n": 0}), put(1)])
+        store.snapshot()
+        open_history(place.file)
+        store.group([put(2), put(3)])
+    history = open_again(place)
+    larger = place.path("larger")
+    copy_file(place.file, larger, 1024, place.program)
+    with Store(larger, program=place.program) as grown:
+        status = grown.status()
+        position = Position(status.half, os.stat(larger).st_ino, status.opens, status.seq, status.used)
+        history.announce(larger, position)
+    if renamed:
+        os.rename(larger, place.file)
+    after = open_again(place)
+    assert (after.base, after.last, after.has(4, history.name)) == (history.base, 4, True)
+    assert [json.loads(line)["seq"] for line in after.after(2, 1 << 20)] == [3, 4]
+
+
+def open_again(place):
+    """What a hub knows that is started anew."""
+    with place.store(wait=PATIENCE):
+        return open_history(place.file)
 
 
 def test_a_file_grows_in_its_place(place):
