@@ -14,7 +14,7 @@ from .follow import Values, followed
 from .moment import Moment, moment_of
 from .once import KEPT, NOTES, Once
 from .results import Node, Pumped, Status
-from .watch import UNSERVED, UNWATCHED, Watch
+from .watch import UNWATCHED, Watch
 from .wire import requests
 from .wire.commands import Command
 from .wire.connection import Connection
@@ -255,9 +255,7 @@ class Store:
 
     def grow(self, sectors: int) -> Status:
         """Lets a hub go on in a larger file, of this many sectors, without refusing a change; returns its status."""
-        if self.hub is None:
-            raise JpstoreError(UNSERVED)
-        return self._do(requests.grow(sectors))
+        return self._do(requests.grow(sectors, self.hub))
 
     def pump(self, most: int) -> Pumped:
         """A step of a snapshot that is copied between changes, of 1 to 1,000,000 sectors at most."""

@@ -19,16 +19,13 @@ from .wire.forks import check_process, in_each_child
 from .wire.program import Path
 from .wire.session import PAUSE, may_come
 
-__all__ = ["Change", "Gone", "Progress", "UNSERVED", "UNWATCHED", "Watch", "Watcher"]
+__all__ = ["Change", "Gone", "Progress", "UNWATCHED", "Watch", "Watcher"]
 
 C = TypeVar("C")
 S = TypeVar("S", bound="Watch")
 
 #: What is said to those who would watch a store without a hub.
 UNWATCHED = "only the store of a hub can be watched: serve the file by a hub, and connect to its socket"
-
-#: What is said to those who would let a store grow without a hub.
-UNSERVED = "only the store of a hub grows while it is open: close it, and use `grow_file`"
 
 
 @dataclass(frozen=True)

@@ -11,7 +11,7 @@ from ..calls import ATTEMPTS
 from ..errors import Invalid, JpstoreError
 from ..once import KEPT, NOTES, Once
 from ..results import Node, Pumped, Status
-from ..watch import UNSERVED, UNWATCHED
+from ..watch import UNWATCHED
 from ..wire import requests
 from ..wire.commands import Command
 from ..wire.program import Path, find_program, serve_words
@@ -186,9 +186,7 @@ class AsyncStore:
 
     async def grow(self, sectors: int) -> Status:
         """As `Store.grow`."""
-        if self.hub is None:
-            raise JpstoreError(UNSERVED)
-        return await self._do(requests.grow(sectors))
+        return await self._do(requests.grow(sectors, self.hub))
 
     async def pump(self, most: int) -> Pumped:
         """As `Store.pump`."""

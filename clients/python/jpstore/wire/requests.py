@@ -198,8 +198,10 @@ def status() -> Request[Status]:
     return _request([{"cmd": "status"}], lambda replies: Status.of(replies[0]))
 
 
-def grow(sectors: int) -> Request[Status]:
+def grow(sectors: int, hub: Optional[str]) -> Request[Status]:
     """The status of a hub's store after it has gone on in a larger file."""
+    if hub is None:
+        raise JpstoreError("only the store of a hub grows while it is open: close it, and use `grow_file`")
     asked = {"cmd": "grow", "sectors": sectors}
 
     def read(replies: List[bytes]) -> Status:
