@@ -96,6 +96,7 @@ CHANGES = {
     "group_lines": lambda store, name: store.group_lines([line_of(patch(name, ONE_MORE))]),
 }
 QUESTIONS = {
+    "noted": (lambda store, name: store.noted(f"key-{name}"), lambda found, _: found is None),
     "get": (lambda store, name: store.get(name), lambda found, _: found == {"n": 0}),
     "get a value": (lambda store, name: store.get(name, "/n"), lambda found, _: found == 0),
     "rev": (lambda store, name: store.rev(name), lambda found, _: type(found) is int),
@@ -106,6 +107,7 @@ QUESTIONS = {
     "list": (lambda store, name: store.list(), lambda found, name: name in found and OF_CHILD in found),
     "status": (lambda store, name: store.status(), lambda found, _: found.documents > 1),
     "snapshot": (lambda store, name: store.snapshot(), lambda found, _: type(found) is int),
+    "grow": (lambda store, name: store.grow(8192), lambda found, _: found.sectors == 8192),
     "pump": (lambda store, name: store.pump(1), lambda found, _: found.written >= 0),
     "texts": (lambda store, name: store.texts(name), lambda found, _: found == (b'{"n":0}', b"true")),
     "export": (either(exported, exported_async), lambda found, name: found[name] == {"n": 0} and OF_CHILD in found),
@@ -235,7 +237,7 @@ class OverFile:
     """Stores with programs of their own."""
 
     #: Whether a child may use the store too, and the calls that wait for nobody.
-    shared, at_once = False, ("connect", "follow", "in_memory", "watch")
+    shared, at_once = False, ("connect", "follow", "grow", "in_memory", "watch")
 
     def __init__(self, cls, place, version):
         self._cls, self._place = cls, place
@@ -363,7 +365,7 @@ def judge(client, kind, name, found):
 def judge_repeated(client, kind, name, found):
     """Each of many calls that change nothing did what it does, or none can be made here."""
     errors = [each for each in found if isinstance(each, str)]
-    if len(errors) == len(found) and kind in ("connect", "follow", "in_memory", "watch"):
+    if len(errors) == len(found) and kind in ("connect", "follow", "grow", "in_memory", "watch"):
         assert len(set(errors)) == 1 and errors[0].startswith(("JpstoreError: ", "AccessError: ")), errors
         return
     for each in found:

@@ -225,7 +225,8 @@ def test_a_transaction_makes_all_changes(gateway):
         assert answer.headers["Cache-Control"] == "no-cache"
         for number, change in enumerate(changes, seq + 1):
             _, data, event = events.next()
-            assert (json.loads(data), event) == ({"change": change, "seq": number}, str(number))
+            told = {"change": change, "first": seq + 1, "last": seq + 5, "seq": number}
+            assert (json.loads(data), event) == (told, str(number))
     assert (gateway.get("/documents/t-a").json(), gateway.get("/documents/t-a").tag()) == ({"n": 2}, f'"{seq + 4}"')
     assert gateway.get("/schemas/t-a").json() == COUNTS
     is_problem(gateway.get("/documents/t-b"), 404, 21)

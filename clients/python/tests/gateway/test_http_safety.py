@@ -644,9 +644,9 @@ def test_counts_are_exact_over_kills_of_the_gateway(place):
 
 
 def _recipe(url):
-    """The `once` that docs/use/HTTP.md shows, for the gateway at this address, and without its long pauses."""
-    with open(os.path.join(PACKAGE, "..", "..", "docs", "use", "HTTP.md"), encoding="utf-8") as opened:
-        text = re.search(r"^```python\n(import time\n.*?)^one_less", opened.read(), re.M | re.S).group(1)
+    """The `once` that docs/use/MODELLING.md shows, for the gateway at this address, and without its long pauses."""
+    with open(os.path.join(PACKAGE, "..", "..", "docs", "use", "MODELLING.md"), encoding="utf-8") as opened:
+        text = re.search(r"^```python\n(import time\n.*?)^def take_order", opened.read(), re.M | re.S).group(1)
     known = {"print": lambda *_: None}
     exec(text.replace("http://127.0.0.1:8080", url), known)
     known["time"] = types.SimpleNamespace(sleep=lambda _: time.sleep(0.02), monotonic=time.monotonic)
@@ -665,7 +665,7 @@ def test_what_the_page_does_once_tries_again_only_if_that_may_help(place):
         cases = ((one_more, "none", (0, 45)), ({**one_more, "name": "x"}, "notes", (1, 21)))
         for change, notes, place_and_number in cases:
             with pytest.raises(ValueError) as refused:
-                once("key", [change], notes)
+                once("key", lambda: [change], notes)
             assert (refused.value.args[0]["change"], refused.value.args[0]["number"]) == place_and_number
 
         def losing(method, *words, **named):
@@ -679,7 +679,7 @@ def test_what_the_page_does_once_tries_again_only_if_that_may_help(place):
         once.__globals__["requests"] = types.SimpleNamespace(**{**vars(requests), "request": losing})
         keys = ["a", "b", "c", "d"]
         for key in keys:
-            once(key, [one_more], "notes")
+            once(key, lambda: [one_more], "notes")
         assert (sent, statuses, gateway.get("/documents/notes").json()) == ([200] * 4, [], keys)
 
 
@@ -725,7 +725,7 @@ def _counted_once(requests, once, url, name, number):
         read.raise_for_status()
         ops = [{"op": "replace", "path": "", "value": read.json() + 1}]
         change = {"cmd": "patch", "name": "all", "if_rev": int(read.headers["ETag"].strip('"')), "ops": ops}
-        once(f"{name}-{number}", [change], f"once-{name}")
+        once(f"{name}-{number}", lambda: [change], f"once-{name}")
     except requests.RequestException:
         return False
     except ValueError as refused:
