@@ -1,5 +1,8 @@
 /* A store of libjpstore as a Python object. The interpreter's lock is given up during each call of the library. With
- * Py_LIMITED_API one extension is for each Python from 3.10 on. */
+ * Py_LIMITED_API one extension is for each Python from 3.10 on.
+ *
+ * Each interpreter of a process has a module of its own, with its own types, and from Python 3.12 on may have a lock of its
+ * own. */
 #define PY_SSIZE_T_CLEAN
 #include <Python.h>
 
@@ -10,8 +13,24 @@
 #include <string.h>
 #include <unistd.h>
 
+/* What a module has. */
+struct state {
+    /* Raised as Fault(fault, refusal, system_error, replies). */
+    PyObject *fault_type;
+    PyObject *session_type;
+    /* json.loads, for values that aren't plain. */
+    PyObject *loads;
+};
+
+static struct state *state_in(PyObject *module)
+{
+    return PyModule_GetState(module);
+}
+
 typedef struct {
     PyObject_HEAD
+    /* The module that it was opened by. */
+    PyObject *module;
     jpstore *store;
     /* A call is under way, in this thread or in another: the replies are the store's until they are copied. */
     bool busy;
@@ -24,19 +43,13 @@ typedef struct {
     } line;
 } Session;
 
-/* Raised as Fault(fault, refusal, system_error, replies). */
-static PyObject *fault_type;
-
 static const jpstore_cause NO_CAUSE;
 
-/* json.loads, for values that aren't plain. */
-static PyObject *loads;
-
-static PyObject *raise_fault(int fault, jpstore_cause cause, PyObject *replies)
+static PyObject *raise_fault(PyObject *module, int fault, jpstore_cause cause, PyObject *replies)
 {
     PyObject *arguments = Py_BuildValue("(iiiO)", fault, cause.refusal, cause.system_error, replies ? replies : Py_None);
     if (arguments) {
-        PyErr_SetObject(fault_type, arguments);
+        PyErr_SetObject(state_in(module)->fault_type, arguments);
         Py_DECREF(arguments);
     }
     return NULL;
@@ -53,25 +66,35 @@ static jpstore *open_store(const char *path, unsigned long long batch, unsigned 
     return store;
 }
 
-/* Session(path, batch, pump, sectors): a store in the file at path, or with None one in memory of so many sectors. */
-static PyObject *session_new(PyTypeObject *type, PyObject *arguments, PyObject *names)
+/* open(path, batch, pump, sectors): a session of the store in the file at path, or with None of one in memory of so many sectors. */
+static PyObject *open_session(PyObject *module, PyObject *arguments, PyObject *names)
 {
     const char *path;
     unsigned long long batch = 1, pump = 0, sectors = 0;
     static char *words[] = {"path", "batch", "pump", "sectors", NULL};
     if (!PyArg_ParseTupleAndKeywords(arguments, names, "z|KKK", words, &path, &batch, &pump, &sectors))
         return NULL;
-    Session *session = (Session *)PyType_GenericAlloc(type, 0);
+    Session *session = (Session *)PyType_GenericAlloc((PyTypeObject *)state_in(module)->session_type, 0);
     if (!session)
         return NULL;
     int fault;
     jpstore_cause cause;
+    Py_INCREF(module);
+    session->module = module;
     session->owner = getpid();
     session->store = open_store(path, batch, pump, sectors, &fault, &cause);
     if (session->store)
         return (PyObject *)session;
     Py_DECREF(session);
-    return raise_fault(fault, cause, NULL);
+    return raise_fault(module, fault, cause, NULL);
+}
+
+/* A session is made by open alone. */
+static PyObject *session_new(PyTypeObject *type, PyObject *arguments, PyObject *names)
+{
+    (void)type, (void)arguments, (void)names;
+    PyErr_SetString(PyExc_TypeError, "a session is made by open");
+    return NULL;
 }
 
 static void free_store(Session *session)
@@ -90,6 +113,7 @@ static void session_dealloc(Session *session)
     PyTypeObject *type = Py_TYPE(session);
     free_store(session);
     free(session->line.bytes);
+    Py_XDECREF(session->module);
     PyObject_Free(session);
     /* An object of a type that was made at run time holds it. */
     Py_DECREF(type);
@@ -99,7 +123,7 @@ static void session_dealloc(Session *session)
 static bool begin(Session *session)
 {
     if (!session->store || session->busy) {
-        raise_fault(session->busy ? JPSTORE_BUSY : JPSTORE_ENDED, NO_CAUSE, NULL);
+        raise_fault(session->module, session->busy ? JPSTORE_BUSY : JPSTORE_ENDED, NO_CAUSE, NULL);
         return false;
     }
     session->busy = true;
@@ -146,7 +170,7 @@ static PyObject *told(Session *session, int fault, struct replies replies)
     session->busy = false;
     if (!lines || fault == JPSTORE_OK)
         return lines;
-    raise_fault(fault, NO_CAUSE, lines);
+    raise_fault(session->module, fault, NO_CAUSE, lines);
     Py_DECREF(lines);
     return NULL;
 }
@@ -178,7 +202,7 @@ static PyObject *session_free(Session *session, PyObject *nothing)
 {
     (void)nothing;
     if (session->busy && session->owner == getpid())
-        return raise_fault(JPSTORE_BUSY, NO_CAUSE, NULL);
+        return raise_fault(session->module, JPSTORE_BUSY, NO_CAUSE, NULL);
     free_store(session);
     Py_RETURN_NONE;
 }
@@ -208,7 +232,7 @@ static PyObject *short_number(const char *text, size_t length)
 }
 
 /* The value of a JSON text: short numbers and plain texts at once, all else by json.loads. */
-static PyObject *value_of(const char *text, size_t length)
+static PyObject *value_of(Session *session, const char *text, size_t length)
 {
     PyObject *number = short_number(text, length);
     if (number || PyErr_Occurred())
@@ -216,18 +240,18 @@ static PyObject *value_of(const char *text, size_t length)
     if (length >= 2 && text[0] == '"' && is_plain(text + 1, (Py_ssize_t)length - 2))
         return PyUnicode_DecodeUTF8(text + 1, (Py_ssize_t)length - 2, NULL);
     PyObject *bytes = PyUnicode_DecodeUTF8(text, (Py_ssize_t)length, NULL);
-    PyObject *value = bytes ? PyObject_CallFunctionObjArgs(loads, bytes, NULL) : NULL;
+    PyObject *value = bytes ? PyObject_CallFunctionObjArgs(state_in(session->module)->loads, bytes, NULL) : NULL;
     Py_XDECREF(bytes);
     return value;
 }
 
 /* The value in a reply, or the whole reply as bytes if it has none: a refusal. */
-static PyObject *value_in(struct replies replies)
+static PyObject *value_in(Session *session, struct replies replies)
 {
     static const char before[] = "{\"ok\":true,\"value\":";
     const size_t begin = sizeof before - 1;
     if (replies.length >= begin + 3 && memcmp(replies.bytes, before, begin) == 0)
-        return value_of(replies.bytes + begin, replies.length - begin - 2);
+        return value_of(session, replies.bytes + begin, replies.length - begin - 2);
     return PyBytes_FromStringAndSize(replies.bytes, (Py_ssize_t)replies.length);
 }
 
@@ -273,7 +297,7 @@ static PyObject *session_get(Session *session, PyObject *const *arguments, Py_ss
     const int fault = fed(session, line, length, &replies);
     if (fault != JPSTORE_OK)
         return told(session, fault, replies);
-    PyObject *value = value_in(replies);
+    PyObject *value = value_in(session, replies);
     session->busy = false;
     return value;
 }
@@ -443,14 +467,13 @@ static PyObject *format_file(PyObject *module, PyObject *arguments)
     uint64_t capacity;
     int fault, sparse;
     jpstore_cause cause;
-    (void)module;
     if (!PyArg_ParseTuple(arguments, "sKKpK", &path, &sectors, &format, &sparse, &mode))
         return NULL;
     const jpstore_format_options options = {.format = format, .sparse = sparse != 0, .mode = mode};
     Py_BEGIN_ALLOW_THREADS
     fault = jpstore_format(path, sectors, &options, &capacity, &cause);
     Py_END_ALLOW_THREADS
-    return fault == JPSTORE_OK ? PyLong_FromUnsignedLongLong(capacity) : raise_fault(fault, cause, NULL);
+    return fault == JPSTORE_OK ? PyLong_FromUnsignedLongLong(capacity) : raise_fault(module, fault, cause, NULL);
 }
 
 /* copy(path, new_path, sectors): copies a store into a new file, and returns the copy's status by its members. */
@@ -461,14 +484,13 @@ static PyObject *copy_file(PyObject *module, PyObject *arguments)
     jpstore_state status;
     int fault;
     jpstore_cause cause;
-    (void)module;
     if (!PyArg_ParseTuple(arguments, "ssK", &path, &new_path, &sectors))
         return NULL;
     Py_BEGIN_ALLOW_THREADS
     fault = jpstore_copy(path, new_path, sectors, &status, &cause);
     Py_END_ALLOW_THREADS
     if (fault != JPSTORE_OK)
-        return raise_fault(fault, cause, NULL);
+        return raise_fault(module, fault, cause, NULL);
     return Py_BuildValue("{sNsKsKsisKsKsKsK}", "broken", PyBool_FromLong(status.broken), "capacity",
                          (unsigned long long)status.capacity, "documents", (unsigned long long)status.documents, "half",
                          status.half, "opens", (unsigned long long)status.opens, "sectors", (unsigned long long)status.sectors,
@@ -483,13 +505,12 @@ static PyObject *upgrade_file(PyObject *module, PyObject *arguments)
     uint64_t before;
     int fault;
     jpstore_cause cause;
-    (void)module;
     if (!PyArg_ParseTuple(arguments, "sK", &path, &format))
         return NULL;
     Py_BEGIN_ALLOW_THREADS
     fault = jpstore_upgrade(path, format, &before, &cause);
     Py_END_ALLOW_THREADS
-    return fault == JPSTORE_OK ? PyLong_FromUnsignedLongLong(before) : raise_fault(fault, cause, NULL);
+    return fault == JPSTORE_OK ? PyLong_FromUnsignedLongLong(before) : raise_fault(module, fault, cause, NULL);
 }
 
 static PyObject *version(PyObject *module, PyObject *nothing)
@@ -506,6 +527,7 @@ static PyObject *fault_text(PyObject *module, PyObject *number)
 }
 
 static PyMethodDef functions[] = {
+    {"open", (PyCFunction)(void (*)(void))open_session, METH_VARARGS | METH_KEYWORDS, "A session of a store."},
     {"format", format_file, METH_VARARGS, "Makes a file with an empty store."},
     {"copy", copy_file, METH_VARARGS, "Copies a store into a new file."},
     {"upgrade", upgrade_file, METH_VARARGS, "Brings a store to another format."},
@@ -514,26 +536,9 @@ static PyMethodDef functions[] = {
     {NULL, NULL, 0, NULL},
 };
 
-static struct PyModuleDef definition = {
-    PyModuleDef_HEAD_INIT,
-    .m_name = "jpstore._embedded",
-    .m_doc = "The store in this process, by libjpstore.",
-    .m_size = -1,
-    .m_methods = functions,
-};
-
-static bool add_names(PyObject *module)
+static bool add_numbers(PyObject *module)
 {
-    PyObject *json = PyImport_ImportModule("json");
-    loads = json ? PyObject_GetAttrString(json, "loads") : NULL;
-    Py_XDECREF(json);
-    fault_type = PyErr_NewException("jpstore._embedded.Fault", NULL, NULL);
-    PyObject *session_type = PyType_FromSpec(&session_spec);
-    if (!loads || !fault_type || !session_type)
-        return false;
-    Py_INCREF(fault_type);
-    return PyModule_AddObject(module, "Fault", fault_type) == 0 && PyModule_AddObject(module, "Session", session_type) == 0
-           && PyModule_AddIntConstant(module, "IN_USE", JPSTORE_IN_USE) == 0
+    return PyModule_AddIntConstant(module, "IN_USE", JPSTORE_IN_USE) == 0
            && PyModule_AddIntConstant(module, "FILE", JPSTORE_FILE) == 0
            && PyModule_AddIntConstant(module, "REFUSED", JPSTORE_REFUSED) == 0
            && PyModule_AddIntConstant(module, "DEVICE", JPSTORE_DEVICE) == 0
@@ -545,13 +550,92 @@ static bool add_names(PyObject *module)
            && PyModule_AddIntConstant(module, "NO_SPACE", JPSTORE_NO_SPACE) == 0;
 }
 
-PyMODINIT_FUNC PyInit__embedded(void);
+/* Adds a name for what the state holds. */
+static bool add_name(PyObject *module, const char *name, PyObject *value)
+{
+    Py_INCREF(value);
+    if (PyModule_AddObject(module, name, value) == 0)
+        return true;
+    Py_DECREF(value);
+    return false;
+}
+
+static int fill(PyObject *module)
+{
+    struct state *state = state_in(module);
+    PyObject *json = PyImport_ImportModule("json");
+    state->loads = json ? PyObject_GetAttrString(json, "loads") : NULL;
+    Py_XDECREF(json);
+    state->fault_type = PyErr_NewException("jpstore._embedded.Fault", NULL, NULL);
+    state->session_type = PyType_FromSpec(&session_spec);
+    const bool filled = state->loads && state->fault_type && state->session_type && add_name(module, "Fault", state->fault_type)
+                        && add_name(module, "Session", state->session_type) && add_numbers(module);
+    return filled ? 0 : -1;
+}
+
+/* Before Python 3.9 a module may be looked at that has no state yet. */
+static int traverse(PyObject *module, visitproc visit, void *arg)
+{
+    struct state *state = state_in(module);
+    if (!state)
+        return 0;
+    Py_VISIT(state->fault_type);
+    Py_VISIT(state->session_type);
+    Py_VISIT(state->loads);
+    return 0;
+}
+
+static int clear(PyObject *module)
+{
+    struct state *state = state_in(module);
+    if (!state)
+        return 0;
+    Py_CLEAR(state->fault_type);
+    Py_CLEAR(state->session_type);
+    Py_CLEAR(state->loads);
+    return 0;
+}
+
+static void free_state(void *module)
+{
+    clear(module);
+}
+
+/* The second one is filled for a Python that knows it. */
+static PyModuleDef_Slot phases[] = {
+    {Py_mod_exec, fill},
+    {0, NULL},
+    {0, NULL},
+};
+
+static struct PyModuleDef definition = {
+    PyModuleDef_HEAD_INIT,
+    .m_name = "jpstore._embedded",
+    .m_doc = "The store in this process, by libjpstore.",
+    .m_size = sizeof(struct state),
+    .m_methods = functions,
+    .m_slots = phases,
+    .m_traverse = traverse,
+    .m_clear = clear,
+    .m_free = free_state,
+};
+
+/* Whether this Python is of version 3 and at least this second number. */
+static bool is_from(long second)
+{
+    const char *version = Py_GetVersion();
+    return strncmp(version, "3.", 2) == 0 && strtol(version + 2, NULL, 10) >= second;
+}
+
+/* Py_mod_multiple_interpreters and Py_MOD_PER_INTERPRETER_GIL_SUPPORTED, which are newer than the stable interface that is used. */
+enum { SLOT_OF_INTERPRETERS = 3, EACH_WITH_ITS_LOCK = 2 };
+
+/* Before Python 3.9 PyMODINIT_FUNC alone doesn't let it be seen. */
+__attribute__((visibility("default"))) PyMODINIT_FUNC PyInit__embedded(void);
 
 PyMODINIT_FUNC PyInit__embedded(void)
 {
-    PyObject *module = PyModule_Create(&definition);
-    if (module && add_names(module))
-        return module;
-    Py_XDECREF(module);
-    return NULL;
+    if (is_from(12))
+        phases[1] = (PyModuleDef_Slot){SLOT_OF_INTERPRETERS, (void *)EACH_WITH_ITS_LOCK};
+    return PyModuleDef_Init(&definition);
 }

@@ -180,7 +180,7 @@ class Embedded:
         self._free()
 
     def _opened(self) -> Any:
-        return self._extension.Session(*self._words)
+        return self._extension.open(*self._words)
 
     def _free(self) -> None:
         session, self._session = self._session, None

@@ -366,6 +366,66 @@ def test_a_fork_in_the_midst_of_each_call(folder):
             close_beside(tried)
 
 
+# What an interpreter does with a file of its own.
+IN_AN_INTERPRETER = """
+from jpstore import Ended, Invalid, Store
+from jpstore.embedded import format_embedded
+file = {file!r}
+format_embedded(file, 64)
+with Store(file, embedded=True) as store:
+    store.create("d", {{"n": 0}}, {{"properties": {{"n": {{"minimum": 0}}}}}})
+    for number in range(1, 101):
+        store.patch("d", [{{"op": "replace", "path": "/n", "value": number}}])
+        assert store.get("d", "/n") == number and store.get("d") == {{"n": number}}
+    for call, words, kind in ((store.patch, ("d", [{{"op": "replace", "path": "/n", "value": -1}}]), Invalid),
+                              (format_embedded, (file, 64), Ended)):
+        try:
+            call(*words)
+        except kind:
+            continue
+        raise AssertionError(kind)
+"""
+
+
+def interpreters():
+    """The calls that make an interpreter in this process, have it run a text, and end it."""
+    if sys.version_info < (3, 13):
+        import _xxsubinterpreters as module
+        return module.create, module.run_string, module.destroy
+    import _interpreters as module
+
+    def run(interpreter, text):
+        failed = module.exec(interpreter, text)
+        assert failed is None, failed
+
+    return module.create, run, module.destroy
+
+
+def test_interpreters(folder):
+    """Several in threads, one after another in each, beside this one with a store of its own."""
+    make, run, end = interpreters()
+    failures = []
+
+    def in_turn(name):
+        for turn in range(3):
+            interpreter = make()
+            try:
+                run(interpreter, IN_AN_INTERPRETER.format(file=os.path.join(folder, f"interpreter-{name}-{turn}")))
+            except Exception as failure:
+                failures.append(failure)
+            end(interpreter)
+
+    threads = [threading.Thread(target=in_turn, args=(name,)) for name in range(3)]
+    with Store(new_file(folder, "beside"), embedded=True) as store:
+        store.create("d", 0)
+        for thread in threads:
+            thread.start()
+        while any(thread.is_alive() for thread in threads):
+            store.put("d", store.get("d") + 1)
+        assert raised(NotFound, store.get, "none").number == 21
+    assert failures == []
+
+
 def test_version(folder):
     version, digest = embedded_version().split(" program-sha256:")
     assert version.count(".") == 2 and len(digest) == 64
