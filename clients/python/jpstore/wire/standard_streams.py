@@ -1,5 +1,7 @@
-"""The standard streams of a server. It serves on if they take nothing, such as a log on a full disk."""
+"""The standard streams of a server, and what starts services. It serves on if these take nothing, such as a log on a full disk."""
+import contextlib
 import os
+import socket
 import sys
 from typing import TextIO
 
@@ -7,12 +9,21 @@ __all__ = ["announce", "complain"]
 
 
 def announce(text: str) -> None:
-    """Says on standard output that clients may connect."""
+    """Says on standard output, and to systemd, that clients may connect."""
     try:
         print(text, flush=True)
     except OSError as error:
         _discard(sys.stdout)
         complain(f"standard output cannot be written, and nothing more is: {error.strerror}")
+    _notify()
+
+
+def _notify() -> None:
+    """Says to systemd that the service is ready, if it started it (`Type=notify`; sd_notify(3) has the form)."""
+    name = os.environ.pop("NOTIFY_SOCKET", "")
+    if name.startswith(("/", "@")):
+        with contextlib.suppress(OSError), socket.socket(socket.AF_UNIX, socket.SOCK_DGRAM) as notified:
+            notified.sendto(b"READY=1", "\0" + name[1:] if name[0] == "@" else name)
 
 
 def complain(text: str) -> None:
