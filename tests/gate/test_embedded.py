@@ -193,7 +193,7 @@ class Embedded:
         self.passes("typed", self.stores)
 
     def numbers(self):
-        """The header's version and refusals are those of the program."""
+        """The header's version and refusals are those of the program, and so are the versions of all that is published."""
         with open(os.path.join(EMBED, "jpstore.h")) as file:
             header = file.read()
         with open(os.path.join(TOP, "VERSION")) as file:
@@ -202,6 +202,10 @@ class Embedded:
         same("JPSTORE_VERSION", re.findall(r'#define JPSTORE_VERSION "(.*)"', header), [version])
         same("JPSTORE_VERSION_NUMBER", re.findall(r"#define JPSTORE_VERSION_NUMBER (.*)", header),
              [str(first * 1000000 + second * 1000 + third)])
+        for name, shape in (("clients/rust/Cargo.toml", '^version = "(.*)"'), ("clients/rust/serde_json/Cargo.toml", '^version = "(.*)"'),
+                            ("clients/python/jpstore/version.py", '"(.*)"$'), ("debian/changelog", r"\Ajpstore \((.*?)\)")):
+            with open(os.path.join(TOP, name)) as file:
+                same(name, re.findall(shape, file.read(), re.M), [version])
         refusals = os.path.join(TOP, "crates", "refusals", "src")
         with open(os.path.join(refusals, "numbers.rt")) as file:
             wanted = re.findall(r"pub const (\w+): u16 = (\d+);", file.read())

@@ -59,7 +59,8 @@
 //! # Linking
 //!
 //! The crate links `libjpstore.a` from `clients/c/out` beside it, or from the folder in `JPSTORE_LIB`; with
-//! `JPSTORE_LINK=shared` the shared library. It needs Linux on x86-64.
+//! `JPSTORE_LINK=shared` the shared library. Elsewhere it links the installed shared library, which pkg-config finds; with
+//! `JPSTORE_LINK=static` the static one. It needs Linux on x86-64.
 #![deny(
     missing_docs,
     missing_debug_implementations,

@@ -112,10 +112,10 @@ _FILE = ("file", {"metavar": "FILE", "help": "the file of a store"})
 
 # Each command: what it does, its help, an example, and its words.
 _COMMANDS: Dict[str, _Row] = {
-    "init": (_init, "makes a log, with the store in a file as its first state", "init /var/lib/shop/store", [
+    "init": (_init, "makes a log, with the store in a file as its first state", "init /var/lib/jpstore/shop/store", [
         _FILE, ("--capacity", {"metavar": "BYTES", "type": int,
                                "help": "what each node's file has at least; else what FILE has"})]),
-    "serve": (_serve, "runs a node", "serve /var/lib/shop/store --node a --socket /run/shop/socket", [
+    "serve": (_serve, "runs a node", "serve /var/lib/jpstore/shop/store --node a --socket /run/jpstore/shop/socket", [
         _FILE, _NODE_WORD,
         ("--socket", {"metavar": "PATH", "required": True, "help": "where clients connect, and see all that is done"}),
         ("--local", {"metavar": "PATH", "help": "where questions are answered at once, as this node has it"}),
@@ -126,7 +126,7 @@ _COMMANDS: Dict[str, _Row] = {
                        "help": "how often the nodes compare what they have (60)"}),
         ("--first", {"metavar": "N", "type": int, "default": 0, "help": "begin with member N of the list, from 0"})]),
     "join": (_join, "makes the file of a new node from that of another node",
-             "join /var/lib/shop/store --node b --from a.socket", [
+             "join /var/lib/jpstore/shop/store --node b --from a.socket", [
                  ("new", {"metavar": "NEW", "help": "the new file"}), _NODE_WORD,
                  ("--from", {"metavar": "SOCKET", "required": True, "dest": "source",
                              "help": "the socket of another node, perhaps by ssh -L"}),

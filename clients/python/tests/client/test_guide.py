@@ -147,8 +147,8 @@ def test_the_unit_of_the_guide_starts_a_hub(place):
     for unit in units:
         words = shlex.split(re.search(r"^ExecStart=(.*)$", unit, re.M)[1])
         begin = words.index("hub")
-        assert words[:begin] in (["/opt/jpstore/bin/jpstore-cli"], ["/usr/bin/python3", "-m", "jpstore"])
-        places = {"/var/lib/inventory/store": place.file, "/run/inventory/socket": place.path("socket"),
+        assert words[:begin] in (["/opt/jpstore/bin/jpstore-cli"], ["/usr/bin/python3", "-I", "-m", "jpstore"])
+        places = {"/var/lib/jpstore/inventory/store": place.file, "/run/jpstore/inventory/socket": place.path("socket"),
                   "/usr/local/bin/jpstore": place.program}
         words = [places.get(word, word) for word in words[begin:]]
         environment = {**place.environment(), "PATH": os.path.dirname(place.program) + os.pathsep + os.environ["PATH"]}
