@@ -1,4 +1,7 @@
-"""The standard streams of a server, and what starts services. It serves on if these take nothing, such as a log on a full disk."""
+"""The standard streams of a server. It serves on if they take nothing, such as a log on a full disk.
+
+What starts services is told too when clients may connect.
+"""
 import contextlib
 import os
 import socket
