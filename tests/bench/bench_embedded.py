@@ -1,5 +1,5 @@
 #!/usr/bin/env python3
-"""Gets and updates a second by the library, by the program over pipes, and by SQLite, from C and from Python.
+"""Gets and updates a second by the library, by the program over pipes, by SQLite and by LMDB, from C and from Python.
 
     bench_embedded.py PROGRAM [--object FILE] [--unproved] [--rounds N] [--seconds S] [--folder FOLDER]
 
@@ -7,8 +7,9 @@ The ways take turns: in each of N rounds (5) each of them runs for S seconds (0.
 second, the rate of the best part of a hundredth of that, and in brackets the median of the microseconds of processor
 time that a call took, of both processes if there are two: a busy machine changes the rates more. One document has a number
 and a text; a get asks for the number, and an update replaces it, durably: SQLite has a write-ahead log and
-`synchronous=full`. The files are in FOLDER (/dev/shm, a file system in memory; a disk's rate of updates is that of its
-syncs). It needs SQLite's headers (Debian's libsqlite3-dev) and Python's.
+`synchronous=full`. LMDB has no members, and gets and puts the whole document. The files are in FOLDER (/dev/shm, a file
+system in memory; a disk's rate of updates is that of its syncs). It needs the headers of SQLite and LMDB (Debian's
+libsqlite3-dev, liblmdb-dev) and Python's.
 """
 import argparse
 import ctypes
@@ -92,7 +93,7 @@ class Bench:
         run([os.path.join(TOP, "clients", "c", "build"), "--out", library, *more])
         self.c = os.path.join(folder, "bench")
         run(["cc", "-std=c11", "-O2", "-I", library, os.path.join(TOP, "clients", "c", "tests", "bench.c"), "-o", self.c,
-             os.path.join(library, "libjpstore.a"), "-lsqlite3"])
+             os.path.join(library, "libjpstore.a"), "-lsqlite3", "-llmdb"])
         package = os.path.join(folder, "python")
         run(["cp", "-r", os.path.join(TOP, "clients", "python", "jpstore"), package + "/"] if os.path.isdir(package)
             else ["sh", "-c", 'mkdir "$1" && cp -r "$2" "$1/"', "sh", package, os.path.join(TOP, "clients", "python", "jpstore")])
@@ -118,7 +119,7 @@ class Bench:
         print("| %ss from %s, %d bytes | %s |" % (what, language, size, " | ".join(cells)), flush=True)
 
 
-WAYS = ("embedded", "ctypes", "pipe", "sqlite")
+WAYS = ("embedded", "ctypes", "pipe", "sqlite", "lmdb")
 
 
 def main():
@@ -135,11 +136,11 @@ def main():
         os.cpu_count(), os.getloadavg()[0], sys.version.split()[0], sqlite3.sqlite_version))
     with tempfile.TemporaryDirectory() as folder:
         bench = Bench(words, folder)
-        print("| thousands a second (microseconds) | embedded | by ctypes | by a pipe | SQLite |\n|---|---|---|---|---|")
+        print("| thousands a second (microseconds) | embedded | by ctypes | by a pipe | SQLite | LMDB |\n|---|---|---|---|---|---|")
         for what in ("get", "update"):
             for size in SIZES:
-                bench.row("C", ("embedded", "pipe", "sqlite"), what, size)
-                bench.row("Python", WAYS, what, size)
+                bench.row("C", ("embedded", "pipe", "sqlite", "lmdb"), what, size)
+                bench.row("Python", ("embedded", "ctypes", "pipe", "sqlite"), what, size)
         print("load %.1f at the end" % os.getloadavg()[0])
 
 

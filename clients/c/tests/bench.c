@@ -1,13 +1,15 @@
-/* How many gets or updates of one member a second: by the library, by the program over pipes, and by SQLite.
+/* How many gets or updates of one member a second: by the library, by the program over pipes, by SQLite, and by LMDB, which
+ * knows no members: it gets and puts the whole document.
  *
  *     bench KIND WHAT FILE SIZE SECONDS [PROGRAM]
  *
- * KIND is embedded, pipe or sqlite; WHAT is get or update. FILE is new. The document has a number and a text of SIZE bytes.
+ * KIND is embedded, pipe, sqlite or lmdb; WHAT is get or update. FILE is new. The document has a number and a text of SIZE bytes.
  * It prints the rate of the best of a hundred parts, and the microseconds of processor time that a call took, in this
  * process and in the program's. */
 #define _GNU_SOURCE
 #include "jpstore.h"
 
+#include <lmdb.h>
 #include <sqlite3.h>
 #include <stdbool.h>
 #include <stdio.h>
@@ -28,6 +30,10 @@ static jpstore *store;
 static FILE *to, *from;
 static sqlite3 *base;
 static sqlite3_stmt *statement;
+static MDB_env *map;
+static MDB_dbi table;
+static MDB_txn *reader;
+static MDB_val key = {1, "d"};
 static char line[1 << 16];
 
 static void embedded_line(const char *text, size_t length)
@@ -80,6 +86,40 @@ static void sql_update(long number)
     if (sqlite3_step(statement) != SQLITE_DONE)
         stop("no update");
     sqlite3_reset(statement);
+}
+
+static void lmdb_get(long number)
+{
+    MDB_val value;
+    (void)number;
+    if (mdb_txn_renew(reader) != 0 || mdb_get(reader, table, &key, &value) != 0 || memcmp(value.mv_data, "{\"n\":", 5) != 0)
+        stop("no value");
+    strtol((const char *)value.mv_data + 5, NULL, 10);
+    mdb_txn_reset(reader);
+}
+
+/* The text of the document without its number. */
+static char text_of_doc[1 << 15];
+
+static void lmdb_update(long number)
+{
+    MDB_txn *change;
+    MDB_val value = {(size_t)snprintf(line, sizeof line, "{\"n\":%ld,%s", number, text_of_doc), line};
+    if (mdb_txn_begin(map, NULL, 0, &change) != 0 || mdb_put(change, table, &key, &value, 0) != 0 || mdb_txn_commit(change) != 0)
+        stop("no update");
+}
+
+static void open_lmdb(const char *file, const char *doc)
+{
+    MDB_txn *first;
+    snprintf(text_of_doc, sizeof text_of_doc, "%s", strstr(doc, "\"t\""));
+    if (mdb_env_create(&map) != 0 || mdb_env_set_mapsize(map, 64 << 20) != 0 || mdb_env_open(map, file, MDB_NOSUBDIR, 0600) != 0
+        || mdb_txn_begin(map, NULL, 0, &first) != 0 || mdb_dbi_open(first, NULL, 0, &table) != 0 || mdb_txn_commit(first) != 0)
+        stop("the map can't be opened");
+    lmdb_update(0);
+    if (mdb_txn_begin(map, NULL, MDB_RDONLY, &reader) != 0)
+        stop("the map can't be read");
+    mdb_txn_reset(reader);
 }
 
 static void open_embedded(const char *file)
@@ -165,6 +205,9 @@ int main(int count, char **words)
     if (strcmp(words[1], "sqlite") == 0) {
         open_sqlite(words[3], doc, updates);
         call = updates ? sql_update : sql_get;
+    } else if (strcmp(words[1], "lmdb") == 0) {
+        open_lmdb(words[3], doc);
+        call = updates ? lmdb_update : lmdb_get;
     } else {
         if (strcmp(words[1], "embedded") == 0)
             open_embedded(words[3]);
