@@ -25,7 +25,8 @@ def forked(work):
     reading, writing = os.pipe()
     child = os.fork()
     if child == 0:
-        # Nothing of the tests goes on in the child.
+        # Nothing of the tests goes on in the child: one that hangs is killed.
+        signal.signal(signal.SIGALRM, signal.SIG_DFL)
         signal.alarm(PATIENCE)
         try:
             told = work()
@@ -245,6 +246,8 @@ class Preforked:
         for _ in range(workers):
             pid = os.fork()
             if pid == 0:
+                # A test's own handler would let the worker go on with the tests.
+                signal.signal(signal.SIGALRM, signal.SIG_DFL)
                 signal.alarm(PATIENCE)
                 while True:
                     self._answer(store)
