@@ -5,13 +5,13 @@
 
 First the files of DIST by themselves: checksums and note, the archive, the manual pages by mandoc, the units by systemd, and all by
 lintian. Then a clean root of Debian, in which systemd runs: the packages are installed by apt, the session of README.md and the
-three programs of docs/use/EMBEDDING.md are built and run there, a store is served by systemd, and the packages are upgraded,
-removed and purged. Nothing may be left running then, and nothing left behind but stores.
+three programs of docs/use/EMBEDDING.md are built and run there, a hub and a node are served by systemd, and the packages are
+upgraded, removed and purged. Nothing may be left running then, and nothing left behind but stores.
 
 The root is made by debootstrap, for which one must be root and have a mirror, and systemd-nspawn runs it. --root names one that
 was made before; a copy of it is used. With --unpacked, as the gate calls it, the packages are unpacked into a fresh folder, and
-there the program and the Python package alone are tried, in seconds. What this machine lacks is installed from Debian's packages, if this user may. The last line is
-`N passed, M failed`.
+there the program and the Python package alone are tried, in seconds. What this machine lacks is installed from Debian's packages,
+if this user may. The last line is `N passed, M failed`.
 """
 import argparse
 import contextlib
@@ -19,6 +19,7 @@ import hashlib
 import os
 import pathlib
 import re
+import shlex
 import shutil
 import signal
 import subprocess
@@ -35,7 +36,7 @@ PACKAGES = ["jpstore", "libjpstore-dev", "libjpstore1", "librust-jpstore-dev", "
 # A command that is needed, and the package that has it.
 WANTED = {"debootstrap": "debootstrap", "lintian": "lintian", "mandoc": "mandoc", "systemd-nspawn": "systemd-container"}
 # What a clean root has besides, so that systemd runs in it and programs are built.
-IN_ROOT = ["systemd", "systemd-sysv", "dbus", "procps", "python3", "gcc", "libc6-dev", "pkg-config", "cargo"]
+IN_ROOT = ["systemd", "systemd-sysv", "dbus", "procps", "python3", "gcc", "libc6-dev", "pkg-config", "cargo", "etcd-server", "etcd-client"]
 
 PYTHON = """\
 from jpstore import Store
@@ -63,10 +64,20 @@ INSTALLED = [
     "usr/share/zsh/vendor-completions/_jpstore",
 ]
 # Registers that Debian's own tools keep, and what changes by itself.
-CHANGING = ("/dev", "/etc/ld.so.cache", "/proc", "/root", "/run", "/sys", "/tmp", "/var/cache", "/var/lib/apt", "/var/lib/dpkg",
+CHANGING = ("/dev", "/etc/ld.so.cache", "/proc", "/root", "/run", "/sys", "/tmp", "/var/cache", "/var/lib/apt", "/var/lib/dpkg", "/var/lib/etcd",
             "/var/lib/jpstore", "/var/lib/systemd", "/var/log")
-STORE = "/var/lib/jpstore/inventory/store"
-SOCKET = "/run/jpstore/inventory/socket"
+# The user of a hub, and that of a node.
+HUB, NODE = "inventory", "shop"
+UNITS = [f"jpstore@{HUB}", f"jpstore-replica@{NODE}"]
+SETTINGS = 'NODE=a\nLOG="--etcd http://127.0.0.1:2379 --log shop"\n'
+
+
+def store_of(user):
+    return f"/var/lib/jpstore/{user}/store"
+
+
+def socket_of(user):
+    return f"/run/jpstore/{user}/socket"
 
 
 class Failed(Exception):
@@ -185,7 +196,7 @@ class CleanRoot:
 
     def begin(self):
         """Starts systemd."""
-        words = ["systemd-nspawn", "--register=no", "--keep-unit", "--console=pipe", "-bD", self.root]
+        words = ["systemd-nspawn", "--register=no", "--keep-unit", "--private-network", "--console=pipe", "-bD", self.root]
         self._nspawn = subprocess.Popen(words, stdin=subprocess.DEVNULL, stdout=subprocess.DEVNULL, stderr=subprocess.DEVNULL)
         children = pathlib.Path(f"/proc/{self._nspawn.pid}/task/{self._nspawn.pid}/children")
         until(lambda: children.read_text().split(), "systemd-nspawn starts")
@@ -285,61 +296,76 @@ class Packages:
         self.root.write("root/python/main.py", programs()["python"])
         same("the program in Python", self.root.run("cd /root/python; python3 main.py"), printed_by_programs())
 
-    def service(self):
+    def hub(self):
         """A store is served, and its socket is there as soon as systemctl comes back."""
-        self.root.run("useradd --system --home /var/lib/inventory --create-home inventory; chmod 750 /var/lib/inventory")
-        self.root.run("install -d -m 700 -o inventory /var/lib/jpstore/inventory")
-        self.root.run(f"runuser -u inventory -- jpstore format {STORE} --sectors 4096")
-        self.root.run("systemctl enable --now jpstore@inventory; test -S " + SOCKET)
-        self.changed("new shelf-1 '{\"nuts\":12}'")
-        same("the user's own folder", self.root.run("stat -c '%U %a' /var/lib/inventory"), "inventory 750\n")
-        same("the store's folder", self.root.run("stat -c '%U %a' /var/lib/jpstore /var/lib/jpstore/inventory"), "root 755\ninventory 700\n")
-        self.root.run("systemd-analyze security --threshold=20 jpstore@inventory")
-        # A node needs etcd; what is tried here is what happens to its unit.
-        self.root.write("etc/systemd/system/jpstore-replica@.service.d/test.conf",
-                        "[Service]\nType=exec\nEnvironmentFile=\nExecStart=\nExecStart=sleep infinity\n")
-        self.root.run("systemctl daemon-reload; systemctl enable --now jpstore-replica@inventory")
+        self.new_store(HUB)
+        self.root.run(f"systemctl enable --now {UNITS[0]}; test -S {socket_of(HUB)}")
+        self.as_user(HUB, f"jpstore-cli new {socket_of(HUB)} shelf-1 '{{\"nuts\":12}}'")
+        same("the user's own folder", self.root.run(f"stat -c '%U %a' /home/{HUB}"), f"{HUB} 750\n")
+        same("the store's folder", self.root.run(f"stat -c '%U %a' /var/lib/jpstore /var/lib/jpstore/{HUB}"), f"root 755\n{HUB} 700\n")
+        self.root.run(f"systemd-analyze security --threshold=20 {UNITS[0]}")
 
-    def changed(self, words):
-        command, *rest = words.split(" ", 1)
-        self.root.run(f"runuser -u inventory -- jpstore-cli {command} {SOCKET} {' '.join(rest)}")
+    def node(self):
+        """A node of a replicated store, whose log is trimmed."""
+        self.new_store(NODE)
+        self.root.write(f"etc/jpstore/{NODE}", SETTINGS)
+        self.as_user(NODE, f". /etc/jpstore/{NODE}; python3 -m jpstore replica init {store_of(NODE)} $LOG")
+        self.root.run(f"systemctl enable --now {UNITS[1]} jpstore-trim@{NODE}.timer; test -S {socket_of(NODE)}")
+        self.as_user(NODE, f"jpstore-cli new {socket_of(NODE)} shelf-1 '{{\"nuts\":12}}'")
+        same("what the node has", self.as_user(NODE, f"jpstore-cli get /run/jpstore/{NODE}/local shelf-1 /nuts"), "12\n")
+        self.root.run(f"systemctl start jpstore-trim@{NODE}")
+        for unit in (UNITS[1], f"jpstore-trim@{NODE}"):
+            self.root.run(f"systemd-analyze security --threshold=20 {unit}")
 
-    def process_of(self, unit):
-        return self.root.run(f"systemctl show --value -p MainPID {unit}").strip()
+    def new_store(self, user):
+        self.root.run(f"useradd --system --create-home {user}; chmod 750 /home/{user}; install -d -m 700 -o {user} /var/lib/jpstore/{user}")
+        self.as_user(user, f"jpstore format {store_of(user)} --sectors 4096")
+
+    def as_user(self, user, words):
+        return self.root.run(f"cd /; runuser -u {user} -- sh -ec {shlex.quote(words)}")
+
+    def processes(self):
+        return [self.root.run(f"systemctl show --value -p MainPID {unit}").strip() for unit in UNITS]
 
     def upgrade(self):
         """A hub is the new version's then, and a node the old one's until somebody restarts it."""
-        before = [self.process_of(unit) for unit in ("jpstore@inventory", "jpstore-replica@inventory")]
+        before = self.processes()
         self.root.run("apt-get install -q -y --no-install-recommends /newer/*.deb")
-        after = [self.process_of(unit) for unit in ("jpstore@inventory", "jpstore-replica@inventory")]
+        after = self.processes()
         if "0" in [*before, *after] or before[0] == after[0] or before[1] != after[1]:
             raise Failed(f"the processes were {before}, and are {after}")
-        self.root.run(f"test -S {SOCKET}")
-        self.changed("set shelf-1 /nuts 11")
+        self.root.run(f"test -S {socket_of(HUB)}")
+        for user in (HUB, NODE):
+            self.as_user(user, f"jpstore-cli set {socket_of(user)} shelf-1 /nuts 11")
+        self.root.run(f"systemctl restart {UNITS[1]}")
+        same("what the node has", self.as_user(NODE, f"jpstore-cli get {socket_of(NODE)} shelf-1 /nuts"), "11\n")
+
+    def running(self):
+        """What runs of jpstore."""
+        return self.root.run(f"pgrep -a -u {HUB},{NODE} || true")
 
     def remove(self):
         self.root.run("apt-get remove -q -y jpstore")
-        same("what runs", self.root.run("pgrep -a -u inventory || true"), "")
+        same("what runs", self.running(), "")
         same("the sockets", self.root.run("ls -A /run/jpstore 2>/dev/null || true"), "")
-        same("the state of the hub", self.root.run("systemctl is-active jpstore@inventory || true"), "inactive\n")
-        self.root.run("rm -r /etc/systemd/system/jpstore-replica@.service.d")
+        same("the state of the units", self.root.run(f"systemctl is-active {' '.join(UNITS)} || true"), "inactive\ninactive\n")
 
     def purge(self):
-        """Of what came with the packages nothing is left, and the store is what it was."""
+        """Of what came with the packages nothing is left, and the stores are what they were."""
         self.root.run(f"apt-get purge -q -y {' '.join(PACKAGES)}; apt-get autoremove --purge -q -y; systemctl daemon-reload")
-        same("what runs", self.root.run("pgrep -a -u inventory || true"), "")
-        self.root.run("userdel -r inventory 2>/dev/null")
+        same("what runs", self.running(), "")
+        self.root.run(f"rm /etc/jpstore/{NODE}; rmdir /etc/jpstore; userdel -r {HUB} 2>/dev/null; userdel -r {NODE} 2>/dev/null")
         before, after = set(self.before), set(self.root.listed())
         same("what is left", sorted(after - before), [])
         same("what is gone", sorted(before - after), [])
         same("the units that are enabled", self.root.run("grep -rl jpstore /var/lib/systemd /etc/systemd 2>/dev/null || true"), "")
-        same("the folder of stores", self.root.run("ls -R /var/lib/jpstore").split(), ["/var/lib/jpstore:", "inventory", "/var/lib/jpstore/inventory:",
-                                                                                    "store", "store.changes"])
+        left = self.root.run("cd /var/lib/jpstore; find . -type f").split()
+        same("the stores", sorted(left), [f"./{HUB}/store", f"./{HUB}/store.changes", f"./{NODE}/store"])
 
     def installed_again(self):
         """The store that was left is served again."""
         self.root.run("apt-get install -q -y --no-install-recommends /packages/*.deb")
-        same("the store", self.root.run(f"jpstore-cli get {STORE} shelf-1 /nuts"), "11\n")
+        same("the store", self.root.run(f"jpstore-cli get {store_of(HUB)} shelf-1 /nuts"), "11\n")
 
 
 def newer(package, folder, room):
@@ -384,7 +410,7 @@ def tests_of(asked, folder):
     root = CleanRoot(folder, asked.root, asked.suite, asked.mirror)
     packages = Packages(root, asked.dist.resolve())
     try:
-        for name in ("root_with_systemd", "install", "session_of_readme", "program_in_c", "program_in_rust", "program_in_python", "service",
+        for name in ("root_with_systemd", "install", "session_of_readme", "program_in_c", "program_in_rust", "program_in_python", "hub", "node",
                      "upgrade", "remove", "purge", "installed_again"):
             yield getattr(packages, name)
     finally:
