@@ -191,6 +191,9 @@ class CleanRoot:
         """Makes it by debootstrap, or by copying one that was made."""
         run(["cp", "-a", self._made, self.root] if self._made else ["debootstrap", "--variant=minbase", *self._words])
         shutil.copy("/etc/resolv.conf", self.root / "etc" / "resolv.conf")
+        self.write("etc/hosts", "127.0.0.1 localhost\n")
+        # Nothing of this root is worth a sync of the disk.
+        self.write("etc/dpkg/dpkg.cfg.d/unsafe-io", "force-unsafe-io\n")
         run(["chroot", self.root, "sh", "-ec", f"apt-get update -q && apt-get install -q -y --no-install-recommends {' '.join(IN_ROOT)}"],
             env=ENVIRONMENT)
 
