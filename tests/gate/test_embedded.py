@@ -203,7 +203,7 @@ class Embedded:
         same("JPSTORE_VERSION_NUMBER", re.findall(r"#define JPSTORE_VERSION_NUMBER (.*)", header),
              [str(first * 1000000 + second * 1000 + third)])
         for name, shape in (("clients/rust/Cargo.toml", '^version = "(.*)"'), ("clients/rust/serde_json/Cargo.toml", '^version = "(.*)"'),
-                            ("clients/python/jpstore/version.py", '"(.*)"$'), ("debian/changelog", r"\Ajpstore \((.*?)\)")):
+                            ("clients/python/jpstore/version.py", '^__version__ = "(.*)"$'), ("debian/changelog", r"\Ajpstore \((.*?)\)")):
             with open(os.path.join(TOP, name)) as file:
                 same(name, re.findall(shape, file.read(), re.M), [version])
         refusals = os.path.join(TOP, "crates", "refusals", "src")

@@ -29,7 +29,7 @@ import time
 
 HERE = pathlib.Path(__file__).resolve().parent
 sys.path.insert(0, str(HERE.parent / "gate"))
-from test_pages import README, session
+from test_pages import README, sessions
 
 PAGE = HERE.parent.parent / "docs" / "use" / "EMBEDDING.md"
 PACKAGES = ["jpstore", "libjpstore-dev", "libjpstore1", "librust-jpstore-dev", "python3-jpstore"]
@@ -100,6 +100,12 @@ def same(what, found, wanted):
         raise Failed(f"{what}: {str(found)[-1500:]!r}, and should be {str(wanted)[-1500:]!r}")
 
 
+def go_through_readme(said):
+    """Each block of README's session prints what the page shows."""
+    for words, output in sessions(README.read_text(encoding="utf-8")):
+        same("the session of README", said(words), output)
+
+
 def install_missing():
     missing = [package for command, package in WANTED.items() if not shutil.which(command)]
     if missing and os.geteuid() == 0:
@@ -138,8 +144,8 @@ class Files:
         top = self.unpacked.parent / "archive"
         top.mkdir()
         run(["tar", "-xf", next(self.dist.glob("*-x86_64-linux.tar.gz")), "-C", top, "--strip-components=1"])
-        words, output = session(README.read_text(encoding="utf-8"))
-        same("the session of README", run(["sh", "-ec", words], cwd=top, env={"PATH": f"{top}/bin:/usr/bin:/bin"}), output)
+        environment = {"PATH": f"{top}/bin:/usr/bin:/bin", "PYTHONPATH": f"{top}/share/jpstore/python", "PYTHONDONTWRITEBYTECODE": "1"}
+        go_through_readme(lambda words: run(["sh", "-ec", words], cwd=top, env=environment))
         for language, name in (("c", "main.c"), ("python", "main.py")):
             (top / name).write_text(programs()[language], encoding="utf-8")
         environment = {"PATH": "/usr/bin:/bin", "PKG_CONFIG_PATH": f"{top}/lib/pkgconfig", "LD_LIBRARY_PATH": f"{top}/lib",
@@ -275,11 +281,11 @@ class Packages:
         same("missing files", missing, [])
 
     def session_of_readme(self):
-        words, output = session(README.read_text(encoding="utf-8"))
-        same("the session", self.root.run(f"mkdir /root/demo; cd /root/demo; {words}"), output)
-        same("the Python client", self.root.run(f"cd /root/demo; python3 -c '{PYTHON}'"), "11\n")
-        same("the shell", self.root.run("cd /root/demo; echo 'cat shelf-1 /nuts' | python3 -m jpstore demo"), "11\n")
-        same("the command line", self.root.run("cd /root/demo; jpstore-cli get demo shelf-1 /nuts"), "11\n")
+        self.root.run("mkdir /root/demo")
+        go_through_readme(lambda words: self.root.run(f"cd /root/demo; {words}"))
+        same("the Python client", self.root.run(f"cd /root/demo; python3 -c '{PYTHON}'"), "10\n")
+        same("the shell", self.root.run("cd /root/demo; echo 'cat shelf-1 /nuts' | python3 -m jpstore demo"), "10\n")
+        same("the command line", self.root.run("cd /root/demo; jpstore-cli get demo shelf-1 /nuts"), "10\n")
 
     def program_in_c(self):
         self.root.write("root/c/main.c", programs()["c"])
@@ -397,9 +403,9 @@ class Unpacked:
         usr = self._root / "usr"
         environment = {**os.environ, "PATH": f"{usr}/bin:{os.environ['PATH']}", "PYTHONPATH": f"{usr}/lib/python3/dist-packages",
                        "LD_LIBRARY_PATH": f"{usr}/lib/x86_64-linux-gnu", "PYTHONDONTWRITEBYTECODE": "1"}
-        words, output = session(README.read_text(encoding="utf-8"))
-        for command, wanted in ((words, output), (f"python3 -c '{PYTHON}'", "11\n"), ("jpstore-cli get demo shelf-1 /nuts", "11\n")):
-            same(command[:40], run(["sh", "-ec", command], cwd=self._root, env=environment), wanted)
+        go_through_readme(lambda words: run(["sh", "-ec", words], cwd=self._root, env=environment))
+        for command in (f"python3 -c '{PYTHON}'", "jpstore-cli get demo shelf-1 /nuts"):
+            same(command[:40], run(["sh", "-ec", command], cwd=self._root, env=environment), "10\n")
 
 
 def tests_of(asked, folder):
