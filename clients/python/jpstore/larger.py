@@ -59,14 +59,15 @@ class Larger:
 
     def take(self) -> int:
         """Copies what the store has now, while nobody writes it; returns the number of its last change."""
-        with accessing(self._file):
-            found = committed_in(self._old)
+        # A buffer of its own: one that is left from an earlier time has what the file no longer says.
+        with accessing(self._file), open(os.dup(self._old.fileno()), "rb") as old:
+            found = committed_in(old)
             self._format = int.from_bytes(found.sector[8:12], "big")
             with contextlib.suppress(FileNotFoundError):
                 os.unlink(self._base)
             with create_private(self._base) as made:
                 self._give_rights(made)
-                _fill(made, self._old, found)
+                _fill(made, old, found)
         return found.seq
 
     def copy(self) -> None:

@@ -163,6 +163,10 @@ class Hub:
             return await asyncio.shield(self._growth)
         except (OSError, JpstoreError) as error:
             return refusal(NOT_GROWN, why=str(error))
+        except Exception as error:
+            # Whatever it is, the one who asked waits for a reply.
+            complain(f"a growth is broken off: {error!r}")
+            return refusal(NOT_GROWN, why=repr(error))
         finally:
             if self._growth is not None and self._growth.done():
                 self._growth = None
