@@ -38,7 +38,7 @@ absent_cut_at Less k l d ms ns is b rest = rw is rest
 absent_cut_at Equal k l d ms ns is b rest = absent k ms (before_tied k l ms is b)
 absent_cut_at Greater k l d ms ns is b rest = rw is rest
 
-absent_cut : (k : List ℕ) (ms : Members) → MembersAreSound ms → get_member k (cut k ms) ≡ None
+pub absent_cut : (k : List ℕ) (ms : Members) → MembersAreSound ms → get_member k (cut k ms) ≡ None
 absent_cut k no_members s = refl
 absent_cut k (member l d ms) s = absent_cut_at (slice_cmp nat_cmp k l) k l d ms (cut k ms) refl s.2 (absent_cut k ms s.3)
 
@@ -49,11 +49,11 @@ put_cut_at Less k l v c d ms ns is b h rest = let none = absent k ms (before_les
 put_cut_at Equal k l v c d ms ns is b h rest = put_first k v ms (before_tied k l ms is b) ∙ ap (λ (x : List ℕ). member x v ms) (tied k l is)
 put_cut_at Greater k l v c d ms ns is b h rest = rw is (ap (member l d) (rest h))
 
-put_cut : (k : List ℕ) (v c : Doc) (ms : Members) → MembersAreSound ms → get_member k ms ≡ Some c → put k v (cut k ms) ≡ set_member k v ms
+pub put_cut : (k : List ℕ) (v c : Doc) (ms : Members) → MembersAreSound ms → get_member k ms ≡ Some c → put k v (cut k ms) ≡ set_member k v ms
 put_cut k v c no_members s h = absurd (cc)
 put_cut k v c (member l d ms) s h = put_cut_at (slice_cmp nat_cmp k l) k l v c d ms (cut k ms) refl s.2 h (put_cut k v c ms s.3)
 
-removed_at : (i : ℕ) (v c : Doc) (ds : Elements) → get_element i ds ≡ Some c → (es : Elements) × (remove_element i ds ≡ Some es) × (suc (elements_len es) ≡ elements_len ds) × (insert_element i v es ≡ Some (set_element i v ds))
+pub removed_at : (i : ℕ) (v c : Doc) (ds : Elements) → get_element i ds ≡ Some c → (es : Elements) × (remove_element i ds ≡ Some es) × (suc (elements_len es) ≡ elements_len ds) × (insert_element i v es ≡ Some (set_element i v ds))
 removed_at i v c no_elements h = absurd (cc)
 removed_at zero v c (element d ds) h = (ds, refl, refl, refl)
 removed_at (suc i) v c (element d ds) h =

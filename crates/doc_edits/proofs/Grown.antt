@@ -9,13 +9,13 @@ use Rattle.doc_edits.specs.Size.{size, comma_beside, comma_beside_members}
 use Rattle.doc_pointer.specs.Place.{child_named}
 use Rattle.doc_edits.specs.Edit.{Token, Tokens, elements_len, index_below}
 use Rattle.doc_edits.proofs.Indices.{child_named-list}
-use Rattle.doc_edits.specs.Edit.{put_or_set, add_member, remove_member, replace_member, add_item, remove_item, replace_item, append_element, insert_element, remove_element, set_element, cut, set_member, with_child, dash}
+use Rattle.doc_edits.specs.Edit.{member_at, put_or_set, add_member, remove_member, replace_member, add_item, remove_item, replace_item, append_element, insert_element, remove_element, set_element, cut, set_member, with_child, dash}
 use Rattle.doc_edits.specs.Change.{Takes, value_at}
 use Rattle.doc_edits.specs.SizeChange.{Grows}
 use Rattle.doc_edits.specs.declared.change.Change.{Change}
-use Rattle.doc_edits.specs.declared.change.Change.TheVariants.{Add, Remove, Replace}
+use Rattle.doc_edits.specs.declared.change.Change.TheVariants.{Add, Remove, Replace, Return}
 use Rattle.doc_edits.specs.declared.change.Made.{Made}
-use Rattle.doc_edits.specs.declared.fault.OperationFault.{OperationFault}
+use Rattle.doc_edits.specs.declared.fault.Unmade.{Unmade}
 use Rattle.doc_edits.proofs.Sizes.{size-with_child, size-put, size-cut, size-inserted, size-appended, size-removed}
 use Rattle.doc_edits.proofs.Views.{Entry}
 
@@ -23,21 +23,23 @@ grown_by : (c : Change) (m : Made) (a b x y : ℕ) → y + a ≡ x + b → a ≤
 grown_by (Add v) m a b x y e low h = (h.0, h.1, omega (arith, h.2), omega (arith, h.3))
 grown_by Remove m a b x y e low h = (h.0, h.1, omega (arith, h.2))
 grown_by (Replace v) m a b x y e low h = (omega (arith, h.0), omega (arith, h.1))
+grown_by (Return name spare v) m a b x y e low h = tt
 
 pub stepped_sized : (c : Change) (t : Token) (d child new after : Doc) → child_named t d ≡ Some child → after ≡ with_child t new d
-    → (r : Result Made OperationFault) → IfOk r (λ m. Grows c m (size child) (size new)) → IfOk r (λ m. Grows c m (size d) (size after))
+    → (r : Result Made Unmade) → IfOk r (λ m. Grows c m (size child) (size new)) → IfOk r (λ m. Grows c m (size d) (size after))
 stepped_sized c t d child new after e w (Ok m) h =
     let s = size-with_child t new d child e in
     let sum : size after + size child ≡ size d + size new = ap (λ (x : Doc). size x + size child) w ∙ s.0 in
     grown_by c m (size child) (size new) (size d) (size after) sum (s.1) h
 stepped_sized c t d child new after e w (Err f) h = tt
 
--- what a removal deep inside takes is what stood there
+-- what a change deep inside takes is what stood there
 pub stepped_taken : (c : Change) (t u : Token) (us ts : Tokens) (d child : Doc) → ts ≡ u ∷ us → child_named t d ≡ Some child
-    → (r : Result Made OperationFault) → IfOk r (λ m. Takes c u us child m.old) → IfOk r (λ m. Takes c t ts d m.old)
-stepped_taken (Add v) t u us ts d child same e (Ok m) h = tt
+    → (r : Result Made Unmade) → IfOk r (λ m. Takes c u us child m.old) → IfOk r (λ m. Takes c t ts d m.old)
+stepped_taken (Add v) t u us ts d child same e (Ok m) h = h ∙ sym (ap (λ (x : Tokens). member_at t x d) same ∙ ap (option_and_then (member_at u us)) e)
 stepped_taken Remove t u us ts d child same e (Ok m) h = h ∙ sym (ap (λ (x : Tokens). value_at t x d) same ∙ ap (option_and_then (value_at u us)) e)
-stepped_taken (Replace v) t u us ts d child same e (Ok m) h = tt
+stepped_taken (Replace v) t u us ts d child same e (Ok m) h = h ∙ sym (ap (λ (x : Tokens). value_at t x d) same ∙ ap (option_and_then (value_at u us)) e)
+stepped_taken (Return name spare v) t u us ts d child same e (Ok m) h = tt
 stepped_taken c t u us ts d child same e (Err f) h = tt
 
 -- ---- members

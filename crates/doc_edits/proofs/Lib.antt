@@ -18,3 +18,6 @@ pub mod OperationGrowths
 pub mod Knowing
 pub mod Performed
 pub mod TakenBack
+pub mod Rooms
+pub mod Returned
+pub mod Restored

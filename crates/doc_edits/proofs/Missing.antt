@@ -3,6 +3,8 @@ use Rattle.std.proofs.Common.{◌≡◌, ℕ, Option, None, Result, Ok, Err, IsE
 use Rattle.std.specs.Prelude.{ok_or}
 use Rattle.doc_edits.specs.OperationFault.{IsMissing}
 use Rattle.doc_edits.specs.declared.fault.OperationFault.{OperationFault}
+use Rattle.doc_edits.specs.declared.fault.Unmade.{Unmade}
+use Rattle.doc_edits.specs.declared.fault.TheConstants.{MISSING}
 use Rattle.refusals.specs.declared.numbers.TheConstants.{PATCH_MISSING}
 
 -- an error that `?` hands on as it is
@@ -19,3 +21,7 @@ pub missed : {A B C : Type 0} (r : Result B OperationFault) (e m : OperationFaul
     → made ≡ None → IsErrAnd r (λ d. d ≡ e) → MatchResult r P (IsMissing made)
 unfolding number_of
 missed r e m o made P is none missing gone h = refused_same r e P (IsMissing made) (inl (ap number_of is ∙ ap (λ p. number_of (ok_or p m)) none ∙ missing, gone)) h
+
+-- what wasn't made since its place isn't there
+pub as_missing : {A : Type 0} (u : Unmade) (made : Option A) → u.fault ≡ MISSING → made ≡ None → IsMissing made u.fault
+as_missing u made is none = inl (ap (λ (f : OperationFault). f.number) is, none)

@@ -31,7 +31,7 @@ inserted_at (suc i) v (element d ds) es h =
     let r = inserted_at i v ds m.0 m.1 in
     rw (m.2) (ap (λ n. suc n) r.0, r.1)
 
-item_there : (o : Option ℕ) (t : Token) (v : Doc) (ds es : Elements) → index_below (suc (elements_len ds)) t ≡ o → option_and_then (λ i. insert_element i v ds) o ≡ Some es → child_named t (list es) ≡ Some v
+pub item_there : (o : Option ℕ) (t : Token) (v : Doc) (ds es : Elements) → index_below (suc (elements_len ds)) t ≡ o → option_and_then (λ i. insert_element i v ds) o ≡ Some es → child_named t (list es) ≡ Some v
 item_there None t v ds es at h = absurd (cc)
 item_there (Some i) t v ds es at h =
     let r = inserted_at i v ds es h in
@@ -41,7 +41,7 @@ added_item : (b : Bool) (t : Token) (v : Doc) (ds es : Elements) → b ≡ false
 added_item true t v ds es plain h = absurd (true≢false plain)
 added_item false t v ds es plain h = item_there (index_below (suc (elements_len ds)) t) t v ds es refl h
 
-member_there : (o : Option Doc) (t : Token) (v : Doc) (ms : Members) → get_member t ms ≡ o → get_member t (put_or_set o v t ms) ≡ Some v
+pub member_there : (o : Option Doc) (t : Token) (v : Doc) (ms : Members) → get_member t ms ≡ o → get_member t (put_or_set o v t ms) ≡ Some v
 member_there None t v ms h = get_put t v ms
 member_there (Some c) t v ms h = get_set t v c ms h
 
@@ -54,7 +54,7 @@ add_here_there v t (list ds) e plain h =
     rw (m.2) (added_item (bytes_eq t dash) t v ds m.0 plain m.1)
 add_here_there v t _ e plain h = absurd (cc)
 
-one_step : (k : Token) (d v : Doc) → child_named k d ≡ Some v → resolve (k ∷ []) d ≡ Some v
+pub one_step : (k : Token) (d v : Doc) → child_named k d ≡ Some v → resolve (k ∷ []) d ≡ Some v
 one_step k d v h = ap (option_and_then (resolve [])) h
 
 added_at_last : (v : Doc) (t : Token) (ts : Tokens) (d e : Doc) → ends_in_dash (t ∷ ts) ≡ false → at_last (add_here v) t ts d ≡ Some e → resolve (t ∷ ts) e ≡ Some v

@@ -1,5 +1,5 @@
 -- A child written over by itself changes nothing.
-use Rattle.std.proofs.Common.{◌≡◌, ℕ, zero, suc, List, Option, Some, None, option_and_then, Ordering, Less, Equal, Greater, Result, Ok, Err, OnErr, nat_cmp, String, Global, refl, sym, ap, ◌∙◌}
+use Rattle.std.proofs.Common.{◌≡◌, ℕ, zero, suc, List, Option, Some, None, option_and_then, Ordering, Less, Equal, Greater, Result, Ok, Err, OnErr, nat_cmp, refl, sym, ap, ◌∙◌}
 use Rattle.std.specs.Cmp.Lexicographic.{slice_cmp}
 use Rattle.std.specs.Ordering.{match_ordering}
 use Rattle.doc_tree.specs.Doc.{Doc, list, object, Elements, no_elements, element, Members, no_members, member, get_member, get_element}
@@ -10,7 +10,6 @@ use Rattle.doc_tree.proofs.Views.{view-Object}
 use Rattle.doc_pointer.specs.Place.{child_named}
 use Rattle.doc_edits.specs.Edit.{Token, elements_len, index_below, set_element, set_member, with_child, set_at}
 use Rattle.doc_edits.proofs.Indices.{child_named-list}
-use Rattle.doc_edits.specs.declared.fault.OperationFault.{OperationFault}
 use Rattle.name_map.specs.Entries.{Entries}
 
 set_same_at : (o : Ordering) (l : List ℕ) (c d : Doc) (g : Option Doc) (ms ns : Members) → match_ordering o g (Some d) g ≡ Some c → (g ≡ Some c → ns ≡ ms) → match_ordering o (member l d ns) (member l c ms) (member l d ns) ≡ member l d ms
@@ -37,7 +36,7 @@ child_same t c (list ds) h = ap list (set_at_same (index_below (elements_len ds)
 child_same t c _ h = refl
 
 -- a child that stays leaves its parent as it is
-pub stepped_unchanged : {A : Type 0} (t : Token) (d child new after : Doc) → child_named t d ≡ Some child → after ≡ with_child t new d → (r : Result A OperationFault) → OnErr r (new ≡ child) → OnErr r (after ≡ d)
+pub stepped_unchanged : {A E : Type 0} (t : Token) (d child new after : Doc) → child_named t d ≡ Some child → after ≡ with_child t new d → (r : Result A E) → OnErr r (new ≡ child) → OnErr r (after ≡ d)
 stepped_unchanged t d child new after found written (Ok a) h = tt
 stepped_unchanged t d child new after found written (Err e) h = written ∙ ap (λ x. with_child t x d) h ∙ child_same t child d found
 

@@ -14,7 +14,7 @@ use Rattle.doc_edits.specs.Change.{tokens_of}
 use Rattle.doc_edits.specs.Edit.{Token, Tokens, elements_len, index_below}
 use Rattle.doc_edits.proofs.Indices.{child_named-list, index_in}
 use Rattle.doc_edits.proofs.Views.{members_view-set_value, elements_view-set}
-use Rattle.doc_edits.specs.declared.fault.OperationFault.{OperationFault}
+use Rattle.doc_edits.specs.declared.fault.Unmade.{Unmade}
 use Rattle.name_map.specs.Entries.{Entries}
 
 abbrev pub Does : Type 0
@@ -33,10 +33,10 @@ pub missing : (f : Does) (t u : Token) (us ts : Tokens) (d : Doc) → ts ≡ u �
 missing f t u us ts d same e = ap (λ (x : Tokens). at_last f t x d) same ∙ missing_by f t u us d e
 
 pub stepped : {A : Type 0} (f : Does) (t u : Token) (us ts : Tokens) (d child new after : Doc) → ts ≡ u ∷ us → child_named t d ≡ Some child → after ≡ with_child t new d
-    → (r : Result A OperationFault) → MatchResult r (λ _. at_last f u us child ≡ Some new) (IsMissing (at_last f u us child)) → MatchResult r (λ _. at_last f t ts d ≡ Some after) (IsMissing (at_last f t ts d))
+    → (r : Result A Unmade) → MatchResult r (λ _. at_last f u us child ≡ Some new) (λ e. IsMissing (at_last f u us child) e.fault) → MatchResult r (λ _. at_last f t ts d ≡ Some after) (λ e. IsMissing (at_last f t ts d) e.fault)
 stepped f t u us ts d child new after same e w (Ok a) h = ap (λ (x : Tokens). at_last f t x d) same ∙ some_by f t u us d child new e h ∙ ap Some (sym w)
-stepped f t u us ts d child new after same e w (Err fault) (inl none) = inl (none.0, ap (λ (x : Tokens). at_last f t x d) same ∙ none_by f t u us d child e none.1)
-stepped f t u us ts d child new after same e w (Err fault) (inr memory) = inr memory
+stepped f t u us ts d child new after same e w (Err unmade) (inl none) = inl (none.0, ap (λ (x : Tokens). at_last f t x d) same ∙ none_by f t u us d child e none.1)
+stepped f t u us ts d child new after same e w (Err unmade) (inr memory) = inr memory
 
 -- ---- what the parent is
 

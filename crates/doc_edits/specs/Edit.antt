@@ -97,6 +97,12 @@ abbrev pub at_last : (Token → Doc → Option Doc) → Token → Tokens → Doc
 at_last f t [] d = f t d
 at_last f t (u ∷ us) d = in_child t (at_last f u us) d
 
+-- the member that an addition replaces
+abbrev pub member_at : Token → Tokens → Doc → Option Doc
+member_at t [] (object ms) = get_member t ms
+member_at t [] d = None
+member_at t (u ∷ us) d = option_and_then (member_at u us) (child_named t d)
+
 -- ---- in the object or array that holds the place
 
 -- members as f makes them, or elements as g does; what is neither holds nothing

@@ -1,59 +1,53 @@
--- The part of a document that is kept before an operation changes it, and takes the operation back.
-use Rattle.std.specs.Prelude.{◌≡◌, ℕ, [], ◌∷◌, Bool, true, false, if◌then◌else◌, Option, Some, None, option_and_then}
+-- Places and room that are kept before an operation changes a document, to take it back.
+use Rattle.std.specs.Prelude.{◌≡◌, ℕ, [], ◌∷◌, if◌then◌else◌, Option, Some, None, option_and_then, option_map, string_bytes}
 use Rattle.std.specs.Str.{bytes_eq}
-use Rattle.doc_tree.specs.Doc.{Doc, list, object, get_member}
-use Rattle.doc_tree.specs.TreeView.{view}
-use Rattle.doc_pointer.specs.Place.{child_named}
-use Rattle.doc_edits.specs.Back.{step_back, step_of}
+use Rattle.doc_tree.specs.Doc.{Doc, list}
+use Rattle.doc_pointer.specs.Place.{child_named, resolve}
+use Rattle.doc_edits.specs.Back.{Step, exchange, exchanged, put_in, return_to, step_back, step_of}
+use Rattle.doc_edits.specs.Edit as edit
 use Rattle.doc_edits.specs.Edit.{Token, Tokens, elements_len, dash}
-use Rattle.doc_edits.specs.Operation.{Operation, add, remove, replace, move, copy, test}
+use Rattle.doc_edits.specs.Change.{tokens_of}
+use Rattle.doc_edits.specs.Operation.{replaced}
 use Rattle.doc_edits.specs.declared.back.Back.{Back}
-use Rattle.doc_edits.specs.declared.keeping.Met.{Met}
-use Rattle.doc_edits.specs.declared.keeping.Met.TheVariants as met
+use Rattle.doc_edits.specs.declared.back.Origin.{Origin}
+use Rattle.doc_edits.specs.declared.kept.Ready.{Ready}
+use Rattle.doc_edits.specs.declared.kept.Ready.TheVariants as ready
 
--- what an addition meets: a member that it replaces, a free place, or the end of a number of elements
-pub data Meeting : Type 0 where
-  over : Doc → Meeting
-  free : Meeting
-  end : ℕ → Meeting
-
--- a member that is there is replaced
-abbrev pub met_member : Option Doc → Meeting
-met_member None = free
-met_member (Some d) = over d
-
--- in the object or array that holds the place
-abbrev pub meeting_here : Token → Doc → Option Meeting
-meeting_here t (object ms) = Some (met_member (get_member t ms))
-meeting_here t (list ds) = Some (if bytes_eq t dash then end (elements_len ds) else free)
-meeting_here t _ = None
-
--- at the place
-abbrev pub meeting : Token → Tokens → Doc → Option Meeting
-meeting t [] d = meeting_here t d
-meeting t (u ∷ us) d = option_and_then (meeting u us) (child_named t d)
-
--- what the code's value holds
-abbrev pub meeting_of : Met → Meeting
-meeting_of (met.Value tree) = over (view tree.now)
-meeting_of met.Nothing = free
-meeting_of (met.End len) = end len
+-- how many elements the array has at whose end the place is, if its last token is `-` (RFC 6901, section 4)
+abbrev pub end_at : Token → Tokens → Doc → Option ℕ
+end_at t [] (list ds) = if bytes_eq t dash then Some (elements_len ds) else None
+end_at t [] d = None
+end_at t (u ∷ us) d = option_and_then (end_at u us) (child_named t d)
 
 -- the tokens with another one in place of the last
 abbrev pub with_last : Token → Token → Tokens → Tokens
 with_last k t [] = k ∷ []
 with_last k t (u ∷ us) = t ∷ with_last k u us
 
--- the step takes e back to d; if nothing is kept, e is d
-abbrev pub TakesBack : Option Back → Doc → Doc → Type 0
-TakesBack None d e = e ≡ d
-TakesBack (Some b) d e = step_back (step_of b) e ≡ Some d
+-- the last token
+abbrev pub last_of : Token → Tokens → Token
+last_of t [] = t
+last_of t (u ∷ us) = last_of u us
 
--- a removal and a move take a value from its place
-abbrev pub takes : Operation → Bool
-takes (add path v) = false
-takes (remove path) = true
-takes (replace path v) = false
-takes (move from path) = true
-takes (copy from path) = false
-takes (test path v) = false
+-- an addition at the place puts its value at `back`, and is taken back there
+abbrev pub LeadsBack : Tokens → Tokens → Doc → Type 0
+LeadsBack back path d = (v e : Doc) → edit.add path v d ≡ Some e → (resolve back e ≡ Some v) × (exchanged back (replaced path d) e ≡ Some d)
+
+-- the value that goes from the place comes back to it
+abbrev pub IsOriginOf : Origin → Tokens → Doc → Type 0
+IsOriginOf o path d = (v e : Doc) → resolve path d ≡ Some v → edit.remove path d ≡ Some e → return_to (tokens_of o.path.items) (string_bytes o.name) o.spare v e ≡ Some d
+
+-- the step takes e back to d; if there is none, e is d
+abbrev pub Restores : Option Step → Doc → Doc → Type 0
+Restores None d e = e ≡ d
+Restores (Some s) d e = step_back s e ≡ Some d
+
+-- the same of what is kept
+abbrev pub TakesBack : Option Back → Doc → Doc → Type 0
+TakesBack b d e = Restores (option_map step_of b) d e
+
+-- the step that what was made ready becomes with the value that went
+abbrev pub step_with : Ready → Option Doc → Option Step
+step_with ready.Nothing old = None
+step_with (ready.Place path) old = Some (exchange (tokens_of path.items) old)
+step_with (ready.Origin o) old = option_map (put_in (tokens_of o.path.items) (string_bytes o.name) o.spare) old

@@ -1,6 +1,7 @@
 pub mod Edit
 pub mod Size
 pub mod Limits
+pub mod Spare
 pub mod Change
 pub mod OperationFault
 pub mod SizeChange

@@ -1,5 +1,5 @@
 -- The document that an operation makes of another (RFC 6902, section 4).
-use Rattle.std.specs.Prelude.{ℕ, [], ◌∷◌, Option, Some, None, Result, Ok, Err, if◌then◌else◌}
+use Rattle.std.specs.Prelude.{ℕ, [], ◌∷◌, Bool, true, false, Option, Some, None, Result, Ok, Err, if◌then◌else◌}
 use Rattle.std.specs.Cmp.Lexicographic.{pointwise}
 use Rattle.std.specs.Str.{bytes_eq}
 use Rattle.doc_tree.specs.Doc.{Doc}
@@ -7,7 +7,7 @@ use Rattle.doc_tree.specs.Same.{same}
 use Rattle.doc_pointer.specs.Place.{resolve}
 pub use Rattle.doc_edits.specs.Limits.{within_limits}
 use Rattle.doc_edits.specs.Edit as edit
-use Rattle.doc_edits.specs.Edit.{Tokens}
+use Rattle.doc_edits.specs.Edit.{Tokens, member_at}
 use Rattle.refusals.specs.declared.numbers.TheConstants.{PATCH_MISSING, PATCH_TEST, PATCH_ROOT}
 
 -- an operation with its pointers read; `move` and `copy` have `from` first, then `path`
@@ -44,6 +44,29 @@ change (replace path v) d = or_missing (edit.replace path v d)
 change (move from path) d = and_then (or_missing (resolve from d)) (moved from path d)
 change (copy from path) d = and_then (or_missing (resolve from d)) (λ v. or_missing (edit.add path v d))
 change (test path v) d = and_then (or_missing (resolve path d)) (λ e. if same e v then Ok d else Err PATCH_TEST)
+
+-- the member that an addition replaces
+abbrev pub replaced : Tokens → Doc → Option Doc
+replaced [] d = Some d
+replaced (t ∷ ts) d = member_at t ts d
+
+-- what an operation that is no move takes from the document, if it is made: a value that goes, or is replaced
+abbrev pub gone : Operation → Doc → Option Doc
+gone (add path v) d = replaced path d
+gone (remove path) d = resolve path d
+gone (replace path v) d = resolve path d
+gone (move from path) d = None
+gone (copy from path) d = replaced path d
+gone (test path v) d = None
+
+-- the operation is a move
+abbrev pub moves : Operation → Bool
+moves (add path v) = false
+moves (remove path) = false
+moves (replace path v) = false
+moves (move from path) = true
+moves (copy from path) = false
+moves (test path v) = false
 
 -- what the operation makes of the document, if that is within the limits
 abbrev pub op : Operation → Doc → Result Doc ℕ

@@ -1,5 +1,5 @@
 -- The growth of a document: how its height and the length of its text change.
-use Rattle.std.specs.Prelude.{◌≡◌, ℕ, ◌+◌, ◌<◌, ◌≤◌, max, min, Option, Some, None, MatchOption, Result, Ok, MatchResult}
+use Rattle.std.specs.Prelude.{◌≡◌, ℕ, ◌+◌, ◌<◌, ◌≤◌, max, min, Option, Some, None, MatchOption, Result, Ok, MatchResult, ⊤}
 use Rattle.std.specs.Option.{ForSome}
 use Rattle.doc_tree.specs.Doc.{Doc, height}
 use Rattle.doc_tree.specs.TreeView.{view}
@@ -10,7 +10,7 @@ use Rattle.doc_edits.specs.OperationFault.{IsOperationFaultOf}
 use Rattle.doc_edits.specs.declared.fault.OperationFault.{OperationFault}
 use Rattle.doc_edits.specs.Size.{size}
 use Rattle.doc_edits.specs.declared.change.Change.{Change}
-use Rattle.doc_edits.specs.declared.change.Change.TheVariants.{Add, Remove, Replace}
+use Rattle.doc_edits.specs.declared.change.Change.TheVariants.{Add, Remove, Replace, Return}
 use Rattle.doc_edits.specs.declared.change.Made.{Made}
 use Rattle.doc_edits.specs.declared.size_change.KnownSize.{KnownSize}
 use Rattle.doc_edits.specs.declared.size_change.SizeChange.{SizeChange}
@@ -55,6 +55,7 @@ abbrev pub Grows : Change → Made → ℕ → ℕ → Type 0
 Grows (Add v) made m n =
     (j : ℕ) × IsBytes made.beside j × (n + old_size made.old ≡ m + size (view v) + j) × (old_size made.old ≤ m)
 Grows Remove made m n = (j : ℕ) × IsBytes made.beside j × (n + old_size made.old + j ≡ m)
+Grows (Return name spare v) made m n = ⊤
 Grows (Replace v) made m n = (n + old_size made.old ≡ m + size (view v)) × (old_size made.old ≤ m)
 
 -- ---- one operation, from document d to e

@@ -1,15 +1,16 @@
 //! A change made in place, on a walk to its place with one reference for writing.
 
-ghost use Rattle.std.specs.Prelude.{◌≡◌, [], Some, IfErr, IfOk, MatchResult, OnErr};
-ghost use Rattle.doc_edits.specs.Change.{Fails, Takes, here, tokens_of};
+ghost use Rattle.std.specs.Prelude.{◌≡◌, [], Some, IfErr, IfOk, MatchResult, OnErr, option_map};
+ghost use Rattle.doc_edits.specs.Change.{Fails, Takes, here, tokens_of, value_of};
 ghost use Rattle.doc_edits.specs.Edit.{at_last};
 ghost use Rattle.doc_edits.specs.SizeChange.{Grows};
 ghost use Rattle.doc_edits.specs.Size.{size};
 ghost use Rattle.doc_edits.specs.OperationFault.{IsMissing};
 ghost use Rattle.doc_tree.specs.TreeView.{view};
 
-use crate::fault::{MISSING, OperationFault};
+use crate::fault::{MISSING, Unmade};
 use crate::index::index_within;
+use crate::spare::Spare;
 use crate::{elements, members};
 use doc_tree::Tree;
 use std::alloc::Global;
@@ -23,6 +24,12 @@ pub enum Change {
     Remove,
     /// The value replaces the one there (section 4.3).
     Replace(Tree),
+    /// The value comes back to where it was, in the room that was kept for it, if it is a member under that name.
+    Return {
+        name: String,
+        spare: Spare,
+        value: Tree,
+    },
 }
 
 /// What a change took from the document, and what came or went beside its value.
@@ -45,14 +52,15 @@ pub fn change_at(
     token: &str,
     rest: &[String],
     change: Change,
-) -> Result<Made, OperationFault>
+) -> Result<Made, Unmade>
     ensures made { let made = at_last (here change) token.now (tokens_of rest.now) (view tree.old) in
-        MatchResult result (λ _. made ≡ Some (view tree.new)) (IsMissing made) }
+        MatchResult result (λ _. made ≡ Some (view tree.new)) (λ e. IsMissing made e.fault) }
     ensures taken { IfOk result (λ m.
         Takes change token.now (tokens_of rest.now) (view tree.old) m.old) }
     ensures sized { IfOk result (λ m. Grows change m (size (view tree.old)) (size (view tree.new))) }
     ensures unchanged { OnErr result (view tree.new ≡ view tree.old) }
-    ensures sure { IfErr result (Fails change) }
+    ensures sure { IfErr result (λ e. Fails change e.fault) }
+    ensures returned { IfErr result (λ e. option_map view e.value ≡ value_of change) }
 {
     let [next, others @ ..] = rest else {
         return change_here(alloc, tree, token, change);
@@ -60,45 +68,64 @@ pub fn change_at(
     if let Some(members) = tree.as_object_mut() {
         match members.get_mut(token) {
             Some(child) => change_at(alloc, child, next.as_str(), others, change),
-            None => Err(MISSING),
+            None => Err(unmade(change)),
         }
     } else if let Some(items) = tree.as_list_mut() {
         match index_within(token, items.len() as u64) {
             Some(index) => change_at(alloc, &mut items[index], next.as_str(), others, change),
-            None => Err(MISSING),
+            None => Err(unmade(change)),
         }
     } else {
-        Err(MISSING)
+        Err(unmade(change))
     }
 }
 
 // The change in the object or array that holds the place.
-fn change_here(
-    alloc: Global,
-    tree: &mut Tree,
-    token: &str,
-    change: Change,
-) -> Result<Made, OperationFault>
+fn change_here(alloc: Global, tree: &mut Tree, token: &str, change: Change) -> Result<Made, Unmade>
     ensures made { let made = here change token.now (view tree.old) in
-        MatchResult result (λ _. made ≡ Some (view tree.new)) (IsMissing made) }
+        MatchResult result (λ _. made ≡ Some (view tree.new)) (λ e. IsMissing made e.fault) }
     ensures taken { IfOk result (λ m. Takes change token.now [] (view tree.old) m.old) }
     ensures sized { IfOk result (λ m. Grows change m (size (view tree.old)) (size (view tree.new))) }
     ensures unchanged { OnErr result (view tree.new ≡ view tree.old) }
-    ensures sure { IfErr result (Fails change) }
+    ensures sure { IfErr result (λ e. Fails change e.fault) }
+    ensures returned { IfErr result (λ e. option_map view e.value ≡ value_of change) }
 {
     if let Some(members) = tree.as_object_mut() {
         match change {
             Change::Add(value) => members::add(alloc, members, token, value),
             Change::Remove => members::remove(members, token),
             Change::Replace(value) => members::replace(members, token, value),
+            Change::Return { name, spare, value } => members::put_in(members, name, spare, value),
         }
     } else if let Some(items) = tree.as_list_mut() {
         match change {
             Change::Add(value) => elements::add(items, token, value),
             Change::Remove => elements::remove(items, token),
             Change::Replace(value) => elements::replace(items, token, value),
+            Change::Return {
+                name: _name,
+                spare,
+                value,
+            } => elements::put_in(items, token, spare, value),
         }
     } else {
-        Err(MISSING)
+        Err(unmade(change))
+    }
+}
+
+// The change isn't made, since its place isn't there.
+fn unmade(change: Change) -> Unmade
+    ensures fault { result.fault ≡ MISSING }
+    ensures value { option_map view result.value ≡ value_of change }
+{
+    match change {
+        Change::Add(value) => Unmade::of(MISSING, value),
+        Change::Remove => Unmade::nothing(),
+        Change::Replace(value) => Unmade::of(MISSING, value),
+        Change::Return {
+            name: _name,
+            spare: _spare,
+            value,
+        } => Unmade::of(MISSING, value),
     }
 }

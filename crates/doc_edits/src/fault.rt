@@ -1,5 +1,9 @@
 //! The refusal of an edit.
 
+ghost use Rattle.std.specs.Prelude.{◌≡◌, None, Some};
+ghost use Rattle.doc_edits.specs.declared.fault.TheConstants.{MISSING};
+
+use doc_tree::Tree;
 use refusals::numbers::{MEMORY, PATCH_MISSING};
 use std::alloc::{AllocError, AllocFailed};
 
@@ -10,10 +14,46 @@ pub struct OperationFault {
     pub number: u16,
 }
 
+/// A change that wasn't made, with the value that it would have put at the place.
+#[derive(Drop)]
+pub struct Unmade {
+    /// Why.
+    pub fault: OperationFault,
+    /// The value, unless the change was a removal.
+    pub value: Option<Tree>,
+}
+
 /// A place that the operation needs isn't there.
 pub const MISSING: OperationFault = OperationFault {
     number: PATCH_MISSING,
 };
+
+/// There was no memory.
+pub const NO_MEMORY: OperationFault = OperationFault { number: MEMORY };
+
+impl Unmade {
+    /// With the value that would have been put at the place.
+    pub(crate) fn of(fault: OperationFault, value: Tree) -> Unmade
+        ensures fault { result.fault ≡ fault }
+        ensures value { result.value ≡ Some value }
+    {
+        Unmade {
+            fault,
+            value: Some(value),
+        }
+    }
+
+    /// A removal of what isn't there.
+    pub(crate) fn nothing() -> Unmade
+        ensures fault { result.fault ≡ MISSING }
+        ensures value { result.value ≡ None }
+    {
+        Unmade {
+            fault: MISSING,
+            value: None,
+        }
+    }
+}
 
 impl From<AllocError> for OperationFault {
     ghost use Rattle.std.specs.Prelude.{◌≡◌};
@@ -34,5 +74,44 @@ impl<T: Drop> From<AllocFailed<T>> for OperationFault {
 
     fn from(_refused: AllocFailed<T>) -> OperationFault {
         OperationFault { number: MEMORY }
+    }
+}
+
+impl From<AllocFailed<Tree>> for Unmade {
+    ghost use Rattle.std.specs.Prelude.{◌≡◌, Some};
+    ghost use Rattle.doc_edits.specs.declared.fault.TheConstants.{NO_MEMORY};
+
+    ghost from_gives = { λ refused unmade. unmade ≡ record { fault = NO_MEMORY; value = Some refused.value } };
+
+    fn from(refused: AllocFailed<Tree>) -> Unmade {
+        Unmade {
+            fault: NO_MEMORY,
+            value: Some(refused.value),
+        }
+    }
+}
+
+impl From<AllocFailed<(String, Tree)>> for Unmade {
+    ghost use Rattle.std.specs.Prelude.{◌≡◌, Some};
+    ghost use Rattle.doc_edits.specs.declared.fault.TheConstants.{NO_MEMORY};
+
+    ghost from_gives = { λ refused unmade. unmade ≡ record { fault = NO_MEMORY; value = Some refused.value.1 } };
+
+    fn from(refused: AllocFailed<(String, Tree)>) -> Unmade {
+        let (_name, value) = refused.value;
+        Unmade {
+            fault: NO_MEMORY,
+            value: Some(value),
+        }
+    }
+}
+
+impl From<Unmade> for OperationFault {
+    ghost use Rattle.std.specs.Prelude.{◌≡◌};
+
+    ghost from_gives = { λ unmade e. e ≡ unmade.fault };
+
+    fn from(unmade: Unmade) -> OperationFault {
+        unmade.fault
     }
 }

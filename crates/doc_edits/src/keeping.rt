@@ -1,135 +1,103 @@
-//! The part of a document that is kept before an operation changes it in place.
+//! The places that are kept before an operation changes a document in place.
 
-ghost use Rattle.std.specs.Prelude.{◌≡◌, ◌<◌, ◌^◌, Ok, Some, IfOk, decimal, option_map};
+ghost use Rattle.std.specs.Prelude.{◌≡◌, ◌<◌, ◌^◌, None, Some, IfOk, MatchOption, [], decimal, string_bytes};
 ghost use Rattle.doc_edits.specs.Change.{tokens_of};
 ghost use Rattle.doc_edits.specs.Edit as edit;
-ghost use Rattle.doc_edits.specs.Keeping.{TakesBack, meeting, meeting_here, meeting_of, with_last};
-ghost use Rattle.doc_edits.specs.Meaning.{meaning};
-ghost use Rattle.doc_edits.specs.Operation.{change};
+ghost use Rattle.doc_edits.specs.Keeping.{IsOriginOf, LeadsBack, TakesBack, end_at, last_of, with_last};
 ghost use Rattle.doc_tree.specs.Doc.{Doc};
+ghost use Rattle.doc_tree.specs.Sound.{IsSound};
 ghost use Rattle.doc_tree.specs.TreeView.{view};
 
-use crate::back::Back;
-use crate::operation::Operation;
-use doc_pointer::{Pointer, child_at};
+use crate::back::{Back, Origin};
+use crate::spare::spare_at;
+use doc_pointer::child_at;
 use doc_tree::Tree;
 use std::alloc::{AllocError, Global};
-
-/// What an addition meets at its place.
-#[derive(Clone, Copy)]
-pub enum Met<'t> {
-    /// A member, which it replaces.
-    Value(&'t Tree),
-    /// Nothing that it replaces.
-    Nothing,
-    /// The end of an array with this number of elements, named by `-`.
-    End(u64),
-}
-
-/// What takes the operation back, if it is made. `None` if it changes nothing, or can't be made.
-pub fn back_of(
-    alloc: Global,
-    tree: &Tree,
-    operation: &Operation,
-) -> Result<Option<Back>, AllocError>
-    ensures { IfOk result (λ back. (e : Doc) → change (meaning operation.now) (view tree.now) ≡ Ok e
-        → TakesBack back (view tree.now) e) }
-{
-    match operation {
-        Operation::Add { path, .. } => back_of_addition(alloc, tree, path.tokens()),
-        Operation::Copy { path, .. } => back_of_addition(alloc, tree, path.tokens()),
-        Operation::Replace { path, .. } => back_of_replacement(alloc, tree, path),
-        Operation::Remove { .. } => Ok(Some(whole(alloc, tree)?)),
-        Operation::Move { .. } => Ok(Some(whole(alloc, tree)?)),
-        Operation::Test { .. } => Ok(None),
-    }
-}
 
 /// The whole document as it is, to be put back.
 pub fn whole(alloc: Global, tree: &Tree) -> Result<Back, AllocError>
     ensures { IfOk result (λ back. (e : Doc) → TakesBack (Some back) (view tree.now) e) }
 {
-    Ok(Back::PutBack {
+    Ok(Back::Exchange {
         path: Vec::new(alloc),
-        value: tree.copy(alloc)?,
+        old: Some(tree.copy(alloc)?),
     })
 }
 
-// What takes a replacement at the place back.
-fn back_of_replacement(
-    alloc: Global,
-    tree: &Tree,
-    path: &Pointer,
-) -> Result<Option<Back>, AllocError>
-    ensures { IfOk result (λ back. (v e : Doc) → edit.replace path.now v (view tree.now) ≡ Some e
-        → TakesBack back (view tree.now) e) }
-{
-    match path.resolve(tree) {
-        Some(old) => {
-            let path = copy_path(alloc, path.tokens())?;
-            let value = old.copy(alloc)?;
-            Ok(Some(Back::PutBack { path, value }))
-        }
-        None => Ok(None),
-    }
-}
-
-// What takes an addition at the place back.
-fn back_of_addition(alloc: Global, tree: &Tree, path: &[String]) -> Result<Option<Back>, AllocError>
-    ensures { IfOk result (λ back. (v e : Doc) → edit.add (tokens_of path.now) v (view tree.now) ≡ Some e
-        → TakesBack back (view tree.now) e) }
+/// The place with room by which what goes from there comes back; `None` if nothing can go from there.
+pub fn origin_of(alloc: Global, tree: &Tree, path: &[String]) -> Result<Option<Origin>, AllocError>
+    ensures { IfOk result (λ found. MatchOption found
+        (edit.remove (tokens_of path.now) (view tree.now) ≡ None)
+        (λ origin. IsSound (view tree.now) → IsOriginOf origin (tokens_of path.now) (view tree.now))) }
 {
     let [token, rest @ ..] = path else {
-        return Ok(Some(whole(alloc, tree)?));
+        return Ok(None);
     };
-    let token = token.as_str();
-    match met_at(tree, token, rest) {
-        Some(Met::Value(old)) => {
-            let path = copy_path(alloc, path)?;
-            let value = old.copy(alloc)?;
-            Ok(Some(Back::PutBack { path, value }))
-        }
-        Some(Met::Nothing) => Ok(Some(Back::TakeOut {
-            path: copy_path(alloc, path)?,
-        })),
-        Some(Met::End(len)) => Ok(Some(Back::TakeOut {
-            path: path_to(alloc, token, rest, len)?,
-        })),
-        None => Ok(None),
+    let Some(spare) = spare_at(alloc, tree, token.as_str(), rest)? else {
+        return Ok(None);
+    };
+    let last = last_of(token.as_str(), rest);
+    Ok(Some(Origin {
+        path: copy_path(alloc, path)?,
+        name: String::from_str(alloc, last)?,
+        spare,
+    }))
+}
+
+// The last of the tokens.
+fn last_of<'a>(token: &'a str, rest: &'a [String]) -> &'a str
+    ensures { result.now ≡ last_of token.now (tokens_of rest.now) }
+{
+    match rest.last() {
+        Some(last) => last.as_str(),
+        None => token,
     }
 }
 
-// What an addition meets at the place that the token and those after it lead to.
-fn met_at<'t>(tree: &'t Tree, token: &str, rest: &[String]) -> Option<Met<'t>>
-    ensures { option_map meeting_of result ≡ meeting token.now (tokens_of rest.now) (view tree.now) }
+/// The place at which an addition is taken back: `-` there means the index after the last element.
+pub fn path_of_addition(
+    alloc: Global,
+    tree: &Tree,
+    path: &[String],
+) -> Result<Vec<String>, AllocError>
+    ensures { IfOk result (λ back. LeadsBack (tokens_of back.items) (tokens_of path.now) (view tree.now)) }
 {
-    let [next, others @ ..] = rest else {
-        return met_here(tree, token);
+    let [token, rest @ ..] = path else {
+        return Ok(Vec::new(alloc));
     };
-    met_at(child_at(tree, token)?, next.as_str(), others)
+    match end_at(tree, token.as_str(), rest) {
+        Some(len) => path_to(alloc, token.as_str(), rest, len),
+        None => copy_path(alloc, path),
+    }
 }
 
-// What it meets in the object or array that holds the place.
-fn met_here<'t>(tree: &'t Tree, token: &str) -> Option<Met<'t>>
-    ensures { option_map meeting_of result ≡ meeting_here token.now (view tree.now) }
+// How many elements the array has at whose end the place is, if its last token is `-`.
+fn end_at(tree: &Tree, token: &str, rest: &[String]) -> Option<u64>
+    ensures { result ≡ end_at token.now (tokens_of rest.now) (view tree.now) }
+{
+    let [next, others @ ..] = rest else {
+        return end_here(tree, token);
+    };
+    end_at(child_at(tree, token)?, next.as_str(), others)
+}
+
+fn end_here(tree: &Tree, token: &str) -> Option<u64>
+    ensures { result ≡ end_at token.now [] (view tree.now) }
 {
     match tree {
-        Tree::Object(_) => Some(match tree.member(token) {
-            Some(value) => Met::Value(value),
-            None => Met::Nothing,
-        }),
         Tree::List(items) => {
             if token == "-" {
-                return Some(Met::End(items.len() as u64));
+                Some(items.len() as u64)
+            } else {
+                None
             }
-            Some(Met::Nothing)
         }
         _ => None,
     }
 }
 
-// The same tokens, in memory of their own.
-fn copy_path(alloc: Global, path: &[String]) -> Result<Vec<String>, AllocError>
+/// The same tokens, in memory of their own.
+pub fn copy_path(alloc: Global, path: &[String]) -> Result<Vec<String>, AllocError>
     ensures { IfOk result (λ copy. tokens_of copy.items ≡ tokens_of path.now) }
 {
     let mut copy = Vec::with_capacity(alloc, path.len())?;

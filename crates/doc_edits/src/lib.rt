@@ -6,7 +6,7 @@
 //! `specs/Operation.antt`, and how its height and length change in `specs/SizeChange.antt`. From that `limits::check_limits`
 //! judges whether the document is within its limits (`specs/Limits.antt`), without a walk over it.
 //!
-//! `back_of` keeps of a document what takes an operation back, and `take_step_back` does that, with no memory.
+//! `perform_kept` answers what takes an operation back, and `take_step_back` does that, with no memory.
 #![tactic(auto)]
 
 mod back;
@@ -15,20 +15,25 @@ mod elements;
 mod fault;
 mod index;
 mod keeping;
+mod kept;
 pub mod laws;
 pub mod limits;
 mod members;
+mod moving;
 mod operation;
 pub mod place;
 mod size_change;
+mod spare;
 
-pub use back::{Back, take_step_back};
+pub use back::{Back, Origin, take_step_back};
 pub use change::{Change, Made, change_at};
-pub use fault::{MISSING, OperationFault};
+pub use fault::{MISSING, OperationFault, Unmade};
 pub use index::index_within;
-pub use keeping::{back_of, whole};
+pub use keeping::whole;
+pub use kept::{Kept, perform_kept};
 pub use operation::{After, Done, Operation, perform};
 pub use size_change::{
     DocumentSize, KnownPlace, KnownSize, MovedHeight, SizeChange, ValueSize, extent_at, gone_len,
     reach_of_move, weigh,
 };
+pub use spare::Spare;

@@ -1,23 +1,24 @@
 //! One operation of a patch.
 
-ghost use Rattle.std.specs.Prelude.{◌≡◌, ℕ, None, Ok, IfOk, MatchResult, OnErr, false};
+ghost use Rattle.std.specs.Prelude.{◌≡◌, ℕ, None, Ok, IfOk, MatchResult, OnErr, false, option_map};
 ghost use Rattle.std.specs.Option.{ForSome};
 ghost use Rattle.doc_edits.specs.SizeChange.{Grew, IsKnown, IsMeasured};
 ghost use Rattle.doc_edits.specs.After.{LeavesMeasured};
 ghost use Rattle.doc_edits.specs.Meaning.{meaning};
 ghost use Rattle.doc_edits.specs.Operation as pure;
-ghost use Rattle.doc_edits.specs.Operation.{op, change};
+ghost use Rattle.doc_edits.specs.Operation.{op, change, gone, moves, replaced};
 ghost use Rattle.doc_edits.specs.OperationFault.{IsOperationFaultOf};
-ghost use Rattle.doc_edits.specs.Keeping.{takes};
+ghost use Rattle.doc_pointer.specs.Place.{resolve};
 ghost use Rattle.doc_tree.specs.Sound.{IsSound};
 ghost use Rattle.doc_tree.specs.TreeView.{view};
 
 use crate::fault::{MISSING, OperationFault};
 use crate::limits::check_limits;
+use crate::moving::move_value;
 use crate::place;
+use crate::place::Exchanged;
 use crate::size_change::{
-    DocumentSize, KnownPlace, KnownSize, MovedHeight, SizeChange, extent_at, gone_len,
-    reach_of_move, weigh,
+    DocumentSize, KnownPlace, KnownSize, SizeChange, extent_at, gone_len, weigh,
 };
 use doc_pointer::Pointer;
 use doc_tree::Tree;
@@ -49,17 +50,20 @@ pub struct After<'a> {
 pub struct Done<'a> {
     /// What came and went.
     pub growth: SizeChange,
+    /// The value that went, or was replaced, but with a move.
+    pub gone: Option<Tree>,
     /// The place, and what is known of the value there.
     pub known: Option<KnownPlace<'a>>,
 }
 
 impl<'a> Done<'a> {
     // Nothing is known of the value at any place.
-    fn of(growth: SizeChange) -> Done<'a>
-        ensures { result ≡ record { growth = growth; known = None } }
+    fn of(exchanged: Exchanged) -> Done<'a>
+        ensures { result ≡ record { growth = exchanged.growth; gone = exchanged.gone; known = None } }
     {
         Done {
-            growth,
+            growth: exchanged.growth,
+            gone: exchanged.gone,
             known: None,
         }
     }
@@ -85,7 +89,7 @@ impl Operation {
             Some(before) => before.most,
             None => u64::MAX,
         };
-        let Done { growth, known } = perform(alloc, tree, self, most, known)?;
+        let Done { growth, known, .. } = perform(alloc, tree, self, most, known)?;
         let measure = check_limits(tree, before, growth)?;
         Ok(After { measure, known })
     }
@@ -105,7 +109,9 @@ pub fn perform<'a>(
         MatchResult result (λ _. made ≡ Ok (view tree.new)) (IsOperationFaultOf made) }
     ensures grown { IfOk result (λ done. Grew most done.growth (view tree.old) (view tree.new)) }
     ensures known { IfOk result (λ done. ForSome done.known (λ k. IsKnown k (view tree.new))) }
-    ensures left { OnErr result (takes (meaning operation.now) ≡ false → view tree.new ≡ view tree.old) }
+    ensures gone { IfOk result (λ done. moves (meaning operation.now) ≡ false
+        → option_map view done.gone ≡ gone (meaning operation.now) (view tree.old)) }
+    ensures left { OnErr result (moves (meaning operation.now) ≡ false → view tree.new ≡ view tree.old) }
     ensures sound { IsSound (view tree.old) → IfOk result (λ _. IsSound (view tree.new)) }
 {
     match operation {
@@ -115,11 +121,22 @@ pub fn perform<'a>(
             let value = value.copy(alloc)?;
             Ok(Done::of(place::replace(alloc, tree, path.tokens(), value)?))
         }
-        Operation::Move { from, path } => move_value(alloc, tree, from, path, most, known),
+        Operation::Move { from, path } => {
+            let moved = move_value(alloc, tree, from, path, most, known)?;
+            Ok(Done {
+                growth: moved.growth,
+                gone: None,
+                known: moved.known,
+            })
+        }
         Operation::Copy { from, path } => copy_value(alloc, tree, from, path, known),
         Operation::Test { path, value } => {
             let growth = test(tree, path, value)?;
-            Ok(Done { growth, known })
+            Ok(Done {
+                growth,
+                gone: None,
+                known,
+            })
         }
     }
 }
@@ -130,10 +147,11 @@ fn add(
     tree: &mut Tree,
     path: &Pointer,
     value: &Tree,
-) -> Result<SizeChange, OperationFault>
+) -> Result<Exchanged, OperationFault>
     ensures made { let made = change (pure.add path.now (view value.now)) (view tree.old) in
         MatchResult result (λ _. made ≡ Ok (view tree.new)) (IsOperationFaultOf made) }
-    ensures grown { IfOk result (λ g. (most : ℕ) → Grew most g (view tree.old) (view tree.new)) }
+    ensures grown { IfOk result (λ x. (most : ℕ) → Grew most x.growth (view tree.old) (view tree.new)) }
+    ensures gone { IfOk result (λ x. option_map view x.gone ≡ replaced path.now (view tree.old)) }
     ensures unchanged { OnErr result (view tree.new ≡ view tree.old) }
     ensures sound { IsSound (view tree.old) → IfOk result (λ _. IsSound (view tree.new)) }
 {
@@ -147,11 +165,13 @@ fn remove(
     tree: &mut Tree,
     path: &Pointer,
     known: Option<KnownPlace>,
-) -> Result<SizeChange, OperationFault>
+) -> Result<Exchanged, OperationFault>
     requires { ForSome known (λ k. IsKnown k (view tree.old)) }
     ensures made { let made = change (pure.remove path.now) (view tree.old) in
         MatchResult result (λ _. made ≡ Ok (view tree.new)) (IsOperationFaultOf made) }
-    ensures grown { IfOk result (λ g. (most : ℕ) → Grew most g (view tree.old) (view tree.new)) }
+    ensures grown { IfOk result (λ x. (most : ℕ) → Grew most x.growth (view tree.old) (view tree.new)) }
+    ensures gone { IfOk result (λ x. option_map view x.gone ≡ resolve path.now (view tree.old)) }
+    ensures unchanged { OnErr result (view tree.new ≡ view tree.old) }
     ensures sound { IsSound (view tree.old) → IfOk result (λ _. IsSound (view tree.new)) }
 {
     if path.tokens().is_empty() {
@@ -160,58 +180,9 @@ fn remove(
     let extent = extent_at(known, path.tokens());
     let taken = place::remove(alloc, tree, path.tokens())?;
     let lost = gone_len(&taken.value, extent.len).saturating_add(taken.beside);
-    Ok(SizeChange::loss(lost))
-}
-
-// Takes the value at `from` away and adds it at `path`, if that is another place. What it adds to
-// the text it took from it, but for the bytes beside. What is known of the value goes with it.
-fn move_value<'a>(
-    alloc: Global,
-    tree: &mut Tree,
-    from: &'a Pointer,
-    path: &'a Pointer,
-    most: u64,
-    known: Option<KnownPlace<'a>>,
-) -> Result<Done<'a>, OperationFault>
-    requires { ForSome known (λ k. IsKnown k (view tree.old)) }
-    ensures made { let made = change (pure.move from.now path.now) (view tree.old) in
-        MatchResult result (λ _. made ≡ Ok (view tree.new)) (IsOperationFaultOf made) }
-    ensures grown { IfOk result (λ done. Grew most done.growth (view tree.old) (view tree.new)) }
-    ensures known { IfOk result (λ done. ForSome done.known (λ k. IsKnown k (view tree.new))) }
-    ensures sound { IsSound (view tree.old) → IfOk result (λ _. IsSound (view tree.new)) }
-{
-    let Some(_) = from.resolve(tree) else {
-        return Err(MISSING);
-    };
-    let (from, path) = (from.tokens(), path.tokens());
-    if from == path {
-        return Ok(Done {
-            growth: SizeChange::loss(0),
-            known,
-        });
-    }
-    let extent = extent_at(known, from);
-    let taken = place::remove(alloc, tree, from)?;
-    let MovedHeight { reach, height } = reach_of_move(
-        &taken.value,
-        extent.height,
-        from.len() as u64,
-        path.len() as u64,
-        most,
-    );
-    let placed = place::insert(alloc, tree, path, taken.value)?;
-    let growth = SizeChange {
-        reach,
-        gained: placed.beside,
-        lost: placed.lost.saturating_add(taken.beside),
-    };
-    let extent = KnownSize {
-        height,
-        len: extent.len,
-    };
-    Ok(Done {
-        growth,
-        known: Some(KnownPlace { path, extent }),
+    Ok(Exchanged {
+        growth: SizeChange::loss(lost),
+        gone: Some(taken.value),
     })
 }
 
@@ -228,6 +199,7 @@ fn copy_value<'a>(
         MatchResult result (λ _. made ≡ Ok (view tree.new)) (IsOperationFaultOf made) }
     ensures grown { IfOk result (λ done. (most : ℕ) → Grew most done.growth (view tree.old) (view tree.new)) }
     ensures known { IfOk result (λ done. ForSome done.known (λ k. IsKnown k (view tree.new))) }
+    ensures gone { IfOk result (λ done. option_map view done.gone ≡ replaced path.now (view tree.old)) }
     ensures unchanged { OnErr result (view tree.new ≡ view tree.old) }
     ensures sound { IsSound (view tree.old) → IfOk result (λ _. IsSound (view tree.new)) }
 {
@@ -237,13 +209,14 @@ fn copy_value<'a>(
     let weight = weigh(value, extent_at(known, from.tokens()));
     let value = value.copy(alloc)?;
     let path = path.tokens();
-    let growth = place::add(alloc, tree, path, value, weight)?;
+    let Exchanged { growth, gone } = place::add(alloc, tree, path, value, weight)?;
     let extent = KnownSize {
         height: Some(weight.height),
         len: weight.len,
     };
     Ok(Done {
         growth,
+        gone,
         known: Some(KnownPlace { path, extent }),
     })
 }

@@ -1,9 +1,10 @@
 //! The three changes of a document at a place, and how they alter its height and the length of its
 //! text.
 
-ghost use Rattle.std.specs.Prelude.{◌≡◌, ℕ, Some, IfErr, IfOk, MatchResult, OnErr};
+ghost use Rattle.std.specs.Prelude.{◌≡◌, ℕ, Some, IfErr, IfOk, MatchResult, OnErr, option_map};
 ghost use Rattle.doc_edits.specs.Change.{tokens_of};
 ghost use Rattle.doc_edits.specs.Edit as edit;
+ghost use Rattle.doc_edits.specs.Operation.{replaced};
 ghost use Rattle.doc_edits.specs.SizeChange.{Grew, IsPlaced, IsWeightOf, Shrank};
 ghost use Rattle.doc_edits.specs.OperationFault.{IsMissing};
 ghost use Rattle.doc_pointer.specs.Place.{resolve};
@@ -12,7 +13,7 @@ ghost use Rattle.doc_tree.specs.TreeView.{view};
 ghost use Rattle.refusals.specs.declared.numbers.TheConstants.{PATCH_MISSING};
 
 use crate::change::{Change, Made, change_at};
-use crate::fault::{MISSING, OperationFault};
+use crate::fault::{MISSING, OperationFault, Unmade};
 use crate::limits::DOCUMENT_BYTES;
 use crate::size_change::{SizeChange, ValueSize, both, gone_len, old_len};
 use doc_tree::Tree;
@@ -27,6 +28,17 @@ pub struct Placed {
     pub beside: Option<u64>,
     /// The bytes of the value that was there.
     pub lost: u64,
+    /// That value.
+    pub old: Option<Tree>,
+}
+
+/// What came and went at a place.
+#[derive(Drop)]
+pub struct Exchanged {
+    /// How the document grew.
+    pub growth: SizeChange,
+    /// The value that was at the place, if it no longer is.
+    pub gone: Option<Tree>,
 }
 
 /// A value that was taken from its place.
@@ -47,20 +59,25 @@ pub fn add(
     path: &[String],
     value: Tree,
     weight: ValueSize,
-) -> Result<SizeChange, OperationFault>
+) -> Result<Exchanged, OperationFault>
     requires { IsWeightOf weight (view value) }
     ensures made { let made = edit.add (tokens_of path.now) (view value) (view tree.old) in
         MatchResult result (λ _. made ≡ Some (view tree.new)) (IsMissing made) }
-    ensures grown { IfOk result (λ g. (most : ℕ) → Grew most g (view tree.old) (view tree.new)) }
+    ensures grown { IfOk result (λ x. (most : ℕ) → Grew most x.growth (view tree.old) (view tree.new)) }
+    ensures gone { IfOk result (λ x. option_map view x.gone ≡ replaced (tokens_of path.now) (view tree.old)) }
     ensures unchanged { OnErr result (view tree.new ≡ view tree.old) }
     ensures sound { IsSound (view value) → IsSound (view tree.old) → IfOk result (λ _. IsSound (view tree.new)) }
 {
     let reach = weight.height.saturating_add(path.len() as u64);
     let placed = insert(alloc, tree, path, value)?;
-    Ok(SizeChange {
+    let growth = SizeChange {
         reach,
         gained: both(weight.len, placed.beside),
         lost: placed.lost,
+    };
+    Ok(Exchanged {
+        growth,
+        gone: placed.old,
     })
 }
 
@@ -70,10 +87,12 @@ pub fn insert(
     tree: &mut Tree,
     path: &[String],
     value: Tree,
-) -> Result<Placed, OperationFault>
+) -> Result<Placed, Unmade>
     ensures made { let made = edit.add (tokens_of path.now) (view value) (view tree.old) in
-        MatchResult result (λ _. made ≡ Some (view tree.new)) (IsMissing made) }
+        MatchResult result (λ _. made ≡ Some (view tree.new)) (λ e. IsMissing made e.fault) }
     ensures placed { IfOk result (λ p. IsPlaced p (view value) (view tree.old) (view tree.new)) }
+    ensures old { IfOk result (λ p. option_map view p.old ≡ replaced (tokens_of path.now) (view tree.old)) }
+    ensures returned { IfErr result (λ e. option_map view e.value ≡ Some (view value)) }
     ensures unchanged { OnErr result (view tree.new ≡ view tree.old) }
     ensures sound { IsSound (view value) → IsSound (view tree.old) → IfOk result (λ _. IsSound (view tree.new)) }
 {
@@ -82,12 +101,14 @@ pub fn insert(
         return Ok(Placed {
             beside: Some(0),
             lost: gone_len(&old, None),
+            old: Some(old),
         });
     };
     let made = change_at(alloc, tree, token.as_str(), rest, Change::Add(value))?;
     Ok(Placed {
         beside: made.beside,
         lost: old_len(&made.old),
+        old: made.old,
     })
 }
 
@@ -127,10 +148,11 @@ pub fn replace(
     tree: &mut Tree,
     path: &[String],
     value: Tree,
-) -> Result<SizeChange, OperationFault>
+) -> Result<Exchanged, OperationFault>
     ensures made { let made = edit.replace (tokens_of path.now) (view value) (view tree.old) in
         MatchResult result (λ _. made ≡ Some (view tree.new)) (IsMissing made) }
-    ensures grown { IfOk result (λ g. (most : ℕ) → Grew most g (view tree.old) (view tree.new)) }
+    ensures grown { IfOk result (λ x. (most : ℕ) → Grew most x.growth (view tree.old) (view tree.new)) }
+    ensures gone { IfOk result (λ x. option_map view x.gone ≡ resolve (tokens_of path.now) (view tree.old)) }
     ensures unchanged { OnErr result (view tree.new ≡ view tree.old) }
     ensures sure { IfErr result (λ e. e.number ≡ PATCH_MISSING) }
     ensures sound { IsSound (view value) → IsSound (view tree.old) → IfOk result (λ _. IsSound (view tree.new)) }
@@ -139,16 +161,24 @@ pub fn replace(
     let gained = value.text_len_within(DOCUMENT_BYTES);
     let [token, rest @ ..] = path else {
         let old = mem::replace(tree, value);
-        return Ok(SizeChange {
+        let growth = SizeChange {
             reach,
             gained,
             lost: gone_len(&old, None),
+        };
+        return Ok(Exchanged {
+            growth,
+            gone: Some(old),
         });
     };
     let made = change_at(alloc, tree, token.as_str(), rest, Change::Replace(value))?;
-    Ok(SizeChange {
+    let growth = SizeChange {
         reach,
         gained,
         lost: old_len(&made.old),
+    };
+    Ok(Exchanged {
+        growth,
+        gone: made.old,
     })
 }

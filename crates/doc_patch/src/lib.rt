@@ -26,9 +26,10 @@
 //! - `test`: a comparison up to the first difference.
 //! - in an array `add`, `remove` and `move` shift all elements after the index, and in an object all members after the
 //!   name, as a `Vec` does: an insertion at the front of 500,000 elements moves some 16 MB.
-//! - if it can be taken back, what an operation replaces is copied first, to be put back. The first `remove` or
-//!   `move` of a patch copies the whole document: an object may need memory to take a member again, which taking back
-//!   can't ask for.
+//! - if it can be taken back: a copy of the place's names, and the value that goes is kept, not copied. With `remove` and
+//!   `move` also room for as many members or elements as the object or array has by then, which isn't touched; what goes
+//!   comes back into it without memory. If the values that are kept are longer than the document, or room is kept for more
+//!   than 500,000 members and elements, the whole document is copied once, and no more is kept.
 #![tactic(auto)]
 
 mod document;

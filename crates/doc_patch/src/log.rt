@@ -6,7 +6,7 @@ ghost use Rattle.std.specs.Vec.{vec_capacity, vec_len};
 ghost use Rattle.doc_edits.specs.SizeChange.{IsKnown, IsMeasured};
 ghost use Rattle.doc_edits.specs.After.{LeavesMeasured};
 ghost use Rattle.doc_patch.specs.Keeping.{IsWhole, kept};
-ghost use Rattle.doc_edits.specs.Keeping.{TakesBack, takes};
+ghost use Rattle.doc_edits.specs.Keeping.{TakesBack};
 ghost use Rattle.doc_edits.specs.Meaning.{meaning};
 ghost use Rattle.doc_edits.specs.Operation.{op};
 ghost use Rattle.doc_patch.specs.Undo.{steps_back};
@@ -16,7 +16,7 @@ ghost use Rattle.doc_tree.specs.TreeView.{view};
 
 use doc_edits::limits::check_limits;
 use doc_edits::{
-    After, Back, DocumentSize, Done, KnownPlace, Operation, OperationFault, back_of, perform, whole,
+    After, Back, DocumentSize, Kept, KnownPlace, Operation, OperationFault, perform_kept, whole,
 };
 use doc_tree::Tree;
 use std::alloc::{AllocError, Global};
@@ -29,7 +29,12 @@ pub struct Log {
     pub is_whole: bool,
     /// The bytes of the texts of the values that they hold, without the whole document.
     bytes: u64,
+    /// For how many members and elements they keep room.
+    room: u64,
 }
+
+// For how many members and elements room is kept: 28 MB of addresses, which nothing touches.
+const MOST_ROOM: u64 = 500_000;
 
 impl Log {
     /// Nothing was applied yet.
@@ -41,6 +46,7 @@ impl Log {
             steps: Vec::new(alloc),
             is_whole: false,
             bytes: 0,
+            room: 0,
         }
     }
 
@@ -56,19 +62,15 @@ impl Log {
     ) -> Result<After<'a>, OperationFault>
         requires measured { ForSome before (λ m. IsMeasured m (view tree.old)) }
         requires known { ForSome known (λ k. IsKnown k (view tree.old)) }
+        requires sound { IsSound (view tree.old) }
         requires whole { IsWhole self.old }
         ensures made { LeavesMeasured (op (meaning operation.now) (view tree.old)) (view tree.new) result }
-        ensures sound { IsSound (view tree.old) → IfOk result (λ _. IsSound (view tree.new)) }
+        ensures sound { IfOk result (λ _. IsSound (view tree.new)) }
         ensures back { steps_back (kept self.new) (view tree.new) ≡ steps_back (kept self.old) (view tree.old) }
         ensures whole { IsWhole self.new }
     {
         if self.holds_more_than(before) {
             self.keep_whole(alloc, tree)?;
-        }
-        match operation {
-            Operation::Remove { .. } => self.keep_whole(alloc, tree)?,
-            Operation::Move { .. } => self.keep_whole(alloc, tree)?,
-            _ => {}
         }
         if self.is_whole {
             operation.apply(alloc, tree, before, known)
@@ -77,9 +79,12 @@ impl Log {
         }
     }
 
-    // Whether the values that are held are longer than the document: then the whole of it is less to keep than more of
-    // them, and one patch keeps no more than three documents.
+    // Whether the values that are held are longer than the document, or the rooms more than `MOST_ROOM`: then the whole of
+    // it is less to keep than more of them, and one patch keeps no more than three documents and these rooms.
     fn holds_more_than(&self, document: Option<DocumentSize>) -> bool {
+        if self.room > MOST_ROOM {
+            return true;
+        }
         match document {
             Some(measure) => measure.len < self.bytes,
             None => false,
@@ -101,7 +106,7 @@ impl Log {
         Ok(())
     }
 
-    // Makes an operation that is no removal and no move, and keeps the step that takes it back.
+    // Makes an operation, and keeps the step that takes it back.
     fn apply_kept<'a>(
         &mut self,
         alloc: Global,
@@ -112,20 +117,23 @@ impl Log {
     ) -> Result<After<'a>, OperationFault>
         requires measured { ForSome before (λ m. IsMeasured m (view tree.old)) }
         requires known { ForSome known (λ k. IsKnown k (view tree.old)) }
+        requires sound { IsSound (view tree.old) }
         requires whole { self.old.is_whole ≡ false }
-        requires stays { takes (meaning operation.now) ≡ false }
         ensures made { LeavesMeasured (op (meaning operation.now) (view tree.old)) (view tree.new) result }
         ensures sound { IsSound (view tree.old) → IfOk result (λ _. IsSound (view tree.new)) }
         ensures back { steps_back (kept self.new) (view tree.new) ≡ steps_back (kept self.old) (view tree.old) }
         ensures whole { self.new.is_whole ≡ false }
     {
-        let back = back_of(alloc, tree, operation)?;
         self.steps.reserve(1)?;
         let most = match before {
             Some(before) => before.most,
             None => u64::MAX,
         };
-        let Done { growth, known } = perform(alloc, tree, operation, most, known)?;
+        let Kept {
+            growth,
+            known,
+            back,
+        } = perform_kept(alloc, tree, operation, most, known)?;
         self.bytes = self.bytes.saturating_add(growth.lost);
         self.keep(back);
         let measure = check_limits(tree, before, growth)?;
@@ -140,6 +148,7 @@ impl Log {
         ensures whole { self.new.is_whole ≡ self.old.is_whole }
     {
         if let Some(step) = back {
+            self.room = self.room.saturating_add(step.room());
             self.steps.push(step).unwrap();
         }
     }

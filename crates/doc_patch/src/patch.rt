@@ -96,12 +96,13 @@ impl Patch {
         before: DocumentSize,
     ) -> Result<DocumentSize, PatchFault>
         requires measured { IsMeasured before (view tree.old) }
+        requires sound { IsSound (view tree.old) }
         requires whole { IsWhole log.old }
         ensures made { let made = patch (operations self.now) (view tree.old) in
             MatchResult result (λ _. made ≡ Ok (view tree.new)) (IsFaultOf made) }
         ensures measured { IfOk result (λ after. IsMeasured after (view tree.new)) }
         ensures back { steps_back (kept log.new) (view tree.new) ≡ steps_back (kept log.old) (view tree.old) }
-        ensures sound { IsSound (view tree.old) → IfOk result (λ _. IsSound (view tree.new)) }
+        ensures sound { IfOk result (λ _. IsSound (view tree.new)) }
     {
         let mut measure = before;
         let mut known = None;

@@ -1,8 +1,9 @@
-use Rattle.std.proofs.Common.{inl, ◌≡◌, refl, ◌∙◌, string_bytes, length, arith}
+use Rattle.std.proofs.Common.{◌≡◌, refl, ◌∙◌, string_bytes, length, arith}
 use Rattle.doc_edits.specs.Change.{here}
 use Rattle.doc_edits.specs.Change.{tokens_of}
 use Rattle.doc_tree.specs.TreeView.{view}
 use Rattle.doc_edits.proofs.Walk.{stepped, missing, tokens_step, as_str_step, found_in_object, not_in_object, written_in_object, found_in_list, not_in_list, written_in_list}
+use Rattle.doc_edits.proofs.Missing.{as_missing}
 use Rattle.doc_edits.proofs.Grown.{stepped_sized, stepped_taken}
 use Rattle.doc_edits.proofs.Same.{stepped_unchanged, looked_in}
 use Rattle.doc_edits.proofs.change.+change_at.Goals as goal
@@ -18,11 +19,9 @@ returns-in-Some-get_mut-clause-made t c =
     (written_in_object token d c.in-Some.members.now _ c.change_at.new.tree some (c.get_mut.follows.holds c.change_at.new.tree).0) c.change_at.result c.change_at.ensures.made
 
 pub returns-in-None-clause-made : goal.returns-in-None-clause-made
-returns-in-None-clause-made t c = inl (
-  refl,
-  missing (here c.args.change) c.args.token.now (string_bytes c.next-item.result) _ (tokens_of c.args.rest.now) (view c.args.tree.now) (tokens_step c.args.rest.now c.next-item.result (omega arith) c.next-item.is)
-      (not_in_object c.args.token.now (view c.args.tree.now) c.in-Some.members.now c.in-Some.ensures.value c.in-None.ensures.value),
-)
+returns-in-None-clause-made t c = as_missing c.unmade.result _ c.unmade.ensures.fault
+    (missing (here c.args.change) c.args.token.now (string_bytes c.next-item.result) _ (tokens_of c.args.rest.now) (view c.args.tree.now) (tokens_step c.args.rest.now c.next-item.result (omega arith) c.next-item.is)
+    (not_in_object c.args.token.now (view c.args.tree.now) c.in-Some.members.now c.in-Some.ensures.value c.in-None.ensures.value))
 
 pub returns-in-Some-index_within-clause-made : goal.returns-in-Some-index_within-clause-made
 returns-in-Some-index_within-clause-made t c =
@@ -40,11 +39,9 @@ returns-in-Some-index_within-clause-made t c =
     (written_in_list token d v _ c.len.result i again.new.tree some len c.in-Some-index_within.ensures.named refl) again.result again.ensures.made
 
 pub returns-in-None-index_within-clause-made : goal.returns-in-None-index_within-clause-made
-returns-in-None-index_within-clause-made t c = inl (
-  refl,
-  missing (here c.args.change) c.args.token.now (string_bytes c.next-item.result) _ (tokens_of c.args.rest.now) (view c.args.tree.now) (tokens_step c.args.rest.now c.next-item.result (omega arith) c.next-item.is)
-      (not_in_list c.args.token.now (view c.args.tree.now) c.in-Some-as_list_mut.items.now c.len.result c.in-Some-as_list_mut.ensures.value (c.len.ensures ∙ c.in-Some-as_list_mut.items.now.ok.0) c.in-None-index_within.ensures.named),
-)
+returns-in-None-index_within-clause-made t c = as_missing c.unmade-in-None-index_within.result _ c.unmade-in-None-index_within.ensures.fault
+    (missing (here c.args.change) c.args.token.now (string_bytes c.next-item.result) _ (tokens_of c.args.rest.now) (view c.args.tree.now) (tokens_step c.args.rest.now c.next-item.result (omega arith) c.next-item.is)
+    (not_in_list c.args.token.now (view c.args.tree.now) c.in-Some-as_list_mut.items.now c.len.result c.in-Some-as_list_mut.ensures.value (c.len.ensures ∙ c.in-Some-as_list_mut.items.now.ok.0) c.in-None-index_within.ensures.named))
 
 pub returns-in-Some-get_mut-clause-taken : goal.returns-in-Some-get_mut-clause-taken
 returns-in-Some-get_mut-clause-taken t c =

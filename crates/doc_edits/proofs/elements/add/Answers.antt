@@ -1,14 +1,15 @@
-use Rattle.std.proofs.Common.{inl, sym, ◌∙◌, refl, arith}
+use Rattle.std.proofs.Common.{sym, ◌∙◌, refl, arith}
 use Rattle.doc_tree.specs.TreeView.{view, elements_view}
 use Rattle.doc_edits.proofs.Leaves.{item_appended, item_added, item_not_added}
 use Rattle.doc_edits.proofs.Grown.{added_item_size}
+use Rattle.doc_edits.proofs.Missing.{as_missing}
 use Rattle.doc_edits.proofs.elements.add.Goals as goal
 
 pub returns-then-eq-clause-made : goal.returns-then-eq-clause-made
 returns-then-eq-clause-made c = item_appended c.args.token.now c.args.items.now.items _ c.args.value (sym c.eq.ensures ∙ c.if-eq.true) c.in_ok-push.ensures.items
 
 pub returns-in-None-clause-made : goal.returns-in-None-clause-made
-returns-in-None-clause-made c = inl (refl, item_not_added c.args.token.now c.args.items.now.items _ (view c.args.value) (sym c.eq.ensures ∙ c.if-eq.false) (omega (arith, c.len.ensures, c.args.items.now.ok.0)) c.in-None.ensures.named)
+returns-in-None-clause-made c = as_missing c.of.result _ c.of.ensures.fault (item_not_added c.args.token.now c.args.items.now.items _ (view c.args.value) (sym c.eq.ensures ∙ c.if-eq.false) (omega (arith, c.len.ensures, c.args.items.now.ok.0)) c.in-None.ensures.named)
 
 pub returns-clause-made : goal.returns-clause-made
 returns-clause-made c = item_added c.args.token.now c.args.items.now.items _ _ c.in-Some.index c.args.value (sym c.eq.ensures ∙ c.if-eq.false) (omega (arith, c.len.ensures, c.args.items.now.ok.0)) c.in-Some.ensures.named c.in-Some.ensures.below c.in_ok-insert-in-Some.ensures.items

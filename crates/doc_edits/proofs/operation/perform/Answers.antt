@@ -1,14 +1,15 @@
-use Rattle.std.proofs.Common.{◌≡◌, sym, ap, ◌∙◌, subst, refl, inr, Ok, MatchResult}
+use Rattle.std.proofs.Common.{◌≡◌, sym, ap, ◌∙◌, subst, refl, inr, Ok, MatchResult, option_map}
 use Rattle.std.proofs.lemmas.Result.{IfOk-from_err}
 use Rattle.doc_tree.specs.TreeView.{view}
 use Rattle.doc_edits.specs.Change.{tokens_of}
 use Rattle.doc_edits.specs.Edit.{replace}
 use Rattle.doc_edits.specs.SizeChange.{Grew}
 use Rattle.doc_edits.specs.Meaning.{meaning}
-use Rattle.doc_edits.specs.Operation.{change, or_missing}
+use Rattle.doc_edits.specs.Operation.{change, gone, or_missing}
 use Rattle.doc_edits.specs.OperationFault.{IsOperationFaultOf, IsMissing}
 use Rattle.doc_edits.specs.declared.operation.Done.{Done}
 use Rattle.doc_edits.proofs.Performed.{refused_as, refused_missing, nothing_known, with_most}
+use Rattle.doc_edits.proofs.Restored.{readied}
 use Rattle.doc_edits.proofs.operation.perform.Goals as goal
 
 pub returns-in_err-add-in-Add-clause-made : goal.returns-in_err-add-in-Add-clause-made
@@ -102,18 +103,33 @@ returns-in_ok-replace-in-Replace-clause-made c =
     ap (λ o. change (meaning o) (view c.args.tree.now)) c.in-Replace.is ∙ ap (λ k. or_missing (replace k (view c.in-Replace.value) d)) (sym c.tokens.ensures)
     ∙ ap (λ v. or_missing (replace ks v d)) (sym c.in_ok-value-in-Replace.ensures.same) ∙ ap or_missing c.in_ok-replace-in-Replace.ensures.made
 
-pub returns-in-Move-clause-made : goal.returns-in-Move-clause-made
-returns-in-Move-clause-made c =
-    subst (λ o. MatchResult c.move_value.result (λ _. change (meaning o) (view c.args.tree.now) ≡ Ok (view c.move_value.new.tree)) (IsOperationFaultOf (change (meaning o) (view c.args.tree.now)))) (sym c.in-Move.is) c.move_value.ensures.made
+pub returns-in_err-moved-in-Move-clause-made : goal.returns-in_err-moved-in-Move-clause-made
+returns-in_err-moved-in-Move-clause-made c = refused_as c.args.operation.now _ (view c.args.tree.now) c.from_residual-in_err-moved-in-Move.result _ _ c.in-Move.is c.in_err-moved-in-Move.ensures.made c.from_residual-in_err-moved-in-Move.ensures.1
 
-pub returns-in-Move-clause-grown : goal.returns-in-Move-clause-grown
-returns-in-Move-clause-grown c = c.move_value.ensures.grown
+pub returns-in_err-moved-in-Move-clause-grown : goal.returns-in_err-moved-in-Move-clause-grown
+returns-in_err-moved-in-Move-clause-grown c = IfOk-from_err c.from_residual-in_err-moved-in-Move.result _ c.from_residual-in_err-moved-in-Move.ensures.0
 
-pub returns-in-Move-clause-known : goal.returns-in-Move-clause-known
-returns-in-Move-clause-known c = c.move_value.ensures.known
+pub returns-in_err-moved-in-Move-clause-known : goal.returns-in_err-moved-in-Move-clause-known
+returns-in_err-moved-in-Move-clause-known c = IfOk-from_err c.from_residual-in_err-moved-in-Move.result _ c.from_residual-in_err-moved-in-Move.ensures.0
 
-pub returns-in-Move-clause-sound : goal.returns-in-Move-clause-sound
-returns-in-Move-clause-sound c = c.move_value.ensures.sound
+pub returns-in_err-moved-in-Move-clause-sound : goal.returns-in_err-moved-in-Move-clause-sound
+returns-in_err-moved-in-Move-clause-sound c _ = IfOk-from_err c.from_residual-in_err-moved-in-Move.result _ c.from_residual-in_err-moved-in-Move.ensures.0
+
+pub returns-in_ok-moved-in-Move-clause-made : goal.returns-in_ok-moved-in-Move-clause-made
+returns-in_ok-moved-in-Move-clause-made c = ap (λ o. change (meaning o) (view c.args.tree.now)) c.in-Move.is ∙ c.in_ok-moved-in-Move.ensures.made
+
+pub returns-in_ok-moved-in-Move-clause-gone : goal.returns-in_ok-moved-in-Move-clause-gone
+returns-in_ok-moved-in-Move-clause-gone c = λ stays. ap (λ o. gone (meaning o) (view c.args.tree.now)) (sym c.in-Move.is)
+
+pub returns-in_ok-add-in-Add-clause-gone : goal.returns-in_ok-add-in-Add-clause-gone
+returns-in_ok-add-in-Add-clause-gone c = λ stays. ap (λ (o : Done). option_map view o.gone) c.of.ensures ∙ c.in_ok-add-in-Add.ensures.gone ∙ ap (λ o. gone (meaning o) (view c.args.tree.now)) (sym c.in-Add.is)
+
+pub returns-in_ok-remove-in-Remove-clause-gone : goal.returns-in_ok-remove-in-Remove-clause-gone
+returns-in_ok-remove-in-Remove-clause-gone c = λ stays. ap (λ (o : Done). option_map view o.gone) c.of-in-Remove.ensures ∙ c.in_ok-remove-in-Remove.ensures.gone ∙ ap (λ o. gone (meaning o) (view c.args.tree.now)) (sym c.in-Remove.is)
+
+pub returns-in-Copy-clause-gone : goal.returns-in-Copy-clause-gone
+returns-in-Copy-clause-gone c =
+    readied c.copy_value.result _ _ c.copy_value.ensures.gone (λ done is stays. is ∙ ap (λ o. gone (meaning o) (view c.args.tree.now)) (sym c.in-Copy.is))
 
 pub returns-in-Copy-clause-made : goal.returns-in-Copy-clause-made
 returns-in-Copy-clause-made c =

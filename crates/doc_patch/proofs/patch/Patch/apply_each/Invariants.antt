@@ -12,5 +12,5 @@ use Rattle.doc_patch.proofs.patch.Patch.apply_each.Given as goal
 abbrev pub invariant-loop-index : goal.invariant-loop-index
 invariant-loop-index l =
     (patch_from l.index (meanings (drop l.index l.operation-items)) (view l.tree) ≡ patch_from 0 (meanings l.operation-items) (view l.initial.tree))
-    × IsMeasured l.measure (view l.tree) × ForSome l.known (λ k. IsKnown k (view l.tree)) × (IsSound (view l.initial.tree) → IsSound (view l.tree))
+    × IsMeasured l.measure (view l.tree) × ForSome l.known (λ k. IsKnown k (view l.tree)) × IsSound (view l.tree)
     × (steps_back (kept l.log) (view l.tree) ≡ steps_back (kept l.initial.log) (view l.initial.tree)) × IsWhole l.log
