@@ -101,6 +101,18 @@ def doubled(levels):
     return "$[?@" + "[*,*][?@" * (levels - 1) + "]" * levels
 
 
+def twice(index, times, levels):
+    """Segments that each select the child at that index as often as this."""
+    return ("[" + ",".join([str(index)] * times) + "]") * levels
+
+
+def below_one_name(inner, depth):
+    """A value within this many objects, each in the member `a` of the next."""
+    for _ in range(depth):
+        inner = {"a": inner}
+    return inner
+
+
 def counted(levels):
     """Counts of all that is below and is counted in turn. Of this many, the outermost is above 0 if `levels` values are
     below one another."""
@@ -123,6 +135,8 @@ def queries():
     every = found(*(("$[%d]" % n, 0) for n in range(100000)))
     long_lists = {"a": [0] * 130000, "b": [0] * 130000, "c": [0] * 99999}
     long_texts = {"a": "x" * 300000, "b": "x" * 300000, "c": [0] * 99999}
+    many = [0] * 400000
+    at_the_end = found(("$" + "['a']" * 17, many))
     group = "queries"
     return [
         asked(group, "60 absolute filters within one another", [0, 0], absolute(60), two, before="over 5 s"),
@@ -159,6 +173,16 @@ def queries():
         asked(group, "16 doublings", nested(0, 16), "$" + "[*,*]" * 16, found(*[(within(16), 0)] * 65536)),
         asked(group, "all descendants of 63 lists", nested(0, 63), "$..*",
               found(*((within(depth), nested(0, 63 - depth)) for depth in range(1, 64)))),
+        asked(group, "all below one list, 2,116 times", nested(many, 2), "$" + twice(0, 46, 2) + "..x", none, before="12 s"),
+        asked(group, "all below one list, 97,336 times", nested(many, 3), "$" + twice(0, 46, 3) + "..x", none, before="over 18 s"),
+        asked(group, "a filter on the elements of one list, 500 times", nested(many, 1), "$" + twice(0, 500, 1) + "[?@==1]", none, before="5.6 s"),
+        asked(group, "all below one list, 2,116 times, in a filter", nested(many, 3), "$[?@" + twice(0, 46, 2) + "..x]", none, before="over 18 s"),
+        asked(group, "all below one list, 2,116 times, in an absolute query", nested(many, 2), "$[?$" + twice(0, 46, 2) + "..x]", none, before="over 18 s"),
+        asked(group, "filters of all below in an absolute query, 50,000 zeros 60 deep", nested(zeros[:50000], 60), "$[?$..[?@..[?@..x]]]", none, before="over 5 s"),
+        asked(group, "17 segments of all below 17 objects around a list", below_one_name(many, 17), "$" + "..a" * 17, at_the_end, before="over 16 s"),
+        asked(group, "an element that isn't there, at one list 97,336 times", nested(0, 3), "$" + twice(0, 46, 3) + twice(9, 300, 1), none),
+        asked(group, "one member of 90,000, at one object 2,116 times", nested({"%05d" % n: 0 for n in range(90000)}, 2),
+              "$" + twice(0, 46, 2) + twice("'89999'", 45, 1) + "[?@]", none, before="over 18 s"),
         asked(group, "a slice of the largest step", zeros, "$[0:100000:9007199254740991]", one),
         asked(group, "a slice from behind the front", zeros, "$[-9007199254740991:1]", one),
         asked(group, "a path of 1,026 bytes", [0], "$" + "[0]" * 341 + "  ", 52),

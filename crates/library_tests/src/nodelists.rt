@@ -68,6 +68,18 @@ fn the_root_is_lent_too(rt: HostRuntime) {
 }
 
 #[test]
+fn a_node_that_is_listed_twice_selects_twice(rt: HostRuntime) {
+    let alloc = rt.alloc();
+    let tree = document(&rt, alloc);
+    let list = listed(&rt, alloc, "$['it\\'s','z','it\\'s']..[1,0]", &tree);
+    assert!(rt; list.len() == 4);
+    has(&rt, alloc, &list, 0, "$['it\\'s'][1]", None);
+    has(&rt, alloc, &list, 1, "$['it\\'s'][0]", Some(5));
+    has(&rt, alloc, &list, 2, "$['it\\'s'][1]", None);
+    has(&rt, alloc, &list, 3, "$['it\\'s'][0]", Some(5));
+}
+
+#[test]
 fn where_nothing_stands_no_node_is_lent(rt: HostRuntime) {
     let tree = document(&rt, rt.alloc());
     assert!(rt; listed(&rt, rt.alloc(), "$.z[0]", &tree).len() == 0);

@@ -3,6 +3,3 @@ pub mod Lists
 pub mod Standing
 pub mod Followed
 pub mod Leaves
-pub mod ByNumber
-pub mod Phased
-pub mod Answered

@@ -11,9 +11,10 @@ use Rattle.doc_tree.specs.Sound.{IsSound, AreSound, MembersAreSound, IsBefore}
 use Rattle.path_grammar.specs.Syntax.{Selector, name_selector, wildcard_selector, slice_selector, index_selector, filter_selector, Selectors, no_selectors, selector, Segments, no_segments, segment}
 use Rattle.path_eval.specs.Answer.{nodelist_of}
 use Rattle.path_plans.specs.Evaluating.{selected, all_selected, nodelist, holds}
-use Rattle.path_select.specs.Nodes.{Located, Child, children, element_children, member_children, child_at, under, beneath, descendants, element_descendants, member_descendants, visited, list_after, only_node}
-use Rattle.path_select.specs.Selectors.{found, item, item_if, from_front, item_count, slice_indexes}
+use Rattle.path_select.specs.Nodes.{Located, children, element_children, member_children, child_at, under, beneath, descendants, element_descendants, member_descendants, visited, list_after, only_node}
+use Rattle.path_select.specs.Selectors.{from_front, item_count, slice_indexes}
 use Rattle.std.specs.Option.{unwrap_or}
+use Rattle.path_tables.proofs.Chosen.{IsChildOf, all-append, every, found_at, item_at}
 
 -- ---- places
 
@@ -45,10 +46,6 @@ mutual
 -- ---- lists of which each element has a property
 
 module _ {A : Type 0} (P : A → Type 0) where
-  all-append : (xs ys : List A) → AllByRecursion P xs → AllByRecursion P ys → AllByRecursion P (xs ++ ys)
-  all-append [] ys h k = k
-  all-append (x ∷ xs) ys h k = (h.0, all-append xs ys h.1 k)
-
   all-filter : (test : A → Bool) (xs : List A) → AllByRecursion P xs → AllByRecursion P (filter test xs)
   all-filter test [] h = h
   all-filter test (x ∷ xs) h = keep (test x) (all-filter test xs h.1)
@@ -66,10 +63,6 @@ all-flat_map P Q f [] to h = tt
 all-flat_map P Q f (x ∷ xs) to h = all-append Q (f x) (flat_map f xs) (to x h.0) (all-flat_map P Q f xs to h.1)
 
 -- ---- what stands where
-
--- the child is the value's
-abbrev IsChildOf : Doc → Child → Type 0
-IsChildOf d c = child c.0 d ≡ Some c.1
 
 -- the node's value is what stands at its location
 abbrev IsAt : Doc → Located → Type 0
@@ -138,21 +131,6 @@ children_at (list ds) h = elements_at ds ds 0 (λ i. let same : 0 + i ≡ i = om
 children_at (object ms) h = members_at ms ms h (λ q e is. is)
 
 -- ---- selectors
-
-pub found_at : (s : Place) (d : Doc) → AllByRecursion (IsChildOf d) (found s (child s d))
-found_at s d = one (child s d) refl
-  where
-    one : (o : Option Doc) → child s d ≡ o → AllByRecursion (IsChildOf d) (found s o)
-    one None e = tt
-    one (Some c) e = (e, tt)
-
-pub item_at : (o : Option ℕ) (d : Doc) → AllByRecursion (IsChildOf d) (item_if o d)
-item_at None d = tt
-item_at (Some i) d = found_at (index i) d
-
-pub every : (is : List ℕ) (d : Doc) → AllByRecursion (IsChildOf d) (flat_map (λ i. item i d) is)
-every [] d = tt
-every (i ∷ is) d = all-append (IsChildOf d) (item i d) _ (found_at (index i) d) (every is d)
 
 selected_at : (root : Doc) (s : Selector) (d : Doc) → IsSound d → AllByRecursion (IsChildOf d) (selected root s d)
 selected_at root (name_selector k) d h = found_at (name k) d

@@ -12,7 +12,7 @@ use Rattle.path_select.specs.Nodes.{Located, beneath, under, child_at}
 use Rattle.path_select.specs.Limit.{is_over}
 use Rattle.path_select.specs.Paths.{GoesOn, Returns, location, all_spots, seen, stand}
 use Rattle.path_grammar.specs.Lent.{lent_place}
-use Rattle.path_eval.specs.Visiting.{selected_at, refused_at}
+use Rattle.path_tables.specs.Visiting.{selected_at, refused_at}
 use Rattle.path_select.specs.declared.stop.Stop.{Stop}
 use Rattle.path_select.specs.declared.stop.Stop.TheVariants.{Memory, TooMany}
 use Rattle.path_select.specs.declared.paths.Mark.{Mark}

@@ -1,8 +1,6 @@
 pub use Rattle.path_select.specs.Nodes
 pub use Rattle.path_plans.specs.Evaluating
 pub use Rattle.path_plans.specs.TooMany
-pub mod Visiting
 pub mod NodeView
-pub mod FilterTables
 pub mod Listed
 pub mod Answer

@@ -8,22 +8,16 @@
 //! queries is in `laws`. A node is listed as the number of its place in a trail of steps (of the crate `path_select`,
 //! which also has what selects without a filter). A query is evaluated by its plan (of the crate `path_plans`), in
 //! which each absolute query of a filter is replaced by what was found of it; filters are evaluated over values alone.
-//! A query that may try a filter many times at one value goes by the numbers of nodes (`index` of `path_select`): what
-//! each filter says of each node is found once and is in a table.
+//! A query that may visit a node many times, or try a filter many times at one value, goes by the numbers of nodes
+//! (`index` of `path_select`): each segment visits a node once, and lists again what it selected there wherever the node
+//! is listed again; what each filter says of each node is found once and is in a table.
 #![tactic(auto)]
 
-mod asked;
-mod asking;
-mod by_number;
-mod expensive;
 mod fault;
-mod filter_table;
 pub mod laws;
 mod listing;
 mod node;
 mod nodelist;
-mod table_plan;
-mod tables;
 mod walk;
 
 pub use fault::EvalFault;

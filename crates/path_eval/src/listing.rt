@@ -8,30 +8,29 @@ ghost use Rattle.path_select.specs.Gives.{Gives};
 ghost use Rattle.path_eval.specs.Listed.{IsReady, ListsAfter, Walks};
 ghost use Rattle.path_select.specs.Nodes.{list_after, only_node, visited};
 ghost use Rattle.path_plans.specs.PlanView.{choices_view, plan_view};
-ghost use Rattle.path_plans.specs.Planned.{listed, plan_refused};
+ghost use Rattle.path_plans.specs.Planned.{listed, plan, plan_refused};
 ghost use Rattle.path_plans.specs.TooMany.{too_many};
 ghost use Rattle.path_select.specs.Paths.{all_spots, location, seen, spot_of, stand};
 ghost use Rattle.path_eval.specs.NodeView.{node_of, nodes_of};
 ghost use Rattle.path_grammar.specs.Lent.{lent_place, lent_places};
 ghost use Rattle.path_select.specs.Indexed.{IsIndex, at_numbers};
-ghost use Rattle.path_eval.specs.Visiting.{refused_at, selected_at, visited_from};
+ghost use Rattle.path_tables.specs.Visiting.{refused_at, selected_at, visited_from};
 
-use crate::by_number::numbers_from;
-use crate::expensive::is_expensive;
 use crate::fault::EvalFault;
 use crate::node::Node;
 use crate::nodelist::Nodelist;
-use crate::tables::phases_of;
 use crate::walk::{select_below, select_here};
 use doc_tree::{Step, Tree};
 use path_grammar::LentStep;
 use path_parse::Query;
 use path_plans::plan::{Plan, PlanSegment, PlanSelector};
-use path_plans::planning::plan_of;
 use path_select::index::{Index, index_of};
 use path_select::numbers::spot_at;
 use path_select::paths::{Mark, Spot, Walk, path_to};
 use path_select::stop::Stop;
+use path_tables::expensive::is_expensive;
+use path_tables::lists::numbers_of_plan;
+use path_tables::planning::{plain_plan_of, plan_of};
 use std::alloc::{AllocError, Global};
 
 /// The nodes that are listed, and what is taken of the node; of all that is below it too, if that is asked for.
@@ -112,15 +111,29 @@ fn spots_of<'t>(
     Ok(spots)
 }
 
-/// The nodes that the plan selects from the root on, with each filter asked once of each node.
-fn list_by_numbers<'t>(plan: &Plan<'_>, alloc: Global, root: &'t Tree) -> Result<Walk<'t>, Stop>
-    ensures { let q = plan_view plan.now in
+/// The nodes that the query selects, with each filter asked once of each node.
+fn spots_by_numbers<'t>(
+    query: &Query,
+    alloc: Global,
+    index: &Index<'t>,
+) -> Result<Vec<Spot<'t>>, Stop>
+    requires { IsIndex index.now }
+    ensures { let root = view index.now.root.now in let q = plan root (query_view query.now) in
+        Gives (λ spots. all_spots index.now.walk.trail.items spots.items) result
+        (plan_refused q (only_node root)) (listed q (only_node root)) }
+{
+    let plan = plan_of(query, alloc, index.root, Some(index))?;
+    let numbers = numbers_of_plan(&plan, index, alloc)?;
+    Ok(spots_of(index, alloc, &numbers)?)
+}
+
+/// The same nodes, known by their places.
+fn list_by_numbers<'t>(query: &Query, alloc: Global, root: &'t Tree) -> Result<Walk<'t>, Stop>
+    ensures { let q = plan (view root.now) (query_view query.now) in
         Gives seen result (plan_refused q (only_node (view root.now))) (listed q (only_node (view root.now))) }
 {
     let index = index_of(alloc, root)?;
-    let phases = phases_of(plan, &index, alloc)?;
-    let numbers = numbers_from(&phases, &index, alloc, 0)?;
-    let listed = spots_of(&index, alloc, &numbers)?;
+    let listed = spots_by_numbers(query, alloc, &index)?;
     let Index { walk, .. } = index;
     let Walk { trail, .. } = walk;
     Ok(Walk { trail, listed })
@@ -133,10 +146,10 @@ fn list_of<'t>(query: &Query, alloc: Global, root: &'t Tree) -> Result<Walk<'t>,
         (too_many (view root.now) q (only_node (view root.now)))
         (nodelist_of (view root.now) q) }
 {
-    let plan = plan_of(query, alloc, root)?;
-    if is_expensive(&plan) {
-        list_by_numbers(&plan, alloc, root)
+    if is_expensive(query) {
+        list_by_numbers(query, alloc, root)
     } else {
+        let plan = plain_plan_of(query, alloc, root)?;
         list_by(&plan, alloc, root)
     }
 }

@@ -3,7 +3,6 @@
 ghost use Rattle.std.specs.Prelude.{◌≡◌, ◌++◌, ◌∷◌, [], false, length, map};
 ghost use Rattle.doc_tree.specs.TreeView.{elements_view, members_view, view};
 ghost use Rattle.path_eval.specs.Listed.{Goes, IsReady, Walks};
-ghost use Rattle.path_eval.specs.Visiting as visiting;
 ghost use Rattle.path_select.specs.Nodes.{beneath, child_at, descendants, element_descendants, member_descendants, under};
 ghost use Rattle.path_plans.specs.PlanView.{choices_view};
 ghost use Rattle.path_select.specs.Paths.{location};
@@ -19,6 +18,7 @@ use path_select::children::Child;
 use path_select::limits::NODES;
 use path_select::paths::{Mark, Walk, back, with_child};
 use path_select::stop::Stop;
+use path_tables::leaf::is_leaf;
 use std::alloc::Global;
 
 /// The nodes that are listed, and the children of the value at the place; `Stop::TooMany` if they are too many for a
@@ -161,11 +161,4 @@ fn below_members<'t>(
         walked = below_child(value, LentStep::Name(name), place, choices, alloc, walked)?;
     }
     Ok(walked)
-}
-
-/// Whether the value is neither a list nor an object, so that it has no children.
-fn is_leaf(value: &Tree) -> bool
-    ensures { result ≡ visiting.is_leaf (view value.now) }
-{
-    !matches!(value, Tree::List(_) | Tree::Object(_))
 }

@@ -1,6 +1,5 @@
 pub mod PlanLaws
 pub mod PlanRows
 pub mod PlanValued
-pub mod Made
 pub mod Ways
 pub mod Filtered

@@ -3,4 +3,3 @@ pub mod TooMany
 pub mod Planned
 pub mod PlanView
 pub mod PlanValues
-pub mod Planning

@@ -8,7 +8,7 @@ use Rattle.path_plans.specs.PlanView.{choices_view}
 use Rattle.path_select.specs.Nodes.{beneath, under, descendants, element_descendants, member_descendants}
 use Rattle.path_select.specs.Paths.{location, seen}
 use Rattle.path_eval.specs.Listed.{Walks}
-use Rattle.path_eval.specs.Visiting.{selected_at, refused_at}
+use Rattle.path_tables.specs.Visiting.{selected_at, refused_at}
 use Rattle.path_select.specs.Gives.{Stops}
 use Rattle.path_grammar.specs.Lent.{lent_place}
 use Rattle.path_grammar.specs.declared.lent_step.LentStep.TheVariants.{Name}

@@ -1,0 +1,4 @@
+pub mod Visiting
+pub mod FilterTables
+pub mod Visits
+pub mod Planning
