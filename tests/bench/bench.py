@@ -2,6 +2,7 @@
 """How long the built program takes for what its users ask of it.
 
     bench.py PROGRAM [cost|opening|patches|queries|schemas|store|updates ..] [--folder FOLDER] [--slow MS]
+    bench.py PROGRAM --beside OTHER [--folder FOLDER] [--slow MS]
 
 PROGRAM is a built `jpstore`. Each figure is the time from the first byte of the lines that were sent to the last byte
 of their replies: it has the reading of a line and the writing of its reply in it. Without words all is measured.
@@ -21,6 +22,8 @@ of their replies: it has the reading of a line and the writing of its reply in i
   that of the same store in format 1, which is brought to format 2 then, beside as many writes and syncs of another
   file; and 1,000 steps of one sector of a copied snapshot of it.
 
+With --beside two programs take turns: creations of records in memory, and durable updates of a file, single and in groups.
+
 Files are in FOLDER, or else in a temporary folder. With --slow each sync of a file takes MS milliseconds more, in all
 programs that are measured. On a busy machine `chrt -f 10 ionice -c1` in front of the command lets it run as if alone.
 """
@@ -33,6 +36,7 @@ import tempfile
 from bench_cost import measure_cost
 from bench_lines import create, in_memory, least, line_of, milliseconds, patch, replace
 from bench_store import measure_opening, measure_store
+from bench_turns import measure_turns
 from bench_updates import measure_updates
 
 
@@ -176,6 +180,7 @@ def main():
     parser = argparse.ArgumentParser(description=__doc__, formatter_class=argparse.RawDescriptionHelpFormatter)
     parser.add_argument("program")
     parser.add_argument("parts", nargs="*", metavar="PART")
+    parser.add_argument("--beside", metavar="OTHER")
     parser.add_argument("--folder")
     parser.add_argument("--slow", type=float, metavar="MS")
     given = parser.parse_args()
@@ -184,6 +189,11 @@ def main():
             parser.error(f"no part {part}")
     if given.slow and "SLOW_SYNCS" not in os.environ:
         return begin_again_slowly(given.slow)
+    if given.beside:
+        if given.parts:
+            parser.error("--beside has parts of its own")
+        measure_turns(os.path.abspath(given.program), os.path.abspath(given.beside), given.folder)
+        return 0
     for part in given.parts or list(PARTS):
         PARTS[part](os.path.abspath(given.program), given.folder)
     return 0

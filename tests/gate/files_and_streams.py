@@ -1,5 +1,5 @@
 #!/usr/bin/env python3
-"""Runs a program over store files with standard streams closed, and by two processes at one time.
+"""Runs a program over store files with standard streams closed or broken, and by two processes at one time.
 
     files_and_streams.py PROGRAM
 
@@ -211,6 +211,16 @@ def served_on_row(program, folder):
         same("the server's next reply", server.stdout.readline(), FOUND)
 
 
+def nobody_reads_row(program, folder):
+    """A change whose reply nobody reads any more is made, and stays, and the program says why it ends."""
+    file = os.path.join(folder, "empty")
+    server = subprocess.Popen([program, "serve", file], stdin=subprocess.PIPE, stdout=subprocess.PIPE, stderr=subprocess.PIPE)
+    server.stdout.close()
+    _, errors = server.communicate(CREATE, timeout=60)
+    same("the end of the server", (server.returncode, errors), (1, b"jpstore: writer\n"))
+    holds_the_document(program, file)
+
+
 def ended_row(program, folder):
     """A server that came to its end keeps nobody out."""
     file = os.path.join(folder, "store")
@@ -227,8 +237,8 @@ def killed_row(program, folder):
         same("a session after the kill", run(program, ["serve", file], GET), (0, FOUND, b""))
 
 
-LOCK_ROWS = [in_use_row, hard_link_row, symbolic_link_row, closed_streams_row, format_beside_a_server_row, served_on_row,
-             ended_row, killed_row]
+OTHER_ROWS = [in_use_row, hard_link_row, symbolic_link_row, closed_streams_row, format_beside_a_server_row, served_on_row,
+              nobody_reads_row, ended_row, killed_row]
 
 
 def make_stores(program, folder):
@@ -245,7 +255,7 @@ def all_rows():
         for row in STREAM_ROWS:
             name = "%s %s" % (row.__name__, " ".join(NAMES[stream] for stream in closed))
             yield name, lambda program, folder, row=row, closed=closed: row(program, folder, closed)
-    for row in LOCK_ROWS:
+    for row in OTHER_ROWS:
         yield row.__name__, row
 
 

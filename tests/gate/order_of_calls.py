@@ -22,6 +22,8 @@ is locked before anything of it is read, and an input that failed is not read ag
 The last line is `N passed, M failed`. If strace is missing, it installs Debian's package; without it there is nothing to look
 at, and the status is 2.
 """
+import functools
+import itertools
 import json
 import os
 import pty
@@ -191,28 +193,33 @@ def try_group(program):
             raise Wrong("the writes between the syncs are %s" % [part.count("write") for part in between])
 
 
-def served(program, file, lines, fault=None, limit=None):
+def served(program, file, lines, options=(), fault=None, limit=None):
     """The replies of a session that is given all lines at once, some of whose calls fail."""
     def limited():
         signal.signal(signal.SIGXFSZ, signal.SIG_IGN)
         resource.setrlimit(resource.RLIMIT_FSIZE, (limit, limit))
     words = ["strace", "-f", "-o", os.devnull, "-e", "inject=" + fault] if fault else []
-    ended = subprocess.run([*words, program, "serve", file], input="".join(lines), check=False, stdout=subprocess.PIPE, text=True,
+    words += [program, "serve", file, *options]
+    ended = subprocess.run(words, input="".join(lines), check=False, stdout=subprocess.PIPE, text=True,
                            stderr=subprocess.DEVNULL, preexec_fn=limited if limit else None, restore_signals=False)
     return ended.stdout.splitlines(True)
 
 
-def try_failed_hand_over(program, fault=None, limit=None, second=(False,)):
-    """Of two changes the writes of the second fail: it is answered 61, and the first is there when the file is opened again."""
+def try_failed_hand_over(program, version, size, second=(False,), **failing):
+    """Of two groups of changes the writes of the second fail. Each of its changes is answered 61, and the one after it 62;
+    when the file is opened again the first group is there, and of the second all or none."""
+    names = "abcd"[:2 * size]
     with tempfile.TemporaryDirectory() as folder:
         file = os.path.join(folder, "store")
-        subprocess.run([program, "format", file, "--sectors", "64"], check=True, stdout=subprocess.DEVNULL)
-        replies = served(program, file, [large("a"), large("b")], fault, limit)
-        if replies != [done(1), '{"error":"device","number":61,"ok":false}\n']:
+        subprocess.run([program, "format", file, "--sectors", "64", "--format", version], check=True, stdout=subprocess.DEVNULL)
+        given = [*map(large, names), large("e")]
+        replies = served(program, file, given, ["--batch", str(size)] if size > 1 else [], **failing)
+        refused = ['{"error":"device","number":61,"ok":false}\n'] * size + ['{"error":"broken","number":62,"ok":false}\n']
+        if replies != [done(number + 1) for number in range(size)] + refused:
             raise Wrong("the replies are %s" % replies)
-        there = [json.loads(reply)["ok"] for reply in served(program, file, ['{"cmd":"get","name":"%s","path":""}\n' % name for name in "ab"])]
-        if not there[0] or there[1] not in second:
-            raise Wrong("when it is opened again, of both documents %s are there" % there)
+        there = "".join(json.loads(served(program, file, ['{"cmd":"list"}\n'])[0])["names"])
+        if there not in [names if whole else names[:size] for whole in second]:
+            raise Wrong("when it is opened again, it has %s" % there)
 
 
 def try_migration(program):
@@ -356,10 +363,12 @@ def main():
     program = os.path.abspath(sys.argv[1])
     rows = {name: lambda pieces=pieces: try_row(program, pieces) for name, pieces in ROWS.items()}
     rows["a batch of 64 changes"] = lambda: try_group(program)
-    for fault, second in HAND_OVERS.items():
-        rows["a change fails: " + fault] = lambda fault=fault, second=second: try_failed_hand_over(program, fault, second=second)
-    # Half 0 begins at sector 1: the second run of three sectors is written in part.
-    rows["a change is written in part"] = lambda: try_failed_hand_over(program, limit=5 * SECTOR_BYTES)
+    for version, size in itertools.product("23", (1, 2)):
+        group, fails = " of %d in format %s" % (size, version), functools.partial(try_failed_hand_over, program, version, size)
+        for fault, second in HAND_OVERS.items():
+            rows["a group" + group + " fails: " + fault] = functools.partial(fails, second, fault=fault)
+        # Half 0 begins at sector 1, and a change takes some 2.5 sectors: the second group is written in part.
+        rows["a group" + group + " is written in part"] = functools.partial(fails, limit=(3 + 2 * size) * SECTOR_BYTES)
     rows["a store of format 1 is opened"] = lambda: try_migration(program)
     rows["a store is made"] = lambda: try_making(program, [], MADE)
     rows["a sparse store is made"] = lambda: try_making(program, ["--sparse"], MADE_SPARSE)

@@ -2,7 +2,8 @@
 
 The record is a file of the repository, which the gate believes: a wrong body whose checksum is there isn't tried again.
 The checksum is of the edit; of the crate's code, definitions and proofs; of the crates below it all that is left without the bodies
-and the proofs of their functions; of the lines of these crates in crates.txt; of the kit's version; and of the scripts that try it.
+and the proofs of their functions; of the lines of these crates in crates.txt; of the kit's version and logic, whatever the letter of its
+edition; and of the scripts that try it.
 Whatever of these changes, the checksum is another, and the wrong body is tried.
 
 What a run of the gate saw refused is noted in a file of this clone, which is believed too; `--record` writes the record from both.
@@ -10,6 +11,7 @@ What a run of the gate saw refused is noted in a file of this clone, which is be
 import functools
 import hashlib
 import pathlib
+import re
 import shutil
 import subprocess
 import sys
@@ -60,7 +62,8 @@ def sum_of_contracts(crate):
 @functools.lru_cache(maxsize=None)
 def sum_of_tools():
     """The checksum of the kit's version and of the scripts that try wrong bodies."""
-    kit = subprocess.run(["rt", "version"], check=True, stdout=subprocess.PIPE, text=True).stdout
+    said = subprocess.run(["rt", "version"], check=True, stdout=subprocess.PIPE, text=True).stdout
+    kit = re.sub(r"(?<=-kit-)(\d+)[a-z]", r"\1", said)
     return sum_of(kit, [file.read_bytes() for file in SCRIPTS])
 
 

@@ -542,6 +542,8 @@ def words_that_are_no_call_end_with_2(jpstore):
             raise Wrong(f"{call}: {ended}")
     if "2 is not in 3..=1048576" not in jpstore.run("mem", "--sectors", "2").stderr:
         raise Wrong("the range isn't told")
+    if "a similar subcommand exists: 'serve'" not in jpstore.run("serv").stderr:
+        raise Wrong("the nearest command isn't told")
 
 
 def options_stand_where_they_like(jpstore):
