@@ -5,22 +5,6 @@
 #include <stdio.h>
 #include <string.h>
 
-static void add_bytes(struct line *line, const char *bytes, size_t length)
-{
-    struct text *text = line->text;
-    if (line->is_refused_memory || !text_grow(text, length)) {
-        line->is_refused_memory = true;
-        return;
-    }
-    memcpy(text->bytes + text->length, bytes, length);
-    text->length += length;
-}
-
-void line_add(struct line *line, const char *bytes)
-{
-    add_bytes(line, bytes, strlen(bytes));
-}
-
 void line_begin(struct line *line, const char *command)
 {
     line_add(line, "{\"cmd\":\"");
@@ -67,7 +51,7 @@ void line_add_text(struct line *line, const char *name, const char *value)
         const char *end = value;
         while (is_plain(*end))
             end++;
-        add_bytes(line, value, (size_t)(end - value));
+        line_add_bytes(line, value, (size_t)(end - value));
         if (*end)
             add_escaped(line, *end++);
         value = end;
@@ -114,7 +98,7 @@ static void add_value(struct line *line, const char *value)
 {
     const char *end;
     for (; (end = strchr(value, '\n')); value = end + 1) {
-        add_bytes(line, value, (size_t)(end - value));
+        line_add_bytes(line, value, (size_t)(end - value));
         line_add(line, " ");
     }
     line_add(line, value);

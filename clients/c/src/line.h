@@ -5,6 +5,8 @@
 #include "jpstore.h"
 #include "text.h"
 
+#include <string.h>
+
 /* A line that is written at the end of a text. What goes wrong is kept until the line's end. */
 struct line {
     struct text *text;
@@ -29,7 +31,22 @@ void line_add_change(struct line *line, const jpstore_change *change);
 /* Ends the command. */
 void line_end(struct line *line);
 
-/* Adds these bytes as they are. */
-void line_add(struct line *line, const char *bytes);
+/* Adds bytes as they are. */
+static inline void line_add_bytes(struct line *line, const char *bytes, size_t length)
+{
+    struct text *text = line->text;
+    if (line->is_refused_memory || !text_grow(text, length)) {
+        line->is_refused_memory = true;
+        return;
+    }
+    memcpy(text->bytes + text->length, bytes, length);
+    text->length += length;
+}
+
+/* Adds a text as it is. It is inline so that the lengths of literals are known. */
+static inline void line_add(struct line *line, const char *text)
+{
+    line_add_bytes(line, text, strlen(text));
+}
 
 #endif

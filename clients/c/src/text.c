@@ -6,10 +6,8 @@
 /* The most room that is kept for the next text. */
 enum { ROOM_KEPT = 1 << 20 };
 
-bool text_grow(struct text *text, size_t more)
+bool text_make_room(struct text *text, size_t more)
 {
-    if (text->room - text->length >= more)
-        return true;
     if (more > SIZE_MAX / 2 - text->length)
         return false;
     const size_t room = (text->length + more) * 2;
