@@ -11,7 +11,7 @@ _jpstore() {
     --sectors | --format | --mode | --batch | --pump) return ;;
     esac
     case ${words[1]}$cur in
-    serve-*) COMPREPLY=($(compgen -W "--batch --pump --halt --why --help" -- "$cur")) ;;
+    serve-*) COMPREPLY=($(compgen -W "--batch --pump --why --help" -- "$cur")) ;;
     format-*) COMPREPLY=($(compgen -W "--sectors --format --mode --sparse --why --help" -- "$cur")) ;;
     upgrade-*) COMPREPLY=($(compgen -W "--format --why --help" -- "$cur")) ;;
     copy-*) COMPREPLY=($(compgen -W "--sectors --why --help" -- "$cur")) ;;

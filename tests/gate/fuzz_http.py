@@ -28,8 +28,9 @@ import tempfile
 import time
 import traceback
 
-sys.path.insert(0, os.path.join(os.path.dirname(os.path.abspath(__file__)), "..", "long"))
+sys.path[:0] = [os.path.join(os.path.dirname(os.path.abspath(__file__)), "..", *names) for names in (["long"], ["..", "tools"])]
 from http_requests import Difference, Requests, accepted, expect
+from server import use_server
 from store_model import same, told
 
 CLIENTS = os.path.normpath(os.path.join(os.path.dirname(os.path.abspath(__file__)), "..", "..", "clients", "python"))
@@ -429,12 +430,13 @@ def main():
     parser.add_argument("--damaged", type=float, default=0.3, help="the share of the requests that are damaged")
     parser.add_argument("--formats", type=int, nargs="+", default=[2, 3])
     words = parser.parse_args()
-    if any(importlib.util.find_spec(name) is None for name in ("aiohttp", "jsonschema")):
+    if importlib.util.find_spec("jsonschema") is None:
         if os.path.exists(DEBIAN_PYTHON) and os.path.realpath(sys.executable) != os.path.realpath(DEBIAN_PYTHON):
             # Debian's packages are for Debian's interpreter.
             os.execv(DEBIAN_PYTHON, [DEBIAN_PYTHON, *sys.argv])
-        print("not tried, since one of these Debian packages is missing: python3-aiohttp python3-jsonschema\n0 passed, 0 failed")
+        print("not tried, since this Debian package is missing: python3-jsonschema\n0 passed, 0 failed")
         return 0
+    use_server()
     print(f"seed {words.seed}", flush=True)
     parts = [(number, over_hub) for number in words.formats for over_hub in (False, True)]
     words.requests //= len(parts)

@@ -14,7 +14,6 @@ import argparse
 import asyncio
 import base64
 import contextlib
-import importlib.util
 import json
 import os
 import random
@@ -26,8 +25,10 @@ import sys
 import tempfile
 import time
 
+sys.path.insert(0, os.path.join(os.path.dirname(os.path.abspath(__file__)), "..", "..", "tools"))
+from server import use_server
+
 CLIENTS = os.path.normpath(os.path.join(os.path.dirname(os.path.abspath(__file__)), "..", "..", "clients", "python"))
-DEBIAN_PYTHON = "/usr/bin/python3"
 PATIENCE = 60
 PADDING = "x" * 1000
 
@@ -311,12 +312,7 @@ def main():
     parser.add_argument("--no-kills", action="store_true")
     parser.add_argument("--no-rates", action="store_true")
     options = parser.parse_args()
-    if importlib.util.find_spec("aiohttp") is None:
-        if os.path.exists(DEBIAN_PYTHON) and os.path.realpath(sys.executable) != os.path.realpath(DEBIAN_PYTHON):
-            # Debian's packages are for Debian's interpreter.
-            os.execv(DEBIAN_PYTHON, [DEBIAN_PYTHON, *sys.argv])
-        print("not tried, since this Debian package is missing: python3-aiohttp\n0 passed, 0 failed")
-        return 0
+    use_server()
     program = os.path.abspath(options.program)
     parts = [] if options.no_kills else [lambda folder: with_kills(program, folder, options)]
     if not options.no_rates:

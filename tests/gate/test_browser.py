@@ -19,6 +19,9 @@ import tempfile
 import time
 import traceback
 
+sys.path.insert(0, os.path.join(os.path.dirname(os.path.abspath(__file__)), "..", "..", "tools"))
+from server import use_server
+
 CLIENTS = os.path.normpath(os.path.join(os.path.dirname(os.path.abspath(__file__)), "..", "..", "clients", "python"))
 DEBIAN_PYTHON = "/usr/bin/python3"
 PATIENCE = 20
@@ -28,8 +31,7 @@ TOKEN = "a-token-of-the-page-test"
 
 def missing():
     """The Debian packages of what is not there."""
-    modules = {"aiohttp": "python3-aiohttp", "selenium": "python3-selenium", "jsonschema": "python3-jsonschema",
-               "jsonpatch": "python3-jsonpatch"}
+    modules = {"selenium": "python3-selenium", "jsonschema": "python3-jsonschema", "jsonpatch": "python3-jsonpatch"}
     names = [package for module, package in modules.items() if importlib.util.find_spec(module) is None]
     programs = {"chromium": "chromium", "chromedriver": "chromium-driver"}
     return names + [package for program, package in programs.items() if shutil.which(program) is None]
@@ -295,6 +297,40 @@ def query(page):
     assert not page.all(".tree .marked")
 
 
+def find_in_a_long_value(page):
+    """A value far down a long list is drawn, marked and scrolled to, and shown again after a change."""
+    page.ask("PUT", "documents/long", {f"k-{number}": {"lines": [number]} for number in range(999)})
+    page.until(lambda: "long" in page.text("#names"), "the document")
+    page.click("#names a[href='#/long']")
+    page.until(lambda: page.text("#title") == "long", "the document")
+    page.write("#query", "$['k-555'].lines\n")
+    page.until(lambda: page.text("#query-result") == "1 value is marked.", "the count")
+    page.until(lambda: [each.text for each in page.all(".tree .marked")] == ['"lines": [ 1 item ]'], "the mark")
+    in_sight = "const place = arguments[0].getBoundingClientRect(); return 0 <= place.top && place.bottom <= innerHeight;"
+    page.until(lambda: page.browser.execute_script(in_sight, page.one(".tree .marked")), "the mark in sight")
+    left = [each.text for each in page.all(".tree .more")]
+    assert left == ["show more (200 left)", "show more (399 left)"], left
+    page.picture("long")
+    page.ask("PATCH", "documents/long", {"k-0": 1}, "application/merge-patch+json")
+    page.until(lambda: '"k-0": 1' in page.text("#tree"), "the other's value")
+    page.until(lambda: len(page.all(".tree .marked")) == 1, "the mark")
+    page.click(".tree .more", "200 left")
+    page.until(lambda: [each.text for each in page.all(".tree .more")] == ["show more (399 left)"], "the others")
+
+
+def see_earlier_changes(page):
+    """The newest changes from before the page was opened are shown, without a time."""
+    page.browser.refresh()
+    page.until(lambda: page.text("#live") == "live", "the stream of changes")
+    page.until(lambda: "long created" in page.text("#feed"), "a change from before")
+    assert len(page.all("#feed .earlier")) == min(20, page.ask("GET", "status")["seq"]) and not page.all("#feed time")
+    page.picture("earlier")
+    page.click("#names a[href='#/books']")
+    page.until(lambda: page.text("#title") == "books", "another document")
+    page.ask("DELETE", "documents/long")
+    page.until(lambda: "long deleted" in page.text("#feed") and len(page.all("#feed time")) == 1, "a new change")
+
+
 def change_the_schema(page):
     """The schema is shown, and changed."""
     page.click("#names a[href='#/shelf-1']")
@@ -441,8 +477,9 @@ def ask_for_the_token(page):
 
 
 WITHOUT_TOKEN = [make_a_document, see_a_refused_document, change_a_value, see_a_refusal, see_the_change_of_another,
-                 keep_what_is_written, add_and_remove_a_value, see_a_transaction, query, change_the_schema, see_a_warning,
-                 make_one_as_another, run_the_recipe, use_the_keyboard, use_a_phone, delete, no_errors_in_the_console]
+                 keep_what_is_written, add_and_remove_a_value, see_a_transaction, query, find_in_a_long_value,
+                 see_earlier_changes, change_the_schema, see_a_warning, make_one_as_another, run_the_recipe, use_the_keyboard,
+                 use_a_phone, delete, no_errors_in_the_console]
 
 
 def tried(program, pictures, parts, with_token):
@@ -481,6 +518,7 @@ def main():
         print("not tried, since these Debian packages are missing: " + " ".join(names))
         print("0 passed, 0 failed")
         return 0
+    use_server()
     program = os.path.abspath(options.program)
     counts = [tried(program, options.pictures, WITHOUT_TOKEN, False),
               tried(program, options.pictures, [ask_for_the_token, no_errors_in_the_console], True)]

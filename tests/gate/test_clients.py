@@ -1,5 +1,5 @@
 #!/usr/bin/env python3
-"""Runs the tests of the Python package over the built program by pytest, and judges its code by mypy and flake8.
+"""Runs the tests of the Python package and of the server over the built program by pytest, and judges the package by mypy and flake8.
 
     test_clients.py PROGRAM [OPTION..]
 
@@ -12,6 +12,9 @@ import re
 import shutil
 import subprocess
 import sys
+
+sys.path.insert(0, os.path.join(os.path.dirname(os.path.abspath(__file__)), "..", "..", "tools"))
+from server import use_server
 
 CLIENTS = os.path.normpath(os.path.join(os.path.dirname(os.path.abspath(__file__)), "..", "..", "clients", "python"))
 # The modules that are needed, and the Debian packages that have them.
@@ -71,6 +74,7 @@ def main():
         print("these Debian packages are missing: " + " ".join(TOOLS.values()))
         print("0 passed, 1 failed")
         return 1
+    use_server()
     judges = [[python, "-m", "mypy", "--cache-dir", os.devnull], [python, "-m", "flake8"]]
     verdicts = [judged(words) for words in judges]
     passed, failed = tested(python, os.path.abspath(sys.argv[1]), sys.argv[2:])

@@ -26,9 +26,12 @@ import tempfile
 import time
 import traceback
 
-TESTS = os.path.join(os.path.dirname(os.path.abspath(__file__)), "..", "..", "clients", "python", "tests")
-sys.path[:0] = [os.path.dirname(TESTS), TESTS, os.path.join(TESTS, "replica")]
+TOP = os.path.join(os.path.dirname(os.path.abspath(__file__)), "..", "..")
+TESTS = os.path.join(TOP, "clients", "python", "tests")
+sys.path[:0] = [os.path.dirname(TESTS), TESTS, os.path.join(TESTS, "replica"), os.path.join(TOP, "tools")]
 sys.dont_write_bytecode = True
+
+from server import use_server  # noqa: E402
 
 DEBIAN_PYTHON = "/usr/bin/python3"
 # What is needed, and the Debian packages that have it.
@@ -138,6 +141,7 @@ def main():
     parser.add_argument("--only", type=int, help="only the test of this number")
     words = parser.parse_args()
     prepare()
+    use_server()
     parts = words.parts or ["cases", "chaos", "wrong"]
     tests = tests_of(parts, os.path.abspath(words.program), words.rounds, words.seed)
     if words.only is not None:

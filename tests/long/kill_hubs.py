@@ -35,8 +35,9 @@ import threading
 import time
 import traceback
 
-CLIENTS = os.path.join(os.path.dirname(os.path.abspath(__file__)), "..", "..", "clients", "python")
-sys.path[:0] = [CLIENTS, os.path.join(CLIENTS, "tests")]
+TOP = os.path.join(os.path.dirname(os.path.abspath(__file__)), "..", "..")
+CLIENTS = os.path.join(TOP, "clients", "python")
+sys.path[:0] = [CLIENTS, os.path.join(CLIENTS, "tests"), os.path.join(TOP, "tools")]
 sys.dont_write_bytecode = True
 
 from hubs import Hub, Writers, check_moment, count_until_a_kill, counts_at  # noqa: E402
@@ -44,6 +45,7 @@ from jpstore import Conflict, Ended, JpstoreError, NotFound, Outdated, Store, cr
 from jpstore.moment import moment_of_hub  # noqa: E402
 from jpstore.once import Once  # noqa: E402
 from jpstore.watch import Watch  # noqa: E402
+from server import use_server  # noqa: E402
 from support import Place  # noqa: E402
 
 CLIENT_COUNT = 8
@@ -573,6 +575,7 @@ def main():
     parser.add_argument("--seed", type=int, default=random.randrange(1 << 32))
     words = parser.parse_args()
     random.seed(words.seed)
+    use_server()
     print(f"seed {words.seed}", flush=True)
     failed = 0
     named = words.parts or list(PARTS)

@@ -37,15 +37,25 @@ PACKAGES = ["jpstore", "libjpstore-dev", "libjpstore1", "librust-jpstore-dev", "
 WANTED = {"debootstrap": "debootstrap", "lintian": "lintian", "mandoc": "mandoc", "systemd-nspawn": "systemd-container"}
 # What a clean root has besides, so that systemd runs in it and programs are built.
 IN_ROOT = ["systemd", "systemd-sysv", "dbus", "procps", "python3", "gcc", "libc6-dev", "pkg-config", "cargo", "etcd-server", "etcd-client"]
+# What the packages recommend besides each other.
+RECOMMENDED = ["python3-jsonpatch", "python3-jsonschema"]
 
 PYTHON = """\
 from jpstore import Store
 with Store("demo") as store:
     print(store.get("shelf-1", "/nuts"))
 """
+# What the page and the store are answered with over HTTP.
+ASKED = """\
+import urllib.request
+for path in ("", "documents/shelf-1"):
+    with urllib.request.urlopen("http://127.0.0.1:8080/" + path) as answer:
+        print(answer.status, answer.headers["Content-Type"])
+"""
 INSTALLED = [
     "usr/bin/jpstore",
     "usr/bin/jpstore-cli",
+    "usr/bin/jpstored",
     "usr/include/jpstore.h",
     "usr/lib/x86_64-linux-gnu/libjpstore.a",
     "usr/lib/x86_64-linux-gnu/libjpstore.so",
@@ -54,10 +64,12 @@ INSTALLED = [
     "usr/lib/python3/dist-packages/jpstore",
     "usr/share/cargo/registry",
     "lib/systemd/system/jpstore@.service",
+    "lib/systemd/system/jpstore-http@.service",
     "usr/share/doc/jpstore/README.md",
     "usr/share/doc/jpstore/GATE-RUN.txt",
     "usr/share/man/man1/jpstore.1.gz",
     "usr/share/man/man1/jpstore-cli.1.gz",
+    "usr/share/man/man1/jpstored.1.gz",
     "usr/share/man/man5/jpstore-format.5.gz",
     "usr/share/man/man7/jpstore-protocol.7.gz",
     "usr/share/bash-completion/completions/jpstore",
@@ -200,8 +212,9 @@ class CleanRoot:
         self.write("etc/hosts", "127.0.0.1 localhost\n")
         # Nothing of this root is worth a sync of the disk.
         self.write("etc/dpkg/dpkg.cfg.d/unsafe-io", "force-unsafe-io\n")
-        run(["chroot", self.root, "sh", "-ec", f"apt-get update -q && apt-get install -q -y --no-install-recommends {' '.join(IN_ROOT)}"],
-            env=ENVIRONMENT)
+        # There is no network in it later.
+        for words in ("update -q", f"install -q -y --no-install-recommends {' '.join(IN_ROOT)}", f"install -q -y --download-only {' '.join(RECOMMENDED)}"):
+            run(["chroot", self.root, "sh", "-ec", "apt-get " + words], env=ENVIRONMENT)
 
     def begin(self):
         """Starts systemd."""
@@ -276,7 +289,8 @@ class Packages:
         self.before = self.root.listed()
 
     def install(self):
-        self.root.run("apt-get install -q -y --no-install-recommends /packages/*.deb")
+        # With what they recommend, which README's session needs to tell reasons.
+        self.root.run("apt-get install -q -y /packages/*.deb")
         missing = [name for name in INSTALLED if not os.path.lexists(self.root.root / name)]
         same("missing files", missing, [])
 
@@ -314,6 +328,15 @@ class Packages:
         same("the store's folder", self.root.run(f"stat -c '%U %a' /var/lib/jpstore /var/lib/jpstore/{HUB}"), f"root 755\n{HUB} 700\n")
         self.root.run(f"systemd-analyze security --threshold=20 {UNITS[0]}")
 
+    def page(self):
+        """The store is served over HTTP too, in place of the other unit, with the page in the browser."""
+        unit = f"jpstore-http@{HUB}"
+        self.root.run(f"systemctl start {unit}; test -S {socket_of(HUB)}; ! systemctl is-active -q {UNITS[0]}")
+        self.root.write("root/asked.py", ASKED)
+        same("over HTTP", self.root.run("python3 /root/asked.py"), "200 text/html; charset=utf-8\n200 application/json\n")
+        self.root.run(f"systemd-analyze security --threshold=20 {unit}")
+        self.root.run(f"systemctl start {UNITS[0]}; test -S {socket_of(HUB)}; ! systemctl is-active -q {unit}")
+
     def node(self):
         """A node of a replicated store, whose log is trimmed."""
         self.new_store(NODE)
@@ -340,6 +363,7 @@ class Packages:
         """A hub is the new version's then, and a node the old one's until somebody restarts it."""
         before = self.processes()
         self.root.run("apt-get install -q -y --no-install-recommends /newer/*.deb")
+        until(lambda: self.root.run(f"systemctl is-active {UNITS[0]} || true") == "active\n", "the hub runs again")
         after = self.processes()
         if "0" in [*before, *after] or before[0] == after[0] or before[1] != after[1]:
             raise Failed(f"the processes were {before}, and are {after}")
@@ -354,7 +378,11 @@ class Packages:
         return self.root.run(f"pgrep -a -u {HUB},{NODE} || true")
 
     def remove(self):
-        self.root.run("apt-get remove -q -y jpstore")
+        """Hubs and nodes are ended, and waited for: their units' folders go with them."""
+        for unit in UNITS:
+            folder = f"/run/systemd/system/{unit}.service.d"
+            self.root.run(f"mkdir -p {folder}; printf '[Service]\\nExecStopPost=/bin/sleep 3\\n' > {folder}/slow.conf")
+        self.root.run("systemctl daemon-reload; apt-get remove -q -y jpstore")
         same("what runs", self.running(), "")
         same("the sockets", self.root.run("ls -A /run/jpstore 2>/dev/null || true"), "")
         same("the state of the units", self.root.run(f"systemctl is-active {' '.join(UNITS)} || true"), "inactive\ninactive\n")
@@ -419,7 +447,7 @@ def tests_of(asked, folder):
     root = CleanRoot(folder, asked.root, asked.suite, asked.mirror)
     packages = Packages(root, asked.dist.resolve())
     try:
-        for name in ("root_with_systemd", "install", "session_of_readme", "program_in_c", "program_in_rust", "program_in_python", "hub", "node",
+        for name in ("root_with_systemd", "install", "session_of_readme", "program_in_c", "program_in_rust", "program_in_python", "hub", "page", "node",
                      "upgrade", "remove", "purge", "installed_again"):
             yield getattr(packages, name)
     finally:

@@ -1,4 +1,4 @@
-"""The program that the tests run, and the folder that each test has."""
+"""The program and the server that the tests run, and the folder that each test has."""
 import os
 import shutil
 import signal
@@ -12,6 +12,7 @@ pytest.register_assert_rewrite("support")
 from support import PACKAGE, PATIENCE, Place  # noqa: E402
 
 _BUILT = os.path.join(PACKAGE, "..", "..", "crates", "jpstore", "out", "jpstore")
+_SERVER_BUILT = os.path.join(PACKAGE, "..", "server", "target", "release", "jpstored")
 
 
 def pytest_addoption(parser: pytest.Parser) -> None:
@@ -28,6 +29,21 @@ def program(request: pytest.FixtureRequest) -> str:
     if found is None:
         pytest.exit(f"there is no program {named or 'jpstore'}: build it, or name it by --program", returncode=2)
     return os.path.abspath(found)
+
+
+@pytest.fixture(scope="session", autouse=True)
+def server(program: str) -> str:
+    """The path of the server: by JPSTORE_SERVER, the one beside the program, or the one that cargo built here.
+
+    By JPSTORE_SERVER, `hub` and `http` of the package find it too.
+    """
+    beside = os.path.join(os.path.dirname(program), "jpstored")
+    named = os.environ.get("JPSTORE_SERVER") or shutil.which(beside) or _SERVER_BUILT
+    found = shutil.which(named)
+    if found is None:
+        pytest.exit(f"there is no server {named}: tools/server.py builds it", returncode=2)
+    os.environ["JPSTORE_SERVER"] = os.path.abspath(found)
+    return os.environ["JPSTORE_SERVER"]
 
 
 @pytest.fixture

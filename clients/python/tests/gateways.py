@@ -28,7 +28,7 @@ class Gateway:
     """A gateway over the file of a place, or over another store."""
 
     def __init__(self, place, *options, store=None):
-        words = place.words("http", store or place.file, "--listen", "127.0.0.1:0", *options)
+        words = place.server_words(store or place.file, "--listen", "127.0.0.1:0", *options)
         self.process = subprocess.Popen(words, stdout=subprocess.PIPE, stderr=subprocess.PIPE, env=place.environment())
         line = self.process.stdout.readline().decode()
         found = re.fullmatch(r".* is served at (http://127\.0\.0\.1:(\d+))/\n", line)

@@ -17,7 +17,7 @@ class Hub:
 
     def __init__(self, place, program=None, options=(), path=None):
         self.path = path or place.path("socket")
-        words = place.words("hub", place.file, "--socket", self.path, *options)
+        words = place.server_words(place.file, "--socket", self.path, *options)
         if program:
             words[-1] = program
         self.process = subprocess.Popen(words, stdout=subprocess.PIPE, stderr=subprocess.PIPE, env=place.environment())

@@ -86,6 +86,10 @@ class Place:
         """The words that start the package as a program, the program's own path after them."""
         return [sys.executable, "-m", "jpstore", *words, "--program", self.program]
 
+    def server_words(self, *words: str) -> List[str]:
+        """The words that start the server, with this interpreter to tell reasons, the program's path after them."""
+        return [os.environ["JPSTORE_SERVER"], *words, "--python", sys.executable, "--program", self.program]
+
     def environment(self) -> Any:
         return {**os.environ, "PYTHONPATH": PACKAGE, "HOME": self.folder, "PYTHONIOENCODING": "utf-8"}
 

@@ -8,14 +8,13 @@ import json
 from typing import Deque, Dict, List, NamedTuple, Optional, Sequence, Tuple
 
 from ..errors import JpstoreError
-from ..hub.history import History
-from ..hub.history_file import Position
 from ..wire.commands import line_of_transaction
 from ..wire.replies import done, line_of_reply, refusal, seq_in
 from ..wire.values import canonical
 from .capacity import Need, Reckoning, Verdict
 from .changes import Line, line_in, places_in
 from .errors import Astray, Changed
+from .history import History
 from .log import Entry, EntryKind
 from .note import Note
 from .store import ReplicaStore
@@ -30,9 +29,6 @@ _MOST_TOGETHER, _MOST_BYTES = 64, 1 << 22
 
 # Refusals of a line's form, which name no change.
 _OF_FORM = (10, 11, 12, 14)
-
-# The changes are not kept in a file.
-_NOWHERE = Position(0, 0, 0, 0, 0)
 
 
 class OtherVersion(JpstoreError):
@@ -185,7 +181,7 @@ class Applier:
                 task.answers[place] = done(self.seq + len(texts))
         texts.append(note.patch(None))
         self.seq += len(texts)
-        self._history.record(texts, _NOWHERE, sizes)
+        self._history.add(texts, sizes)
         self.note = note
 
     async def _settle(self, task: _Task, reply: bytes) -> Done:

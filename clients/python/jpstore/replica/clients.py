@@ -4,8 +4,6 @@ import json
 from typing import Any, AsyncIterator, Dict, Optional, Set
 
 from ..errors import JpstoreError
-from ..hub.export import send
-from ..hub.watch import serve_watch
 from ..refusals import NOT_GROWN
 from ..wire.commands import STATUS, changes_in
 from ..wire.forms import Kind
@@ -13,8 +11,10 @@ from ..wire.line_splitter import lines_of
 from ..wire.replies import REFUSED, line_of_reply, refusal
 from .appending import Lost
 from .line_reader import Asked, read_line
+from .export import send
 from .node import Node
 from .tasks import end_tasks
+from .watching import serve_watch
 
 __all__ = ["Clients"]
 

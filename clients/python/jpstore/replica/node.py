@@ -6,19 +6,19 @@ from collections import deque
 from typing import IO, Any, Awaitable, Callable, Deque, Dict, NamedTuple, Optional, TypeVar
 
 from ..errors import JpstoreError
-from ..hub.export import export
-from ..hub.history import History
-from ..hub.watch import News
 from .appending import Appending
 from .applying import Applier, Done
 from .capacity import Room
 from .copying import Copy, copy_of
 from .digest import Comparing, digest_of
 from .engine import NoSpace, Rejected, Trimmed
+from .export import export
+from .history import History
 from .log import Entry, EntryKind, Head, Log
 from .questions import Asking
 from .store import Faulty, ReplicaStore
 from .tasks import apart, end_tasks
+from .watching import News
 
 __all__ = ["Node", "Settings"]
 

@@ -7,8 +7,6 @@ import sys
 from typing import Any, Awaitable, Dict, List, NamedTuple, Optional, Sequence
 
 from ..errors import JpstoreError
-from ..hub.history import History
-from ..hub.unix_socket import Listening, check_free
 from ..wire.program import find_program, version_of
 from ..wire.standard_streams import announce
 from .applying import Applier
@@ -16,10 +14,12 @@ from .capacity import Reckoning, room_of
 from .clients import Clients
 from .engine import Member
 from .errors import Astray, Changed, WrongLog
+from .history import History
 from .log import Log
 from .node import Node, Settings
 from .store import ReplicaStore
 from .tasks import end_tasks
+from .unix_socket import Listening, check_free
 
 __all__ = ["Serving", "run_node"]
 

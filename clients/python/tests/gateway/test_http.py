@@ -1,16 +1,11 @@
 """The gateway over HTTP, by what the standards say: RFC 9110, 5789, 6902, 7396, 6901, 9535, 9457 and HTML."""
 import json
-import os
 import re
 import threading
 
 import pytest
-
-pytest.importorskip("aiohttp", reason="the gateway needs aiohttp (python3-aiohttp)")
-
-from gateways import Events, Gateway  # noqa: E402
-from jpstore import create, delete, patch as patched, set_schema  # noqa: E402
-from support import PACKAGE  # noqa: E402
+from gateways import Events, Gateway
+from jpstore import create, delete, patch as patched, set_schema
 
 COUNTS = {"type": "object", "additionalProperties": {"type": "integer", "minimum": 0}}
 
@@ -603,19 +598,13 @@ def test_the_status_and_the_figures(gateway):
 
 
 def test_the_description_has_each_route(gateway):
-    pytest.importorskip("jsonschema")
-    from jpstore.gateway.gateway import Gateway as Served
     told = gateway.get("/openapi.json").json()
     assert told["openapi"].startswith("3.1.")
-    described = {(method, path) for path, item in told["paths"].items() for method in item if method != "parameters"}
-    import asyncio
-
-    async def routes():
-        return {(route.method.lower(), route.path) for route in Served("none").routes()}
-    served = asyncio.run(routes())
-    served |= {("head", path) for method, path in served if method == "get" and path != "/changes"}
-    assert described == served
     for path, item in told["paths"].items():
+        # RFC 9110, 15.5.6: a method that is not allowed is answered with those that are.
+        answer = gateway.ask("BREW", re.sub("{.*}", "x", path))
+        described = {method.upper() for method in item if method != "parameters"}
+        assert (answer.status, set(re.split(", *", answer.headers["Allow"]))) == (405, described), path
         # OpenAPI 3.1, section 4.8.12.1: each name in a path is a parameter that is required.
         assert re.findall(r"{(\w+)}", path) == [each["name"] for each in item.get("parameters", []) if each["required"]]
     for place in re.findall(r'"\$ref": "#/([^"]*)"', json.dumps(told)):
@@ -650,14 +639,3 @@ def test_transactions_are_as_they_are_described(gateway):
     done = post["responses"]["200"]
     assert "headers" not in done
     jsonschema.validate(answer.json(), done["content"]["application/json"]["schema"])
-
-
-def test_the_table_of_statuses_is_that_of_the_protocol():
-    from jpstore.gateway.statuses import STATUSES, table
-    from jpstore.refusals import REFUSALS
-    # Those from 70 on are said when a store is made or opened, and to no request.
-    assert sorted(STATUSES) == [number for number in REFUSALS if number < 70]
-    with open(os.path.join(PACKAGE, "..", "..", "docs", "use", "HTTP.md"), encoding="utf-8") as opened:
-        text = opened.read()
-    begin = text.index("| Status | Refusals |")
-    assert text[begin:text.index("\n\n", begin)] + "\n" == table()

@@ -7,11 +7,8 @@ import subprocess
 import sys
 
 import pytest
-
-pytest.importorskip("aiohttp", reason="the gateway needs aiohttp (python3-aiohttp)")
-
-from gateways import Gateway  # noqa: E402
-from support import PACKAGE, PATIENCE  # noqa: E402
+from gateways import Gateway
+from support import PACKAGE, PATIENCE
 
 _PAGE = os.path.join(PACKAGE, "..", "..", "docs", "use", "HTTP.md")
 _SHOWN = "127.0.0.1:8080"
@@ -34,6 +31,7 @@ def _environment(place):
     out = place.path("crates/jpstore/out")
     os.makedirs(out)
     os.symlink(place.program, os.path.join(out, "jpstore"))
+    os.symlink(os.environ["JPSTORE_SERVER"], os.path.join(out, "jpstored"))
     os.makedirs(place.path("clients"))
     os.symlink(PACKAGE, place.path("clients/python"))
     path = os.pathsep.join([out, os.path.dirname(sys.executable), os.environ["PATH"]])

@@ -1,5 +1,4 @@
 """The gateway with clients that mean ill or go away, and with a store that goes away: nothing is lost or mixed up."""
-import asyncio
 import contextlib
 import http.client
 import json
@@ -15,13 +14,9 @@ import types
 from urllib.parse import quote
 
 import pytest
-
-pytest.importorskip("aiohttp", reason="the gateway needs aiohttp (python3-aiohttp)")
-
-from gateways import Events, Gateway  # noqa: E402
-from hubs import Hub  # noqa: E402
-from jpstore.hub.line_kinds import Kind  # noqa: E402
-from support import PACKAGE, PATIENCE, until  # noqa: E402
+from gateways import Events, Gateway
+from hubs import Hub
+from support import PACKAGE, PATIENCE, until
 
 TOKEN = "correct-horse-battery-staple"
 
@@ -268,7 +263,8 @@ def test_slow_readers_do_not_hold_others_up(gateway):
 
 def test_a_follower_that_is_too_slow_is_told(place):
     place.format(16384)
-    with Gateway(place) as gateway, gateway.raw() as client:
+    # On a slow machine the changes take longer than a client has for a piece of an answer.
+    with Gateway(place, "--patience", "600") as gateway, gateway.raw() as client:
         client.setsockopt(socket.SOL_SOCKET, socket.SO_RCVBUF, 1 << 16)
         client.sendall(request("GET", "/changes?from=0", Connection="close"))
         before = gateway.memory()
@@ -319,33 +315,6 @@ def test_a_field_without_a_name_is_refused(gateway):
                        b'CONTENT-LENGTH:1\r\nConnection: close\r\n\r\n1')
         assert answer.readline() == b"HTTP/1.1 400 Bad Request\r\n"
     assert gateway.get("/documents/none").status == 404
-
-
-def test_a_request_without_a_host_is_refused_and_looks_up_no_name(place, monkeypatch):
-    """RFC 9112, 3.2: an HTTP/1.1 request that lacks the field is answered 400."""
-    from jpstore.gateway import run
-    from jpstore.gateway.gateway import Gateway as Served
-    looked_up = []
-    monkeypatch.setattr(socket, "getfqdn", lambda *_: looked_up.append("name") or "localhost")
-
-    async def status(port, sent):
-        reader, writer = await asyncio.open_connection("127.0.0.1", port)
-        writer.write(sent)
-        line = await asyncio.wait_for(reader.readline(), PATIENCE)
-        writer.close()
-        return int(line.split()[1])
-
-    async def tried(token):
-        with socket.socket() as listening:
-            listening.bind(("127.0.0.1", 0))
-            async with run._served(Served(place.path("none"), token=token), listening):
-                port = listening.getsockname()[1]
-                return [await status(port, sent) for sent in (
-                    b"GET / HTTP/1.1\r\n\r\n", b"GET / HTTP/1.0\r\n\r\n", b"GET / HTTP/1.1\r\nHost: localhost\r\n\r\n",
-                    b"GET /x HTTP/1.1\r\nOrigin: http://localhost\r\n\r\n")]
-    assert asyncio.run(tried(None)) == [400, 421, 200, 400]
-    assert asyncio.run(tried(TOKEN)) == [400, 200, 200, 400]
-    assert looked_up == []
 
 
 # With eight branches at each of eight levels the library looks at the innermost value 16,777,216 times.
@@ -420,72 +389,6 @@ def test_a_look_for_faults_ends_though_its_gateway_is_killed(place):
             until(lambda: processor_time(child) > 0.5, "the document")
             gateway.kill()
             until(lambda: not os.path.exists(f"/proc/{child}") or state_of(child) == "Z", "the end of the process")
-
-
-def test_connections_that_do_nothing_are_closed(place, monkeypatch):
-    from jpstore.gateway import connections, run
-    from jpstore.gateway.gateway import Gateway as Served
-    monkeypatch.setattr(connections, "_PATIENCE", 0.3)
-    monkeypatch.setattr(connections, "_LOOK", 0.05)
-
-    async def closed(port, sent):
-        reader, writer = await asyncio.open_connection("127.0.0.1", port)
-        writer.write(sent)
-        begin = time.monotonic()
-        # A connection with an answer to an earlier request has that first.
-        while await asyncio.wait_for(reader.read(1 << 16), PATIENCE):
-            pass
-        writer.close()
-        return time.monotonic() - begin
-
-    async def tried():
-        with socket.socket() as listening:
-            listening.bind(("127.0.0.1", 0))
-            async with run._served(Served(place.path("none")), listening):
-                port = listening.getsockname()[1]
-                sent = (b"", b"GET / HT", b"GET /page.css HTTP/1.1\r\nHost: 127.0.0.1\r\n\r\n")
-                return await asyncio.gather(*(closed(port, each) for each in sent))
-    assert all(0.25 < seconds < 5 for seconds in asyncio.run(tried()))
-
-
-def test_slow_clients_are_given_up(place, monkeypatch):
-    from jpstore.gateway import answers, bodies, run
-    from jpstore.gateway.gateway import Gateway as Served
-    monkeypatch.setattr(answers, "_PATIENCE", 0.3)
-    monkeypatch.setattr(bodies, "_PATIENCE", 0.3)
-
-    async def half_a_body(port):
-        reader, writer = await asyncio.open_connection("127.0.0.1", port)
-        writer.write(request("PUT", "/documents/b", Content_Length=9, Content_Type="application/json") + b"12")
-        answer = await asyncio.wait_for(reader.read(1 << 16), PATIENCE)
-        writer.close()
-        return answer
-
-    async def unread(port):
-        with socket.socket() as client:
-            client.setsockopt(socket.SOL_SOCKET, socket.SO_RCVBUF, 4096)
-            client.connect(("127.0.0.1", port))
-            client.sendall(request("GET", "/documents/a"))
-            await asyncio.sleep(2)
-            client.settimeout(PATIENCE)
-            taken = b""
-            with contextlib.suppress(ConnectionError):
-                taken = b"".join(iter(lambda: client.recv(1 << 16), b""))
-            return len(taken)
-
-    async def tried(path):
-        with socket.socket() as listening:
-            listening.setsockopt(socket.SOL_SOCKET, socket.SO_SNDBUF, 4096)
-            listening.bind(("127.0.0.1", 0))
-            async with run._served(Served(path), listening):
-                port = listening.getsockname()[1]
-                assert (await half_a_body(port)).startswith(b"HTTP/1.1 408 ")
-                assert await unread(port) < 1000000
-    place.format()
-    with Hub(place) as hub:
-        with hub.connect() as store:
-            store.create("a", "x" * 1000000)
-        asyncio.run(tried(hub.path))
 
 
 # The store goes away.
@@ -579,33 +482,6 @@ def test_what_a_killed_program_has_not_answered_is_told(place):
                             ("PUT", 502, "answer-lost")]
 
 
-def test_a_caller_of_the_hub_is_answered_once_or_told_that_it_is_not():
-    from jpstore.hub.clients import Caller
-    from jpstore.wire.stream import StreamEnded, StreamSilent
-
-    def caller():
-        return Caller([b'{"cmd":"list"}\n', b'{"cmd":"export"}\n', b"x" * 1048577 + b"\n"])
-
-    async def tried():
-        answered, late, left = caller(), caller(), caller()
-        assert [line for _, line in answered.lines] == [b'{"cmd":"list"}\n', b'{"cmd":"export"}\n', b""]
-        assert not list(answered.leading(Kind.CHANGE))
-        assert len(list(answered.leading(Kind.QUESTION))) == 3
-        answered.answer([b"1\n"])
-        answered.answer([b"2\n", b"3\n"])
-        await answered.close()
-        assert await answered.answered(PATIENCE) == [b"1", b"2", b"3"]
-        with pytest.raises(StreamSilent):
-            await late.answered(0.05)
-        late.answer([b"1\n", b"2\n", b"3\n"])
-        left.answer([b"1\n"])
-        await left.close()
-        with pytest.raises(StreamEnded) as ended:
-            await left.answered(PATIENCE)
-        assert (ended.value.replies, ended.value.sent) == ([b"1"], True)
-    asyncio.run(tried())
-
-
 def test_a_lost_answer_is_told(place):
     from serving import FakeHub
     path = place.path("socket")
@@ -646,7 +522,9 @@ def test_counts_are_exact_over_kills_of_the_gateway(place):
 def _recipe(url):
     """The `once` that docs/use/MODELLING.md shows, for the gateway at this address, and without its long pauses."""
     with open(os.path.join(PACKAGE, "..", "..", "docs", "use", "MODELLING.md"), encoding="utf-8") as opened:
-        text = re.search(r"^```python\n(import time\n.*?)^def take_order", opened.read(), re.M | re.S).group(1)
+        page = opened.read()
+    asks = re.search(r"^```python\n(import time\n\nimport requests\n.*?)^def keep_order", page, re.M | re.S).group(1)
+    text = asks + re.search(r"^(def note_of.*?)^def take_order", page, re.M | re.S).group(1)
     known = {"print": lambda *_: None}
     exec(text.replace("http://127.0.0.1:8080", url), known)
     known["time"] = types.SimpleNamespace(sleep=lambda _: time.sleep(0.02), monotonic=time.monotonic)
@@ -715,7 +593,7 @@ def test_what_the_page_does_once_is_exact_over_kills_of_the_gateway(place):
         gateway.kill()
         with hub.connect() as store:
             assert (wrong, store.get("all")) == ([], sum(asked.values()))
-            assert [len(store.get(f"once-{name}")) for name in asked] == [min(count, 100) for count in asked.values()]
+            assert [len(store.get(f"once-{name}")) for name in asked] == [min(count, 1000) for count in asked.values()]
 
 
 def _counted_once(requests, once, url, name, number):

@@ -174,7 +174,7 @@ def test_a_hub_takes_no_file_that_is_in_use(place):
     place.format()
     with Hub(place) as hub:
         errors = place.run("hub", "store", "--socket", "second", "--wait", "0.2", status=1).stderr.decode()
-        assert "jpstore: in-use" in errors
+        assert "store is in use" in errors
         with hub.connect() as store:
             assert store.names() == []
     assert sorted(os.listdir(place.folder)) == ["socket", "store", "store.changes"]
@@ -193,7 +193,7 @@ def test_a_device_that_fails_ends_the_hub(place):
         assert (ended.status, ended.name, ended.number) == (1, "device", 61)
     with Hub(place, failing) as hub, hub.connect() as store:
         assert raised(Broken, store.create, "d", 1).number == 61
-        assert "jpstore: device (61)" in hub.ends(1)
+        assert "store: device (61)" in hub.ends(1)
         raised(Ended, store.names)
 
 

@@ -10,9 +10,7 @@ import time
 
 import pytest
 from hubs import Hub, Writers, check_moment, count_up
-from jpstore import JpstoreError, Store, Watch, copy_file, create, grow_file, patch, upgrade_file
-from jpstore.hub.history import open_history
-from jpstore.hub.history_file import Position
+from jpstore import JpstoreError, Watch, create, grow_file, patch, upgrade_file
 from support import PATIENCE, raised, until
 
 # How many kills are tried, and the most seconds before one. `JPSTORE_KILLS` tries more.
@@ -158,7 +156,9 @@ def grow_until_the_end(hub):
 def kill_one(hub, of_hub):
     """Kills the hub, or one of its programs, such as the one that copies, and then the hub if it goes on."""
     if not of_hub:
-        os.kill(random.choice(hub.programs()), signal.SIGKILL)
+        # A program that copies may have ended meanwhile.
+        with contextlib.suppress(ProcessLookupError):
+            os.kill(random.choice(hub.programs()), signal.SIGKILL)
         time.sleep(random.random() * MOST_TIME / 4)
     hub.kill()
 
@@ -191,33 +191,6 @@ def test_no_kill_in_the_midst_loses_an_answered_change(place, of_hub):
     assert grown > 256
 
 
-@pytest.mark.parametrize("renamed", [False, True])
-def test_a_kill_before_or_after_the_renaming_keeps_the_changes_of_watchers(place, renamed):
-    with place.made(512) as store:
-        store.group([create("d", {"n": 0}), put(1)])
-        store.snapshot()
-        open_history(place.file)
-        store.group([put(2), put(3)])
-    history = open_again(place)
-    larger = place.path("larger")
-    copy_file(place.file, larger, 1024, place.program)
-    with Store(larger, program=place.program) as grown:
-        status = grown.status()
-        position = Position(status.half, os.stat(larger).st_ino, status.opens, status.seq, status.used)
-        history.announce(larger, position)
-    if renamed:
-        os.rename(larger, place.file)
-    after = open_again(place)
-    assert (after.base, after.last, after.has(4, history.name)) == (history.base, 4, True)
-    assert [json.loads(line)["seq"] for line in after.after(2, 1 << 20)] == [3, 4]
-
-
-def open_again(place):
-    """What a hub knows that is started anew."""
-    with place.store(wait=PATIENCE):
-        return open_history(place.file)
-
-
 def test_a_file_grows_in_its_place(place):
     with place.made(512) as store:
         store.group([create("d", {"n": 0}), put(1), create("e", [1])])
@@ -231,7 +204,7 @@ def test_a_file_grows_in_its_place(place):
     assert place.run("grow", "store").stdout.startswith(b"store has grown\n")
     assert os.stat(place.file).st_size == 2048 * 512
     with place.store():
-        assert "in-use" in place.run("grow", "store", status=1).stderr.decode()
+        assert "store is in use" in place.run("grow", "store", status=1).stderr.decode()
     os.symlink("store", place.path("link"))
     assert grow_file(place.path("link"), 4096, place.program).sectors == 4096
     assert os.path.islink(place.path("link")) and os.stat(place.file).st_size == 4096 * 512

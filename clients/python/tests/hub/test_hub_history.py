@@ -6,12 +6,11 @@ import resource
 import shutil
 
 import pytest
+from histories import WAIT, History, ended_hub, killed, notes_of, opened, put_notes, told
 from hubs import Hub
-from jpstore import JpstoreError, create, delete, patch, set_schema
-from jpstore.hub.history import open_history
-from jpstore.hub.history_file import Position
+from jpstore import create, delete, patch, set_schema
 from jpstore.watch import Gone, Watch
-from support import raised
+from support import PATIENCE, raised
 
 FOREIGN = "not a history\n"
 
@@ -20,32 +19,15 @@ def put(number, name="d"):
     return patch(name, [{"op": "add", "path": "/n", "value": number}])
 
 
-def told(history):
-    """The changes that a history has, by their numbers."""
-    records = [json.loads(line) for line in history.after(history.base, 1 << 30)]
-    assert [record["seq"] for record in records] == list(range(history.base + 1, history.last + 1))
-    return {record["seq"]: record["change"] for record in records}
-
-
-def opened(place):
-    """What a hub knows that is started anew; the program of one that was killed may have the file for a moment."""
-    with place.store(wait=10):
-        return open_history(place.file)
-
-
 def made(place, *changes):
     """Makes changes without a hub."""
-    with place.store() as store:
+    with place.store(wait=10) as store:
         store.group(changes)
 
 
 def cut_off(place, noted, lost, between=lambda store: None):
     """A hub notes some changes, and is killed after others were committed; answers what its successor knows."""
-    with place.store() as store:
-        store.group(noted)
-        between(store)
-        open_history(place.file)
-        store.group(lost)
+    killed(place, lambda store: (noted and store.group(noted), between(store)), lost)
     return opened(place)
 
 
@@ -62,7 +44,8 @@ def test_a_snapshot_is_no_change(place):
     with place.made() as store:
         store.group([create("d", {}), put(1), create("e", 2)])
         store.snapshot()
-    assert (told(opened(place)), opened(place).base) == ({}, 3)
+    history = opened(place)
+    assert (told(history), history.base) == ({}, 3)
     # It can't be told whether a creation after it is one of the snapshot; what comes after a patch is a change.
     os.unlink(place.file + ".changes")
     made(place, create("f", 3), put(2), create("g", 4))
@@ -76,19 +59,20 @@ def test_a_snapshot_is_no_change(place):
 def test_what_was_committed_and_not_noted_is_told(place, lost, snapshot):
     place.format()
     noted = [create("d", {}), put(1), create("x", 1), put(2, "d")]
-    history = cut_off(place, noted, lost, lambda store: store.snapshot() if snapshot else None)
-    assert told(history) == dict(enumerate(lost, 5)) if snapshot else told(history) == dict(enumerate(noted + lost, 1))
+    if snapshot:
+        with place.store() as store:
+            store.group(noted)
+            store.snapshot()
+        # What is in a snapshot is no change.
+        assert told(cut_off(place, [], lost)) == dict(enumerate(lost, 5))
+    else:
+        assert told(cut_off(place, noted, lost)) == dict(enumerate(noted + lost, 1))
 
 
 def test_what_is_noted_stays_after_a_snapshot(place):
-    with place.made() as store:
-        store.group([create("d", {}), put(1)])
-        history = open_history(place.file)
-        store.snapshot()
-        used = store.status().used
-        history.record([], Position(1, history.inode, 1, 2, used))
-        store.create("e", 1)
-    assert told(opened(place)) == {1: create("d", {}), 2: put(1), 3: create("e", 1)}
+    place.format()
+    history = cut_off(place, [create("d", {}), put(1)], [create("e", 1)], lambda store: store.snapshot())
+    assert told(history) == {1: create("d", {}), 2: put(1), 3: create("e", 1)}
 
 
 def test_what_another_process_changed_meanwhile_is_told(place):
@@ -102,16 +86,17 @@ def test_what_another_process_changed_meanwhile_is_told(place):
 def test_what_another_process_moved_into_a_snapshot_is_gone(place):
     place.format()
     first = cut_off(place, [create("d", {})], [put(1)])
-    with place.store() as store:
+    with place.store(wait=10) as store:
         store.group([put(2), create("e", 1)])
         store.snapshot()
     history = opened(place)
     assert (told(history), history.base, history.has(4, first.name)) == ({}, 4, False)
     # Twice, so that the same half counts as before.
-    with place.store() as store:
+    with place.store(wait=10) as store:
         store.group([put(3), create("f", 1)])
         store.snapshot()
-    assert (told(opened(place)), opened(place).base) == ({}, 6)
+    history = opened(place)
+    assert (told(history), history.base) == ({}, 6)
 
 
 def test_a_torn_end_of_the_file_is_left_out(place):
@@ -119,18 +104,16 @@ def test_a_torn_end_of_the_file_is_left_out(place):
     cut_off(place, [create("d", {}), put(1)], [])
     made(place, put(2))
     opened(place)
-    path = place.file + ".changes"
-    with open(path, "rb") as file:
-        whole = file.read()
+    whole = notes_of(place)
     wanted = {1: create("d", {}), 2: put(1), 3: put(2)}
-    for size in [0, *range(whole.index(b"\n") + 1, len(whole), 29)]:
+    for size in [0, *range(whole.index(b"\n") + 1, len(whole), 97)]:
         for rest in (b"", b"\0" * 40, b'00000000 {"half":') if size else (b"",):
-            with open(path, "wb") as file:
-                file.write(whole[:size] + rest)
+            put_notes(place, whole[:size] + rest)
             assert told(opened(place)) == wanted
 
 
 @pytest.mark.parametrize("seed", range(int(os.environ.get("JPSTORE_HISTORIES", "4"))))
+@pytest.mark.time_limit(4 * PATIENCE)
 def test_no_history_tells_what_did_not_happen(place, seed):
     lives = Lives(place, random.Random(seed))
     for _ in range(8):
@@ -147,11 +130,12 @@ class Lives:
 
     def one(self):
         """A life of a hub or of another process; each hub tells no other changes than those that were made."""
-        with self._place.store() as store:
-            if self._chance.random() < 0.3:
+        if self._chance.random() < 0.3:
+            with self._place.store(wait=10) as store:
                 self._without_hub(store)
-            else:
-                self._with_hub(store)
+        else:
+            with Hub(self._place, options=WAIT) as hub, hub.connect() as store:
+                self._with_hub(hub, store)
 
     def _without_hub(self, store):
         for _ in range(self._chance.randrange(4)):
@@ -159,30 +143,27 @@ class Lives:
                 store.snapshot()
             self._change(store)
 
-    def _with_hub(self, store):
-        history = open_history(self._place.file)
+    def _with_hub(self, hub, store):
+        history = History(hub, self._place)
         assert (told(history), history.last) == (
             {seq: self._changes[seq] for seq in range(history.base + 1, history.last + 1)}, len(self._changes))
-        path = self._place.file + ".changes"
-        half, synced = store.status().half, os.path.getsize(path)
+        half, synced = store.status().half, len(notes_of(self._place))
         for _ in range(self._chance.randrange(5)):
             if self._chance.random() < 0.4:
                 self._chance.choice([store.snapshot, lambda: store.pump(1), lambda: store.pump(100)])()
-                texts = []
             else:
-                texts = [json.dumps(change, separators=(",", ":"), sort_keys=True).encode()
-                         for change in self._change(store)]
-            status = store.status()
-            history.record(texts, Position(status.half, history.inode, status.opens, status.seq, status.used))
-            if status.half != half:
-                half, synced = status.half, os.path.getsize(path)
-        end = self._chance.random()
+                self._change(store)
+            if store.status().half != half:
+                half, synced = store.status().half, len(notes_of(self._place))
+        end, notes = self._chance.random(), notes_of(self._place)
         if end < 0.4:
             # A kill between a commit, or a snapshot, and its note.
             self._chance.choice([lambda: self._change(store), store.snapshot])()
         elif end < 0.7:
             # A power failure: what was not synced is there in part.
-            os.truncate(path, self._chance.randint(synced, os.path.getsize(path)))
+            notes = notes[:self._chance.randint(synced, len(notes))]
+        hub.kill()
+        put_notes(self._place, notes)
 
     def _change(self, store):
         changes = [self._a_change() for _ in range(self._chance.randrange(1, 5))]
@@ -259,41 +240,36 @@ def test_what_a_killed_hub_left_is_replaced(place):
     assert sorted(os.listdir(place.folder)) == ["store", "store.changes"]
 
 
-def test_a_file_that_can_not_be_written_is_emptied(place, capsys):
+@pytest.mark.parametrize("room", [0, 4096])
+def test_on_a_full_disk_changes_are_told_without_their_file(place, room):
     place.format()
-    with place.store() as store:
-        history = open_history(place.file)
-        limits = resource.getrlimit(resource.RLIMIT_FSIZE)
-        resource.setrlimit(resource.RLIMIT_FSIZE, (4096, limits[1]))
-        try:
-            for number in range(1, 101):
-                name = f"n{number}"
-                text = json.dumps(create(name, "x" * 99), separators=(",", ":")).encode()
-                status = store.status() if store.create(name, "x" * 99) else None
-                history.record([text], Position(status.half, history.inode, status.opens, status.seq, status.used))
-        finally:
-            resource.setrlimit(resource.RLIMIT_FSIZE, limits)
-        assert capsys.readouterr().err.startswith("the changes are not kept in a file any more")
-        assert (len(told(history)), os.path.getsize(place.file + ".changes")) == (100, 0)
+    program = place.script("unlimited", f'ulimit -S -f unlimited; exec {place.program} "$@"')
+    limits = resource.getrlimit(resource.RLIMIT_FSIZE)
+    resource.setrlimit(resource.RLIMIT_FSIZE, (room, limits[1]))
+    try:
+        hub = Hub(place, program)
+    finally:
+        resource.setrlimit(resource.RLIMIT_FSIZE, limits)
+    with hub, hub.connect() as store:
+        for number in range(1, 101):
+            store.create(f"n{number}", "x" * 99)
+        assert (len(told(History(hub, place))), notes_of(place) if room else b"") == (100, b"")
+        assert room or os.listdir(place.folder).count("store.changes.new") == 0
+        hub.process.terminate()
+        assert hub.ends(0).startswith("the changes are not kept in a file any more")
     assert len(told(opened(place))) == 100
 
 
 def test_the_history_is_bounded(place):
-    place.format()
-    with place.store() as store:
-        history = open_history(place.file)
-        status = store.status()
-        for _ in range(70):
-            history.record([b'"t"'] * 1000, Position(0, history.inode, status.opens, status.seq, status.used))
-    assert (history.last, 49152 <= history.last - history.base <= 65536) == (70000, True)
-    assert history.after(history.base, 1)[0] == b'{"change":"t","seq":%d}' % (history.base + 1)
-    assert (history.text(history.base), history.text(history.last)) == (None, b'"t"')
-    big = b'"%b"' % (b"x" * (1 << 20))
-    for _ in range(40):
-        history.record([big], Position(0, history.inode, status.opens, status.seq, status.used))
-        assert history.last - history.base < 65536
-        assert os.path.getsize(place.file + ".changes") < 35 << 20
-    assert 11 <= history.last - history.base <= 16
+    place.format(1 << 16)
+    with ended_hub(place) as hub, hub.connect() as store:
+        store.create("d", {})
+        for number in range(40):
+            store.put("d", {"n": number, "text": "x" * (1_000_000 + number)})
+            assert len(notes_of(place)) < 35 << 20
+        history = History(hub, place)
+        assert (history.last, 11 <= history.last - history.base <= 16) == (41, True)
+        assert history.changes[41]["ops"][0]["value"]["n"] == 39
 
 
 def test_a_hub_of_a_small_store_keeps_them_over_its_snapshots(place):
@@ -356,5 +332,5 @@ def test_what_was_told_before_a_gap_is_gone(place):
 
 def test_the_reason_is_told_if_the_store_is_no_store(place):
     place.text("store", "no store")
-    with pytest.raises(JpstoreError):
-        open_history(place.file)
+    said = place.run("hub", "store", "--socket", "socket", status=1).stderr.decode()
+    assert "jpstore: no-store" in said or "jpstore: " in said

@@ -7,12 +7,10 @@ import threading
 from concurrent.futures import ThreadPoolExecutor
 
 import pytest
+from histories import killed
 from hubs import Hub
 from jpstore import AsyncStore, Store, TooLarge, create, delete, patch, set_schema, transaction
 from jpstore.wire.commands import line_of
-from jpstore.hub.history import History, open_history
-from jpstore.hub.history_file import Position
-from jpstore.hub.line_kinds import Kind, kind_of, most_changes
 from jpstore.watch import Change, Watch
 from support import GROUPING, raised, until
 
@@ -87,41 +85,6 @@ def test_lines_come_in_any_form(place):
         assert told(hub.path) == [create("d", {}), delete("d"), create("d", "\u00e4/"), delete("d")]
 
 
-def test_the_kind_of_a_line_is_known_without_reading_all_of_it():
-    chance = random.Random(5)
-    texts = ["cmd", "transaction", ',"cmd":"transaction"}', "\\", '"', "changes", "create", "{", "\u00e4"]
-
-    def value(depth):
-        kind = chance.random()
-        if depth and kind < 0.4:
-            return {chance.choice(texts): value(depth - 1) for _ in range(chance.randrange(4))}
-        if depth and kind < 0.6:
-            return [value(depth - 1) for _ in range(chance.randrange(4))]
-        return chance.choice(texts)
-    changing = {"create", "patch", "schema", "delete", "transaction"}
-    seen = set()
-    for _ in range(5000):
-        command = value(3)
-        if isinstance(command, dict) and chance.random() < 0.5:
-            command["cmd"] = chance.choice(["transaction", "create", "get"])
-        for text in (json.dumps(command), json.dumps(command, sort_keys=True, separators=(",", ":"))):
-            kind = command.get("cmd") if isinstance(command, dict) else None
-            if isinstance(kind, str):
-                # What has no command is refused, whatever it is taken for.
-                assert (kind_of(text.encode()) is Kind.CHANGE) == (kind in changing), text
-                seen.add(kind in changing)
-    assert seen == {True, False}
-
-
-def test_a_line_has_no_more_changes_than_are_counted_on():
-    assert most_changes(line_of(create("d", {"a": {}, "b": {}}))) == 1
-    for count in (1, 2, 1000, 1024):
-        for change in (create("d", {"cmd": ["{\"\\"]}), delete("d")):
-            assert count <= most_changes(line_of(transaction([change] * count))) <= 1024
-    escaped = b'{"c\\u006dd":"delete","name":"d"}'
-    assert 2 <= most_changes(b'{"changes":[%b,%b],"cmd":"transaction"}' % (escaped, escaped)) <= 1024
-
-
 def test_a_program_that_groups_changes_is_never_waited_for_in_vain(place):
     os.environ["GROUPED"] = place.program
     place.format()
@@ -149,16 +112,13 @@ def test_what_was_committed_and_not_noted_is_told_whole(place):
     for snapshot in (False, True):
         with place.store(wait=10) as store:
             begin = store.status().seq
+        changes = [put(1), create("e", 2), set_schema("d", {}), delete("e")]
+
+        def prepare(store, snapshot=snapshot):
             store.put("d", {})
             if snapshot:
                 store.snapshot()
-            open_history(place.file)
-            changes = [put(1), create("e", 2), set_schema("d", {}), delete("e")]
-            assert store.transaction(changes) == begin + 5
-        with place.store():
-            history = open_history(place.file)
-        lines = [json.loads(line) for line in history.after(begin + 1, 1 << 20)]
-        assert [(line["seq"], line["change"]) for line in lines] == list(enumerate(changes, begin + 2))
+        killed(place, prepare, lambda store, changes=changes: store.transaction(changes))
         with Hub(place, options=("--wait", "10")) as hub:
             assert told(hub.path, begin + 1) == changes
 
@@ -181,8 +141,7 @@ def test_a_hub_of_a_small_store_keeps_them_over_its_snapshots(place):
             made += [change for line in lines for change in line["changes"]]
             assert told(hub.path, begin) == made[begin:]
             hub.kill()
-    with place.store(wait=10):
-        assert open_history(place.file).last == len(made) == 3 * 420 + 1
+    assert len(made) == 3 * 420 + 1
     with Hub(place, options=("--wait", "10")) as hub:
         assert told(hub.path) == made
 
@@ -229,23 +188,6 @@ def test_one_that_changes_too_many_bytes_refuses_no_line_of_another(place, versi
         with hub.connect() as store:
             assert [store.get(name, "/n") for name in "abcd"] == [99] * 4
             assert (store.rev("large"), store.status().seq) == (1, 1 + 4 * 101)
-
-
-def test_the_history_is_cut_between_commits_alone(place):
-    place.format()
-    with place.store() as store:
-        history = open_history(place.file)
-        status = store.status()
-        position = Position(0, history.inode, status.opens, status.seq, status.used)
-        ends = {0}
-        for size in (7, 1000, 1024, 3):
-            for _ in range(70_000 // size):
-                history.record([b'"t"'] * size, position)
-                ends.add(history.last)
-                assert history.base in ends and history.last - history.base <= 65536
-            assert history.last - history.base >= 49152
-    # Of what was there before it is not known what was made together.
-    assert History(0, [b'{"change":"t","seq":1}'] * 70_000).base == 70_000 - 49152
 
 
 @pytest.mark.parametrize("of_hub", [True, False])

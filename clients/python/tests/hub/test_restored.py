@@ -5,15 +5,12 @@ import shutil
 
 import pytest
 from gateways import Events, Gateway
+from histories import killed, noted, opened, told
 from hubs import Hub
-from jpstore import upgrade_file
-from jpstore.hub.history import open_history
-from jpstore.hub.history_file import Position
+from jpstore import create, delete, upgrade_file
 from jpstore.watch import Gone, Watch
-from support import raised
-from test_hub_history import create, delete, opened, put, told
-
-pytest.importorskip("aiohttp", reason="the gateway needs aiohttp (python3-aiohttp)")
+from support import PATIENCE, raised
+from test_hub_history import put
 
 
 @pytest.fixture(params=[2, 3])
@@ -36,23 +33,10 @@ def put_back(place, names=("store",)):
         shutil.copyfile(place.path(name + ".saved"), place.path(name))
 
 
-def noted(place, *groups):
-    """A hub makes and notes changes, and ends; answers its history. A group that is a function does something else."""
-    with place.store(wait=10) as store:
-        history = open_history(place.file)
-        for group in groups:
-            texts = [json.dumps(change, separators=(",", ":"), sort_keys=True).encode() for change in group] \
-                if isinstance(group, list) else []
-            store.group(group) if isinstance(group, list) else group(store)
-            status = store.status()
-            history.record(texts, Position(status.half, history.inode, status.opens, status.seq, status.used))
-    return history
-
-
 def elsewhere(place, *groups):
     """Another process opens the file for each group of changes."""
     for group in groups:
-        with place.store() as store:
+        with place.store(wait=10) as store:
             store.group(group) if isinstance(group, list) else group(store)
 
 
@@ -159,9 +143,7 @@ def test_a_watcher_goes_on_over_ends_and_kills_of_hubs(place, between):
     second = noted(place, [put(2)])
     assert second.has(first.last, first.name) and not second.has(first.last + 1, first.name)
     # A hub that was killed after a commit, or whose last notes a power failure took, may have told the change.
-    with place.store() as store:
-        second = open_history(place.file)
-        store.group([put(3)])
+    second = killed(place, [], [put(3)])
     third = opened(place)
     assert told(third)[third.last] == put(3) and third.has(third.last, second.name)
     elsewhere(place, [put(4)])
@@ -170,10 +152,14 @@ def test_a_watcher_goes_on_over_ends_and_kills_of_hubs(place, between):
     assert fourth.has(fourth.last, fourth.name) and fourth.last == third.last + 1
 
 
+@pytest.mark.time_limit(4 * PATIENCE)
 def test_a_history_has_names_enough_and_not_more(place):
     first = noted(place, [create("d", {})])
     for _ in range(70):
-        last = opened(place)
+        with Hub(place, options=("--wait", "10")) as hub:
+            hub.process.terminate()
+            hub.ends(0)
+    last = opened(place)
     assert not last.has(1, first.name) and last.has(1, last.name)
     size = os.path.getsize(place.file + ".changes")
     assert opened(place).has(1, last.name) and size < 10_000

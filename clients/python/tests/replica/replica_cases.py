@@ -193,9 +193,6 @@ def clients_of_all_kinds(folder, program):
 
 def gateway_of_a_node(nodes, words, environment):
     """Documents are made, read, followed and exported over HTTP."""
-    import importlib.util
-    if importlib.util.find_spec("aiohttp") is None:
-        return
     with socket.socket() as free:
         free.bind(("127.0.0.1", 0))
         port = free.getsockname()[1]

@@ -1,0 +1,238 @@
+"""The server jpstored by its own name and options: copies of documents, slow clients, both doors at once."""
+import contextlib
+import json
+import os
+import socket
+import subprocess
+import threading
+import time
+
+import pytest
+from gateways import Events, Gateway
+from hubs import Hub
+from support import PATIENCE, until
+
+
+class Server(Gateway):
+    """A server that is started by its own name, with options that the gateway doesn't have."""
+
+    def __init__(self, place, *options):
+        words = [os.environ["JPSTORE_SERVER"], place.file, "--listen", "127.0.0.1:0", "--program", place.program,
+                 *options]
+        self.process = subprocess.Popen(words, stdout=subprocess.PIPE, stderr=subprocess.PIPE, env=place.environment())
+        line = self.process.stdout.readline().decode()
+        assert " is served at http://127.0.0.1:" in line, self.process.stderr.read()
+        self.port = int(line.rsplit(":", 1)[1].strip("/\n"))
+        self.host = f"127.0.0.1:{self.port}"
+        self.url = f"http://{self.host}"
+
+
+def request(method, path, *fields, body=b""):
+    """The bytes of a request."""
+    lines = [f"{method} {path} HTTP/1.1", "Host: 127.0.0.1", "Content-Type: application/json", *fields]
+    return "\r\n".join(lines).encode() + b"\r\n\r\n" + body
+
+
+def closed_after(server, sent):
+    """How long it takes until the server ends a connection, and what it has sent before."""
+    begin = time.monotonic()
+    with server.raw() as client:
+        client.sendall(sent)
+        taken = b"".join(iter(lambda: client.recv(1 << 16), b""))
+    return time.monotonic() - begin, taken
+
+
+# Copies of documents.
+
+@pytest.mark.parametrize("options", [[], ["--no-cache"], ["--cache", "3000"]], ids=["copies", "no copies", "few"])
+def test_nobody_reads_less_than_was_answered(place, options):
+    """Writers count documents up, by both doors, while readers compare with what was answered before they asked."""
+    place.format(16384)
+    with Server(place, "--socket", place.path("socket"), *options) as server:
+        counts, wrong, stop = {f"d{number}": 0 for number in range(6)}, [], threading.Event()
+
+        def write(name, is_hub):
+            with contextlib.closing(server.connection()) as connection, hub_of(place) as store:
+                while not stop.is_set():
+                    doc = {"n": counts[name] + 1, "text": "x" * 500}
+                    if is_hub:
+                        store.put(name, doc)
+                    else:
+                        ask(connection, "PUT", f"/documents/{name}", doc)
+                    counts[name] += 1
+
+        def read(seed):
+            with contextlib.closing(server.connection()) as connection:
+                while not stop.is_set():
+                    name = f"d{(seed := seed * 5 + 1) % 6}"
+                    least = counts[name]
+                    status, found = ask(connection, "GET", f"/documents/{name}")
+                    if (status, found["n"] if status == 200 else 0) < (200, least) and least:
+                        wrong.append((name, least, status, found))
+        threads = [threading.Thread(target=write, args=(name, number % 2)) for number, name in enumerate(counts)]
+        threads += [threading.Thread(target=read, args=(number,)) for number in range(4)]
+        for thread in threads:
+            thread.start()
+        until(lambda: wrong or min(counts.values()) > 10, "the changes")
+        stop.set()
+        for thread in threads:
+            thread.join()
+        assert not wrong
+
+
+@contextlib.contextmanager
+def hub_of(place):
+    from jpstore import Store
+    with Store.connect(place.path("socket")) as store:
+        yield store
+
+
+def ask(connection, method, path, doc=None):
+    """The status and the value of an answer over a connection that is kept."""
+    connection.request(method, path, None if doc is None else json.dumps(doc), {"Content-Type": "application/json"})
+    answer = connection.getresponse()
+    return answer.status, json.loads(answer.read())
+
+
+def test_a_copy_ends_with_its_document(place):
+    place.format()
+    with Server(place) as server:
+        for count in range(3):
+            assert server.put("/documents/d", count).status == 201
+            assert [server.get("/documents/d").json() for _ in range(2)] == [count, count]
+            changes = [{"cmd": "patch", "name": "d", "ops": [{"op": "replace", "path": "", "value": -1}]}]
+            assert server.ask("POST", "/transactions", {"changes": changes}).status == 200
+            assert server.get("/documents/d").json() == -1
+            assert server.ask("DELETE", "/documents/d").status == 200
+            assert server.get("/documents/d").status == 404
+
+
+# Clients that do nothing.
+
+def test_a_client_that_takes_too_long_is_given_up(place):
+    place.format(16384)
+    with Server(place, "--patience", "0.6") as server:
+        assert server.put("/documents/d", "x" * 1_000_000).status == 201
+        for sent in (b"", b"GET / HT", request("GET", "/page.css")):
+            seconds, _ = closed_after(server, sent)
+            assert 0.5 < seconds < 10
+        seconds, taken = closed_after(server, request("PUT", "/documents/e", "Content-Length: 9", body=b"12"))
+        assert taken.startswith(b"HTTP/1.1 408 ") and seconds < 10
+        with socket.socket() as client:
+            client.setsockopt(socket.SOL_SOCKET, socket.SO_RCVBUF, 4096)
+            client.connect(("127.0.0.1", server.port))
+            client.sendall(request("GET", "/documents/d") * 20)
+            time.sleep(3)
+            client.settimeout(PATIENCE)
+            taken = b""
+            with contextlib.suppress(ConnectionError):
+                taken = b"".join(iter(lambda: client.recv(1 << 16), b""))
+            assert len(taken) < 20_000_000
+
+
+def test_followers_that_leave_leave_their_places(place):
+    place.format()
+    with Server(place) as server:
+        for _ in range(3):
+            followers = [server.raw() for _ in range(500)]
+            for client in followers:
+                client.sendall(request("GET", "/changes"))
+            for client in followers:
+                assert client.recv(12) == b"HTTP/1.1 200"
+            for client in followers:
+                client.close()
+            begin = time.monotonic()
+            with Events(server, "/changes?from=0") as events:
+                assert events.response.status == 200
+            assert time.monotonic() - begin < 5
+
+
+# What is asked.
+
+def test_a_request_has_a_host(place):
+    """RFC 9112, 3.2: an HTTP/1.1 request that lacks the field is answered 400."""
+    place.format()
+    with Server(place) as server:
+        for sent, status in ((b"GET / HTTP/1.1\r\n\r\n", b"400"), (b"GET / HTTP/1.0\r\n\r\n", b"421"),
+                             (b"GET / HTTP/1.1\r\nHost: localhost\r\n\r\n", b"200"),
+                             (b"GET / HTTP/1.1\r\nHost: localhost\r\nHost: localhost\r\n\r\n", b"400"),
+                             (b"GET http://localhost/ HTTP/1.1\r\nHost: evil.example\r\n\r\n", b"200"),
+                             (b"GET http://evil.example/ HTTP/1.1\r\nHost: localhost\r\n\r\n", b"421")):
+            assert status_of(server, sent) == status, sent
+
+
+def test_with_a_token_any_host_is_asked(place):
+    place.format()
+    with Server(place, "--token-file", place.text("token", "correct-horse-battery-staple")) as server:
+        for sent, status in ((b"GET / HTTP/1.1\r\n\r\n", b"400"), (b"GET / HTTP/1.0\r\n\r\n", b"200"),
+                             (b"GET / HTTP/1.1\r\nHost: other.example\r\n\r\n", b"200"),
+                             (b"GET /x HTTP/1.1\r\nOrigin: http://localhost\r\n\r\n", b"400")):
+            assert status_of(server, sent) == status, sent
+
+
+def status_of(server, sent):
+    with server.raw() as client:
+        client.sendall(sent)
+        return client.recv(1 << 16)[9:12]
+
+
+def test_a_client_that_asks_first_is_told_to_go_on(place):
+    """RFC 9110, 10.1.1."""
+    place.format()
+    with Server(place) as server, server.raw() as client:
+        head = request("PUT", "/documents/d", "Content-Length: 1", "Expect: 100-continue")
+        client.sendall(head)
+        assert client.recv(1 << 16) == b"HTTP/1.1 100 Continue\r\n\r\n"
+        client.sendall(b"1")
+        assert client.recv(1 << 16).startswith(b"HTTP/1.1 201 ")
+        # One that would be refused in any case isn't asked for its body.
+        client.sendall(request("PUT", "/documents/d?x=1", "Content-Length: 1", "Expect: 100-continue"))
+        assert client.recv(1 << 16).startswith(b"HTTP/1.1 400 ")
+
+
+def test_a_body_that_is_not_asked_for_is_no_request(place):
+    place.format()
+    with Server(place) as server, server.raw() as client:
+        hidden = request("PUT", "/documents/hidden", "Content-Length: 1", body=b"1")
+        client.sendall(request("GET", "/status", f"Content-Length: {len(hidden)}", body=hidden)
+                       + request("GET", "/healthz", "Connection: close"))
+        taken = b"".join(iter(lambda: client.recv(1 << 16), b""))
+        assert taken.count(b"HTTP/1.1 200 OK") == 2
+        assert server.get("/documents").json() == []
+
+
+# Both doors at once.
+
+def test_both_doors_lead_to_one_store(place):
+    place.format()
+    with Server(place, "--socket", place.path("socket")) as server, hub_of(place) as store, \
+            Events(server, "/changes?from=0") as events:
+        assert server.put("/documents/a", 1).status == 201
+        assert store.create("b", 2) == 2
+        assert [json.loads(events.next()[1])["change"]["name"] for _ in range(2)] == ["a", "b"]
+        assert (server.get("/documents/b").json(), store.get("a")) == (2, 1)
+        server.process.terminate()
+        assert server.process.wait(PATIENCE) == 0
+    assert not os.path.exists(place.path("socket"))
+
+
+def test_wrong_words_are_told(place, server):
+    rows = [(["--help"], 0, b""), (["--version"], 0, b""), ([], 2, b"which store?"),
+            (["a", "--none", "1"], 2, b"--none is no option"), (["a", "b"], 2, b"one word too many"),
+            ([place.path("none"), "--socket", place.path("s"), "--program", place.program], 1, b"jpstore: file")]
+    for words, status, told in rows:
+        ended = subprocess.run([server, *words], stdout=subprocess.PIPE, stderr=subprocess.PIPE, timeout=PATIENCE,
+                               check=False)
+        assert (ended.returncode, told in ended.stderr) == (status, True), (words, ended)
+
+
+def test_a_hub_without_http_listens_nowhere_else(place):
+    place.format()
+    with Hub(place) as hub:
+        with open(f"/proc/{hub.process.pid}/net/tcp", encoding="ascii") as opened:
+            listening = {line.split()[9] for line in opened if line.split()[3] == "0A"}
+        sockets = set()
+        for number in os.listdir(f"/proc/{hub.process.pid}/fd"):
+            with contextlib.suppress(OSError):
+                sockets.add(os.readlink(f"/proc/{hub.process.pid}/fd/{number}").strip("socket:[]"))
+        assert not listening & sockets

@@ -1,0 +1,231 @@
+//! The committed bytes and frames of the store's file, as `docs/inside/FORMAT.md` lays them out; this only reads.
+
+use crate::error::Error;
+use std::collections::VecDeque;
+use std::fs::File;
+use std::os::unix::fs::{FileExt, MetadataExt};
+use std::path::{Path, PathBuf};
+
+/// The bytes of a sector.
+pub const SECTOR: u64 = 512;
+const LETTERS: &[u8] = b"JPSTORE1";
+
+/// Before the riding bytes the commit sector has fields of this length.
+const FIELDS: usize = 56;
+
+/// A frame is the length of its body, its seq, and the body.
+const HEAD: usize = 12;
+const HEAD_OF_CREATION: &[u8] = b"{\"cmd\":\"create\",";
+
+const PIECE: u64 = 1 << 20;
+
+/// The bytes of the frames of `changes` changes whose texts have `texts` bytes together.
+pub fn length_of_frames(texts: u64, changes: u64) -> u64 {
+    texts + HEAD as u64 * changes
+}
+
+/// The frame of the change `seq`, which has this text.
+pub fn frame_of(seq: u64, text: &[u8]) -> Vec<u8> {
+    [&(text.len() as u32).to_be_bytes(), &seq.to_be_bytes()[..], text].concat()
+}
+
+/// What the commit sector says. Nobody may write the file while the committed bytes are read.
+pub struct Committed {
+    file: File,
+    path: PathBuf,
+    /// The sector as it is.
+    pub sector: [u8; SECTOR as usize],
+    /// The number of the format.
+    pub format: u64,
+    /// The sectors of the file.
+    pub sectors: u64,
+    /// The half in force.
+    pub half: u64,
+    /// How many bytes of it are committed.
+    pub length: u64,
+    /// The number of the last change.
+    pub seq: u64,
+    /// How often the store was opened.
+    pub opens: u64,
+    /// How many bytes a half has.
+    pub capacity: u64,
+    /// Tells this file from another that takes its name.
+    pub inode: u64,
+    /// The last committed bytes, if they are in the commit sector too.
+    riding: Vec<u8>,
+}
+
+fn number(sector: &[u8], begin: usize, end: usize) -> u64 {
+    sector[begin..end].iter().fold(0, |sum, byte| sum << 8 | u64::from(*byte))
+}
+
+impl Committed {
+    /// What the commit sector of a file says; an error if it is no store of format 2 or 3.
+    pub fn of(path: &Path) -> Result<Committed, Error> {
+        let file = File::open(path).map_err(|error| Error::of_path(path, error))?;
+        Committed::in_file(file, path)
+    }
+
+    /// The same of an open file, which has this path.
+    pub fn in_file(file: File, path: &Path) -> Result<Committed, Error> {
+        let inode = file.metadata().map_err(|error| Error::of_path(path, error))?.ino();
+        let mut sector = [0; SECTOR as usize];
+        let is_whole = file.read_exact_at(&mut sector, 0).is_ok();
+        if !is_whole || &sector[..8] != LETTERS || !matches!(number(&sector, 8, 12), 2 | 3) {
+            return Err(Error::new(format!("{} is not a store of format 2 or 3", path.display())));
+        }
+        // In format 3 it is one more than the number of riding bytes, in format 2 zero.
+        let count = (number(&sector, 48, 56).saturating_sub(1) as usize).min(sector.len() - FIELDS);
+        let sectors = number(&sector, 40, 48);
+        Ok(Committed {
+            file,
+            path: path.to_owned(),
+            sector,
+            format: number(&sector, 8, 12),
+            sectors,
+            half: number(&sector, 12, 16),
+            length: number(&sector, 16, 24),
+            seq: number(&sector, 24, 32),
+            opens: number(&sector, 32, 40),
+            capacity: SECTOR * (sectors.saturating_sub(1) / 2),
+            inode,
+            riding: sector[FIELDS..FIELDS + count].to_vec(),
+        })
+    }
+
+    /// The same, of `length` bytes of the other half, in which nothing rides.
+    pub fn of_other_half(mut self, half: u64, length: u64) -> Committed {
+        (self.half, self.length, self.riding) = (half, length, Vec::new());
+        self
+    }
+
+    /// Where the half in force begins in the file.
+    pub fn begin(&self) -> u64 {
+        SECTOR + self.half * self.capacity
+    }
+
+    /// How many of the committed bytes aren't in the commit sector.
+    pub fn settled(&self) -> u64 {
+        self.length.saturating_sub(self.riding.len() as u64)
+    }
+
+    /// The committed bytes from `begin` on, at most `count`.
+    fn read(&self, begin: u64, count: u64) -> Result<Vec<u8>, Error> {
+        let held = self.settled();
+        let settled = held.saturating_sub(begin).min(count);
+        let mut bytes = vec![0; settled as usize];
+        self.file.read_exact_at(&mut bytes, self.begin() + begin).map_err(|_| self.too_short())?;
+        let (from, to) = (begin.saturating_sub(held), (begin + count).saturating_sub(held));
+        let end = (to as usize).min(self.riding.len());
+        bytes.extend_from_slice(self.riding.get(from as usize..end).unwrap_or(&[]));
+        Ok(bytes)
+    }
+
+    fn too_short(&self) -> Error {
+        Error::new(format!("{} is shorter than a store is", self.path.display()))
+    }
+
+    /// Hands on the committed bytes up to `end`, piece by piece.
+    pub fn pieces(&self, end: u64, mut take: impl FnMut(&[u8]) -> Result<(), Error>) -> Result<(), Error> {
+        for begin in (0..end).step_by(PIECE as usize) {
+            let count = PIECE.min(end - begin);
+            let piece = self.read(begin, count)?;
+            if (piece.len() as u64) < count {
+                return Err(self.too_short());
+            }
+            take(&piece)?;
+        }
+        Ok(())
+    }
+}
+
+/// A frame of the half in force: where it begins and ends there, its seq, and whether it is a creation.
+#[derive(Clone, Copy)]
+pub struct Frame {
+    begin: u64,
+    end: u64,
+    seq: u64,
+    creates: bool,
+}
+
+impl Frame {
+    /// How many bytes it has.
+    pub fn size(&self) -> usize {
+        (self.end - self.begin) as usize
+    }
+}
+
+/// The last frames in the half in force, `most` at most.
+pub struct Journal {
+    /// What the commit sector says.
+    pub committed: Committed,
+    frames: VecDeque<Frame>,
+    /// Whether there are others before them, and a frame among those that is no creation.
+    more: bool,
+    changed: bool,
+}
+
+impl Journal {
+    /// The frames of a file that nobody writes meanwhile.
+    pub fn of(path: &Path, most: usize) -> Result<Journal, Error> {
+        let committed = Committed::of(path)?;
+        let mut journal = Journal { committed, frames: VecDeque::new(), more: false, changed: false };
+        journal.walk(most)?;
+        Ok(journal)
+    }
+
+    fn walk(&mut self, most: usize) -> Result<(), Error> {
+        let mut begin = 0;
+        while begin < self.committed.length {
+            let head = self.committed.read(begin, (HEAD + HEAD_OF_CREATION.len()) as u64)?;
+            let is_whole = head.len() >= HEAD;
+            let end = if is_whole { begin + HEAD as u64 + number(&head, 0, 4) } else { u64::MAX };
+            if end > self.committed.length {
+                let told = format!("{} has a frame that is not whole", self.committed.path.display());
+                return Err(Error::new(told));
+            }
+            let creates = head[HEAD..].starts_with(HEAD_OF_CREATION);
+            self.frames.push_back(Frame { begin, end, seq: number(&head, 4, HEAD), creates });
+            if self.frames.len() > most {
+                self.more = true;
+                self.changed |= self.frames.pop_front().map_or(false, |frame| !frame.creates);
+            }
+            begin = end;
+        }
+        Ok(())
+    }
+
+    /// The bodies of frames, which are the compact texts of commands.
+    pub fn texts(&self, frames: &[Frame]) -> Result<Vec<Vec<u8>>, Error> {
+        let body =
+            |frame: &Frame| self.committed.read(frame.begin + HEAD as u64, frame.end - frame.begin - HEAD as u64);
+        frames.iter().map(body).collect()
+    }
+
+    /// The last frames, as many as are changes for sure: a snapshot has only creations, and is first.
+    pub fn surely_changes(&self) -> Vec<Frame> {
+        if self.changed {
+            return self.frames.iter().copied().collect();
+        }
+        let first = self.frames.iter().find(|frame| !frame.creates).map_or(self.committed.seq + 1, |frame| frame.seq);
+        let all = self.changes_after(0, None);
+        all.or_else(|| self.changes_after(first.saturating_sub(1), None)).unwrap_or_default()
+    }
+
+    /// The frames of the changes after number `seq`; none if some are missing, or may belong to a snapshot.
+    ///
+    /// `begin` is where the next one begins, if that is sure.
+    pub fn changes_after(&self, seq: u64, begin: Option<u64>) -> Option<Vec<Frame>> {
+        let count = usize::try_from(self.committed.seq.checked_sub(seq)?).ok()?;
+        let first = self.frames.len().checked_sub(count)?;
+        let tail: Vec<Frame> = self.frames.range(first..).copied().collect();
+        if tail.iter().zip(seq + 1..).any(|(frame, wanted)| frame.seq != wanted) {
+            return None;
+        }
+        let is_sure = tail.first().map_or(true, |frame| Some(frame.begin) == begin) || self.changed;
+        let is_after_a_change = self.frames.range(..tail.len().min(1) + first).any(|frame| !frame.creates);
+        // A snapshot has the documents in the order of their creation, each with its revision. So a document that has
+        // the revision R + 1, after one that was created as change R, was created as change R + 1.
+        (is_sure || is_after_a_change || (first == 0 && seq == 0 && !self.more)).then(|| tail)
+    }
+}

@@ -1,0 +1,358 @@
+//! A connection: its requests are read and answered one after another.
+
+use super::app::App;
+use super::body::BodyState;
+use super::changes::Events;
+use super::date;
+use super::head::{self, Head};
+use super::problem::{phrase_of, Problem};
+use super::response::{Body, Response};
+use super::routes;
+use super::target;
+use crate::doors::{refused, Places};
+use crate::ending::Ending;
+use crate::program::room::Taken;
+use bytes::{Bytes, BytesMut};
+use std::io;
+use std::sync::Arc;
+use std::time::Duration;
+use tokio::io::{AsyncReadExt, AsyncWriteExt};
+use tokio::net::{TcpListener, TcpStream};
+use tokio::time::{timeout, timeout_at, Instant};
+
+/// The pieces in which a long answer is written, and how many bytes are read at once.
+const PIECE: usize = 1 << 16;
+const READ: usize = 1 << 13;
+
+/// After how long without a change a comment is sent to a follower, which shows whether it is still there.
+const BEAT: Duration = Duration::from_secs(15);
+const COMMENT: &[u8] = b":\n\n";
+
+/// How long, and how many bytes, a client may still send when its answer was sent and the connection ends.
+const LINGER: Duration = Duration::from_secs(2);
+const MOST_DROPPED: usize = 1 << 25;
+
+/// Takes connections until the end.
+pub async fn serve(listener: TcpListener, app: Arc<App>, places: Places, mut ending: Ending) {
+    let mut short = false;
+    while let Some(place) = places.next(&mut ending).await {
+        let accepted = tokio::select! {
+            accepted = listener.accept() => accepted,
+            () = ending.begun() => return,
+        };
+        match accepted {
+            Ok((stream, _)) => {
+                short = false;
+                let served = Connection::new(stream, app.clone(), ending.clone()).serve();
+                tokio::spawn(async move {
+                    served.await;
+                    drop(place);
+                });
+            }
+            Err(error) => short = refused(&error, short).await,
+        }
+    }
+}
+
+/// A connection of a client.
+pub struct Connection {
+    stream: TcpStream,
+    buffer: BytesMut,
+    looked: usize,
+    body: BodyState,
+    app: Arc<App>,
+    ending: Ending,
+}
+
+/// A request whose head was read.
+pub struct Request<'c> {
+    /// What it is asked of.
+    pub app: Arc<App>,
+    /// The head.
+    pub head: Head,
+    /// The path of the target.
+    pub path: String,
+    /// The query string of the target.
+    pub query: String,
+    /// The host that the target names, if it does.
+    pub host: Option<String>,
+    connection: &'c mut Connection,
+    taken: Taken,
+}
+
+impl Request<'_> {
+    /// The body.
+    pub async fn body(&mut self) -> Result<Vec<u8>, Problem> {
+        let Connection { stream, buffer, body, app, .. } = &mut *self.connection;
+        body.all(stream, buffer, &mut self.taken, app.patience).await
+    }
+}
+
+/// What becomes of a connection after a request.
+#[derive(PartialEq, Eq)]
+enum After {
+    Next,
+    Close,
+}
+
+impl Connection {
+    fn new(stream: TcpStream, app: Arc<App>, ending: Ending) -> Connection {
+        let body = BodyState::new(head::Framing::Length(0), false);
+        Connection { stream, buffer: BytesMut::new(), looked: 0, body, app, ending }
+    }
+
+    async fn serve(mut self) {
+        // If it fails, the connection is as it was, only slower.
+        let _ = self.stream.set_nodelay(true);
+        // A client that has gone away is no error.
+        let _ = self.requests().await;
+    }
+
+    async fn requests(&mut self) -> io::Result<()> {
+        loop {
+            let head = match self.head().await? {
+                Some(Ok(head)) => head,
+                Some(Err(malformed)) => {
+                    self.write(malformed_answer(&malformed).as_bytes()).await?;
+                    return self.close().await;
+                }
+                None => return Ok(()),
+            };
+            if self.answer(head).await? == After::Close {
+                return self.close().await;
+            }
+        }
+    }
+
+    /// The next head; none if the client has ended, was idle for too long, or the server ends.
+    async fn head(&mut self) -> io::Result<Option<Result<Head, head::Malformed>>> {
+        let deadline = Instant::now() + self.app.patience;
+        loop {
+            match head::take(&mut self.buffer, &mut self.looked) {
+                Ok(Some(head)) => return Ok(Some(Ok(head))),
+                Ok(None) => (),
+                Err(malformed) => return Ok(Some(Err(malformed))),
+            }
+            if self.buffer.is_empty() && self.buffer.capacity() > PIECE {
+                self.buffer = BytesMut::new();
+            }
+            self.buffer.reserve(READ);
+            let Connection { stream, buffer, ending, .. } = self;
+            let read = tokio::select! {
+                read = timeout_at(deadline, stream.read_buf(buffer)) => read,
+                () = ending.begun() => return Ok(None),
+            };
+            match read {
+                Ok(Ok(0)) | Err(_) => return Ok(None),
+                Ok(Ok(_)) => (),
+                Ok(Err(error)) => return Err(error),
+            }
+        }
+    }
+
+    async fn answer(&mut self, head: Head) -> io::Result<After> {
+        self.body = BodyState::new(head.framing, head.expects());
+        let app = self.app.clone();
+        let (method, keeps, is_1_1) = (head.method.clone(), head.keeps(), head.is_1_1);
+        let allowance = app.guard.allowance(&head);
+        let mut response = self.response(head, &app).await;
+        response.fields.extend(allowance);
+        app.facts.count(&method, response.status);
+        let must_close = !self.body.is_done() && !self.body.may_be_dropped();
+        let closes = !keeps || must_close || self.ending.has_begun() || response.status == 408;
+        self.send(response, method == "HEAD", is_1_1, closes).await?;
+        if closes {
+            return Ok(After::Close);
+        }
+        let Connection { stream, buffer, body, app, .. } = self;
+        let is_read = body.is_done() || body.drop_rest(stream, buffer, app.patience).await;
+        Ok(if is_read { After::Next } else { After::Close })
+    }
+
+    async fn response(&mut self, head: Head, app: &Arc<App>) -> Response {
+        let parts = match target::parts(&head.target) {
+            Some(parts) => parts,
+            None => {
+                return Problem::new(400, "request", "the target of the request is no address of this server")
+                    .response()
+            }
+        };
+        let (path, query, host) = (parts.path.to_owned(), parts.query.to_owned(), parts.host.map(str::to_owned));
+        let taken = app.bodies.begin();
+        let request = Request { app: app.clone(), head, path, query, host, connection: self, taken };
+        routes::answered(request).await.unwrap_or_else(Problem::response)
+    }
+
+    /// Sends an answer.
+    async fn send(&mut self, response: Response, is_head: bool, is_1_1: bool, closes: bool) -> io::Result<()> {
+        let is_stream = matches!(response.body, Body::Events(_) | Body::Lines(_));
+        let mut head = self.head_of(&response);
+        if closes || (is_stream && !is_1_1) {
+            add_field(&mut head, "Connection", "close");
+        } else if !is_1_1 {
+            add_field(&mut head, "Connection", "keep-alive");
+        }
+        match response.body {
+            Body::Bytes(bytes, _taken) if response.status != 304 => {
+                add_field(&mut head, "Content-Length", &bytes.len().to_string());
+                self.send_bytes(head + "\r\n", if is_head { Bytes::new() } else { bytes }).await
+            }
+            Body::Bytes(..) | Body::None => {
+                if !matches!(response.status, 204 | 304) {
+                    add_field(&mut head, "Content-Length", "0");
+                }
+                self.write((head + "\r\n").as_bytes()).await
+            }
+            stream => {
+                if is_1_1 {
+                    add_field(&mut head, "Transfer-Encoding", "chunked");
+                }
+                self.write((head + "\r\n").as_bytes()).await?;
+                match stream {
+                    Body::Events(events) if !is_head => self.send_events(*events, is_1_1).await,
+                    Body::Lines(lines) if !is_head => self.send_lines(*lines, is_1_1).await,
+                    _ => Ok(()),
+                }
+            }
+        }
+    }
+
+    /// The head of an answer, but for the fields that say how the content is framed.
+    fn head_of(&self, response: &Response) -> String {
+        let mut text = format!("HTTP/1.1 {} {}\r\n", response.status, phrase_of(response.status));
+        if !response.kind.is_empty() {
+            add_field(&mut text, "Content-Type", response.kind);
+        }
+        response.fields.iter().for_each(|(name, value)| add_field(&mut text, name, value));
+        if !response.fields.iter().any(|(name, _)| *name == "Cache-Control") {
+            add_field(&mut text, "Cache-Control", "no-cache");
+        }
+        text.push_str(concat!(
+            "X-Content-Type-Options: nosniff\r\nServer: jpstore/",
+            env!("CARGO_PKG_VERSION"),
+            "\r\n"
+        ));
+        add_field(&mut text, "Date", &self.app.date.text());
+        text
+    }
+
+    /// Sends the head and the content, a short one together with the head.
+    async fn send_bytes(&mut self, head: String, bytes: Bytes) -> io::Result<()> {
+        let mut first = head.into_bytes();
+        if bytes.len() <= PIECE {
+            first.extend_from_slice(&bytes);
+            return self.write(&first).await;
+        }
+        self.write(&first).await?;
+        for piece in bytes.chunks(PIECE) {
+            self.write(piece).await?;
+        }
+        Ok(())
+    }
+
+    /// Writes bytes; a client that doesn't take them in time is given up.
+    async fn write(&mut self, bytes: &[u8]) -> io::Result<()> {
+        let written = match self.stream.try_write(bytes) {
+            Ok(count) if count == bytes.len() => return Ok(()),
+            Ok(count) => count,
+            Err(error) if error.kind() == io::ErrorKind::WouldBlock => 0,
+            Err(error) => return Err(error),
+        };
+        let patience = self.app.patience / 2;
+        match timeout(patience, self.stream.write_all(&bytes[written..])).await {
+            Ok(done) => done,
+            Err(_) => {
+                // What it doesn't take would else be kept for it.
+                self.stream.set_linger(Some(Duration::ZERO))?;
+                Err(io::ErrorKind::TimedOut.into())
+            }
+        }
+    }
+
+    async fn write_piece(&mut self, piece: &[u8], in_chunks: bool) -> io::Result<()> {
+        if !in_chunks {
+            return self.write(piece).await;
+        }
+        let mut chunk = format!("{:x}\r\n", piece.len()).into_bytes();
+        chunk.extend_from_slice(piece);
+        chunk.extend_from_slice(b"\r\n");
+        self.write(&chunk).await
+    }
+
+    async fn end_pieces(&mut self, in_chunks: bool) -> io::Result<()> {
+        if in_chunks {
+            self.write(b"0\r\n\r\n").await?;
+        }
+        Ok(())
+    }
+
+    /// Sends the changes until the client goes away, or is too slow, or the server ends.
+    async fn send_events(&mut self, mut events: Events, in_chunks: bool) -> io::Result<()> {
+        loop {
+            self.buffer.reserve(READ);
+            let next = {
+                let Connection { stream, buffer, ending, .. } = &mut *self;
+                tokio::select! {
+                    next = timeout(BEAT, events.next()) => next.map_or(Next::Beat, Next::Event),
+                    read = stream.read_buf(buffer), if buffer.len() < PIECE => match read? {
+                        0 => return Err(io::ErrorKind::ConnectionReset.into()),
+                        _ => Next::Nothing,
+                    },
+                    () = ending.begun() => Next::Event(None),
+                }
+            };
+            match next {
+                Next::Beat => self.write_piece(COMMENT, in_chunks).await?,
+                Next::Event(Some(piece)) => self.write_piece(&piece, in_chunks).await?,
+                Next::Event(None) => return self.end_pieces(in_chunks).await,
+                Next::Nothing => (),
+            }
+        }
+    }
+
+    async fn send_lines(&mut self, mut lines: super::lines::DocumentLines, in_chunks: bool) -> io::Result<()> {
+        while let Some(piece) = lines.next().await? {
+            self.write_piece(&piece, in_chunks).await?;
+        }
+        self.end_pieces(in_chunks).await
+    }
+
+    /// Ends the connection. What the client still sends is dropped for a while, or it might not get its answer.
+    async fn close(&mut self) -> io::Result<()> {
+        self.stream.shutdown().await?;
+        let deadline = Instant::now() + LINGER;
+        let (mut dropped, mut piece) = (0, vec![0; READ]);
+        while dropped < MOST_DROPPED && !self.ending.has_begun() {
+            match timeout_at(deadline, self.stream.read(&mut piece)).await {
+                Ok(Ok(count)) if count > 0 => dropped += count,
+                _ => break,
+            }
+        }
+        Ok(())
+    }
+}
+
+/// What comes next to a follower.
+enum Next {
+    Event(Option<Bytes>),
+    Beat,
+    Nothing,
+}
+
+fn add_field(text: &mut String, name: &str, value: &str) {
+    text.push_str(name);
+    text.push_str(": ");
+    // No value that came from a client has these: else it could add fields.
+    text.extend(value.chars().filter(|letter| !matches!(letter, '\r' | '\n' | '\0')));
+    text.push_str("\r\n");
+}
+
+fn malformed_answer(malformed: &head::Malformed) -> String {
+    let (status, told) = (malformed.status, malformed.told);
+    let mut text = format!("HTTP/1.1 {status} {}\r\n", phrase_of(status));
+    add_field(&mut text, "Content-Type", "text/plain; charset=utf-8");
+    add_field(&mut text, "Date", &date::now());
+    add_field(&mut text, "Connection", "close");
+    add_field(&mut text, "Content-Length", &(told.len() + 1).to_string());
+    text + "\r\n" + told + "\n"
+}

@@ -1,0 +1,350 @@
+//! The documents as resources.
+
+use super::conditions::{exists, tag_of, Condition};
+use super::connection::Request;
+use super::lines::DocumentLines;
+use super::making::{changed, done, make, or_problem, Refused};
+use super::merge::operations_of;
+use super::notices::notices_in;
+use super::problem::Problem;
+use super::response::{Body, Response};
+use super::target::parameters;
+use crate::json::canonical::{canonical, value_of};
+use crate::json::{compact, quoted, Compact, Fault};
+use crate::lines::replies::{self, names_in, text_in, told_names};
+use crate::program::room::Taken;
+use crate::store::{too_busy, ATTEMPTS};
+use bytes::Bytes;
+
+/// The media types of a document and of patches. Each that ends in `+json` is one of a document too, but those of patches.
+pub const JSON: &str = "application/json";
+const PATCHES: [&str; 2] = ["application/json-patch+json", "application/merge-patch+json"];
+const ACCEPT_PATCH: &str = "application/json-patch+json, application/merge-patch+json";
+
+/// The most levels of a document, and of the line that has it.
+const MOST_LEVELS: usize = 64;
+const MOST_LEVELS_OF_A_LINE: usize = 127;
+
+/// Up to this size a document is sent without room being taken for it.
+const SHORT: usize = 1 << 16;
+
+/// The names in the order of creation, or the documents themselves as lines of JSON.
+pub async fn names(request: &Request<'_>) -> Result<Response, Problem> {
+    let [prefix] = parameters(&request.query, ["prefix"])?;
+    let (prefix, store) = (prefix.unwrap_or_default(), &request.app.store);
+    let accepted = request.head.list("accept").unwrap_or_default().to_ascii_lowercase();
+    if accepted.contains("application/x-ndjson") {
+        let (seq, lines) = DocumentLines::begin(store, &prefix).await?;
+        let mut response = Response::empty(200).with("Vary", "Accept").with("Jpstore-Seq", seq.to_string());
+        response.kind = "application/x-ndjson";
+        response.body = Body::Lines(Box::new(lines));
+        return Ok(response);
+    }
+    let reply = store.one(String::from_utf8_lossy(crate::lines::LIST).into_owned()).await?;
+    let names = names_in(&reply).ok_or_else(|| Problem::of_reply(&reply))?;
+    Ok(Response::text(200, JSON, told_names(&names, &prefix)).with("Vary", "Accept"))
+}
+
+/// A document, the value at a place of it, or the nodes that a query selects.
+pub async fn get(request: &Request<'_>, name: &str) -> Result<Response, Problem> {
+    let [pointer, query] = parameters(&request.query, ["pointer", "query"])?;
+    let store = &request.app.store;
+    let (rev, text, taken) = match (pointer, query) {
+        (Some(_), Some(_)) => {
+            return Err(Problem::new(400, "parameter", "a request has `pointer` or `query`, and not both"))
+        }
+        (None, Some(query)) => queried(request, name, &query).await?,
+        (Some(pointer), None) if !pointer.is_empty() => {
+            store.of_one_moment(name, &replies::get(name, &pointer)).await?
+        }
+        _ => {
+            let document = store.document(name).await?;
+            let text = document.text.clone();
+            let taken = if text.len() > SHORT { Some(store.room(text.len())?) } else { None };
+            (document.rev, text, taken)
+        }
+    };
+    read(request, name, rev, text, taken, JSON)
+}
+
+async fn queried(request: &Request<'_>, name: &str, query: &str) -> Result<(u64, Bytes, Option<Taken>), Problem> {
+    let _turn = request.app.queries.acquire().await;
+    let line = replies::query(name, query);
+    match request.app.store.of_one_moment(name, &line).await {
+        Ok(found) => Ok(found),
+        Err(problem) => Err(request.app.reasons.told(problem, line.as_bytes()).await),
+    }
+}
+
+/// The answer to one who reads a document of this revision, or something of it.
+pub fn read(
+    request: &Request<'_>,
+    name: &str,
+    rev: u64,
+    text: Bytes,
+    taken: Option<Taken>,
+    kind: &'static str,
+) -> Result<Response, Problem> {
+    let condition = Condition::of(&request.head)?;
+    condition.check_read(Some(rev))?;
+    let status = if condition.is_unchanged(rev) { 304 } else { 200 };
+    let mut response = about(Response::empty(status), name, rev);
+    response.kind = kind;
+    response.body = Body::Bytes(text, taken);
+    Ok(response)
+}
+
+/// The fields of an answer that has a document or is about its new state.
+pub fn about(response: Response, name: &str, rev: u64) -> Response {
+    let link = format!("</schemas/{name}>; rel=\"describedby\"");
+    response.with("ETag", tag_of(rev)).with("Link", link).with("Accept-Patch", ACCEPT_PATCH)
+}
+
+/// What may be done with a document.
+pub fn options() -> Response {
+    let allowed = "GET, HEAD, PUT, PATCH, DELETE, OPTIONS";
+    Response::empty(204).with("Allow", allowed).with("Accept-Patch", ACCEPT_PATCH)
+}
+
+/// Checks the media type of the body, and answers it in small letters.
+pub fn check_kind(request: &Request<'_>, kinds: &[&str]) -> Result<String, Problem> {
+    let field = request.head.field("content-type").unwrap_or(JSON);
+    let (kind, rest) = field.split_once(';').unwrap_or((field, ""));
+    let kind = kind.trim().to_ascii_lowercase();
+    if let Some((_, charset)) = rest.to_ascii_lowercase().split_once("charset") {
+        let charset = charset.trim_start().trim_start_matches('=').trim_start().trim_start_matches('"');
+        let end = charset.find(|letter: char| letter == '"' || letter == ';' || letter.is_whitespace());
+        if !matches!(&charset[..end.unwrap_or(charset.len())], "utf-8" | "utf8") {
+            return Err(Problem::new(415, "media-type", "a JSON text is sent in UTF-8"));
+        }
+    }
+    let is_json = kinds.contains(&JSON) && kind.ends_with("+json") && !PATCHES.contains(&kind.as_str());
+    if kinds.contains(&kind.as_str()) || is_json {
+        return Ok(kind);
+    }
+    let problem = Problem::new(415, "media-type", format!("the body is `{kind}`, and must be {}", kinds.join(" or ")));
+    let field = if kinds == PATCHES { "Accept-Patch" } else { "Accept" };
+    Err(problem.with(field, kinds.join(", ")))
+}
+
+/// The JSON text in the body.
+pub async fn text_of(request: &mut Request<'_>) -> Result<Compact, Problem> {
+    let coding = request.head.list("content-encoding").unwrap_or_default().to_ascii_lowercase();
+    if !matches!(coding.trim(), "" | "identity") {
+        let problem = Problem::new(415, "coding", "the body must not be compressed");
+        return Err(problem.with("Accept-Encoding", "identity"));
+    }
+    checked(&request.body().await?)
+}
+
+/// A text that was checked, or the problem of one that no line can carry.
+pub fn checked(text: &[u8]) -> Result<Compact, Problem> {
+    compact(text).map_err(|fault| match fault {
+        Fault::NotJson(told) => Problem::refused(11, told),
+        Fault::Unsendable(told) => Problem::refused(12, told),
+    })
+}
+
+/// The line of a creation.
+fn creation(name: &str, doc: &[u8], schema: &[u8]) -> Vec<u8> {
+    [b"{\"cmd\":\"create\",\"doc\":", doc, b",\"name\":", quoted(name).as_bytes(), b",\"schema\":", schema, b"}\n"]
+        .concat()
+}
+
+/// The line of a patch.
+fn patching(name: &str, rev: Option<u64>, ops: &[u8]) -> Vec<u8> {
+    let rev = rev.map_or_else(String::new, |rev| format!("\"if_rev\":{rev},"));
+    [b"{\"cmd\":\"patch\",", rev.as_bytes(), b"\"name\":", quoted(name).as_bytes(), b",\"ops\":", ops, b"}\n"].concat()
+}
+
+/// Makes a document, or replaces the whole of it.
+pub async fn put(request: &mut Request<'_>, name: &str) -> Result<Response, Problem> {
+    let [schema] = parameters(&request.query, ["schema"])?;
+    check_kind(request, &[JSON])?;
+    let condition = Condition::of(&request.head)?;
+    let doc = text_of(request).await?;
+    if let Some(schema) = schema_asked(request, schema).await? {
+        condition.check(None)?;
+        return match create(request, name, &doc, &schema).await? {
+            Ok(response) => Ok(response),
+            Err(Refused { number: 20, .. }) if condition.is_only_new() => Err(exists(None)),
+            Err(refused) => Err(refused.problem(&request.app).await),
+        };
+    }
+    for _ in 0..ATTEMPTS {
+        if let Some(response) = put_once(request, name, &doc, &condition).await? {
+            return Ok(response);
+        }
+    }
+    Err(too_busy(name))
+}
+
+/// Makes or replaces a document; none if another client made, changed or deleted it at the same time.
+async fn put_once(
+    request: &Request<'_>,
+    name: &str,
+    doc: &Compact,
+    condition: &Condition,
+) -> Result<Option<Response>, Problem> {
+    let mut rev = None;
+    if condition.is_given() && !condition.is_only_new() {
+        rev = request.app.store.rev_if_there(name).await?;
+        condition.check(rev)?;
+    }
+    if rev.is_some() || !condition.is_given() {
+        check_levels(name, doc)?;
+        let ops = [b"[{\"op\":\"replace\",\"path\":\"\",\"value\":", &doc.text[..], b"}]"].concat();
+        match make(&request.app, patching(name, rev, &ops)).await? {
+            Ok(seq) => return changed(name, seq, 200, &[]).map(Some),
+            Err(Refused { number: 24, .. }) => return Ok(None),
+            Err(Refused { number: 21, .. }) if rev.is_some() => return Ok(None),
+            Err(Refused { number: 21, .. }) => (),
+            Err(refused) => return Err(refused.problem(&request.app).await),
+        }
+    }
+    match create(request, name, doc, b"true").await? {
+        Ok(response) => Ok(Some(response)),
+        Err(Refused { number: 20, .. }) if condition.is_only_new() => Err(exists(None)),
+        Err(Refused { number: 20, .. }) => Ok(None),
+        Err(refused) => Err(refused.problem(&request.app).await),
+    }
+}
+
+/// Refuses a document that nests too deep as one, and not as a part of the patch that replaces another.
+fn check_levels(name: &str, doc: &Compact) -> Result<(), Problem> {
+    if doc.levels >= MOST_LEVELS_OF_A_LINE {
+        return Err(Problem::refused(11, "the document nests deeper than 126 levels"));
+    }
+    let is_name = (1..=64).contains(&name.len())
+        && name.bytes().all(|byte| byte.is_ascii_alphanumeric() || b"-_.".contains(&byte));
+    // Else it is refused for its name, or for its length.
+    if doc.levels > MOST_LEVELS && is_name && doc.text.len() < crate::lines::MOST_LINE - 256 {
+        return Err(Problem::refused(13, "make the document flatter: it may nest at most 64 levels"));
+    }
+    Ok(())
+}
+
+async fn create(
+    request: &Request<'_>,
+    name: &str,
+    doc: &Compact,
+    schema: &[u8],
+) -> Result<Result<Response, Refused>, Problem> {
+    let line = creation(name, &doc.text, schema);
+    match make(&request.app, line).await? {
+        Ok(seq) => Ok(Ok(changed(name, seq, 201, &notices_in(schema))?)),
+        Err(refused) => Ok(Err(refused)),
+    }
+}
+
+/// The schema that a new document is to have: in `?schema=`, or by `Link` that of another document.
+async fn schema_asked(request: &Request<'_>, text: Option<String>) -> Result<Option<Vec<u8>>, Problem> {
+    let fields = request.head.list("link").unwrap_or_default();
+    let links: Vec<&str> = fields.split(',').filter_map(described_by).collect();
+    match (text, &links[..]) {
+        (None, []) => Ok(None),
+        (Some(text), []) => match checked(text.as_bytes()) {
+            Ok(schema) => Ok(Some(schema.text)),
+            Err(problem) => Err(Problem { detail: format!("`schema`: {}", problem.detail), ..problem }),
+        },
+        (None, [link]) if link.starts_with("/schemas/") && link.len() > 9 && !link[9..].contains('/') => {
+            let reply = request.app.store.one(replies::get_schema(&link[9..])).await?;
+            text_in(&reply).map(|text| Some(text.to_vec())).ok_or_else(|| Problem::of_reply(&reply))
+        }
+        _ => {
+            let told = "one schema is given: by `?schema=`, or by a `Link` to `/schemas/NAME` here";
+            Err(Problem::new(400, "link", told))
+        }
+    }
+}
+
+/// The target of a link that says by what a document is described.
+fn described_by(link: &str) -> Option<&str> {
+    let (target, rest) = link.trim().strip_prefix('<')?.split_once('>')?;
+    let (name, relation) = rest.trim().strip_prefix(';')?.split_once('=')?;
+    let relation = relation.trim().trim_matches('"');
+    (name.trim().eq_ignore_ascii_case("rel") && relation.eq_ignore_ascii_case("describedby")).then(|| target)
+}
+
+/// Changes a document by a JSON Patch or a JSON Merge Patch.
+pub async fn patch(request: &mut Request<'_>, name: &str) -> Result<Response, Problem> {
+    let [] = parameters(&request.query, [])?;
+    let kind = check_kind(request, &PATCHES)?;
+    let condition = Condition::of(&request.head)?;
+    let patch = text_of(request).await?;
+    let is_merge = kind == PATCHES[1];
+    for _ in 0..ATTEMPTS {
+        let rev = revision_allowed(request, name, &condition, is_merge).await?;
+        let ops = if is_merge { merging(request, name, &patch).await? } else { patch.text.clone() };
+        match make(&request.app, patching(name, rev, &ops)).await? {
+            Ok(seq) => return changed(name, seq, 200, &[]),
+            Err(Refused { number: 24, rev: found, .. }) if rev.is_some() => condition.check(found)?,
+            Err(refused) => return Err(refused.problem(&request.app).await),
+        }
+    }
+    Err(too_busy(name))
+}
+
+/// The revision of which a change may be made; none if that doesn't matter.
+async fn revision_allowed(
+    request: &Request<'_>,
+    name: &str,
+    condition: &Condition,
+    always: bool,
+) -> Result<Option<u64>, Problem> {
+    if !condition.is_given() && !always {
+        return Ok(None);
+    }
+    if !always && condition.only_revision().is_some() {
+        // The store compares it, and tells the other one.
+        return Ok(condition.only_revision());
+    }
+    let rev = request.app.store.rev(name).await?;
+    condition.check(Some(rev))?;
+    Ok(Some(rev))
+}
+
+/// The operations of a merge patch on the document. It is of the revision that was asked for before, or they are refused.
+async fn merging(request: &Request<'_>, name: &str, patch: &Compact) -> Result<Vec<u8>, Problem> {
+    let document = request.app.store.document(name).await?;
+    let _turn = request.app.trees.acquire().await;
+    match (value_of(&document.text), value_of(&patch.text)) {
+        (Some(doc), Some(patch)) => Ok(canonical(&operations_of(&doc, &patch))),
+        _ => Err(Problem::refused(11, "the patch nests deeper than 127 levels")),
+    }
+}
+
+/// Deletes a document.
+pub async fn delete(request: &Request<'_>, name: &str) -> Result<Response, Problem> {
+    let [] = parameters(&request.query, [])?;
+    let condition = Condition::of(&request.head)?;
+    let line = format!("{{\"cmd\":\"delete\",\"name\":{}}}\n", quoted(name));
+    let seq = or_problem(request, change_if(request, name, &condition, line.as_bytes()).await?).await?;
+    Ok(Response::json(200, done(seq, &[])))
+}
+
+/// Makes a change, whose command takes no revision, of a revision that the condition allows.
+pub async fn change_if(
+    request: &Request<'_>,
+    name: &str,
+    condition: &Condition,
+    line: &[u8],
+) -> Result<Result<u64, Refused>, Problem> {
+    if !condition.is_given() || condition.is_only_there() {
+        return make(&request.app, line.to_vec()).await;
+    }
+    for _ in 0..ATTEMPTS {
+        let rev = request.app.store.rev(name).await?;
+        condition.check(Some(rev))?;
+        let guard = patching(name, Some(rev), b"[]");
+        // Both are without their LF.
+        let (guard, change) = (&guard[..guard.len() - 1], &line[..line.len() - 1]);
+        let both = [b"{\"changes\":[", guard, b",", change, b"],\"cmd\":\"transaction\"}\n"].concat();
+        match make(&request.app, both).await? {
+            Err(refused) if refused.number == 24 && refused.change == Some(0) => (),
+            Err(refused) => return Ok(Err(refused.of_one(line))),
+            done => return Ok(done),
+        }
+    }
+    Err(too_busy(name))
+}

@@ -1,0 +1,28 @@
+//! The store over HTTP, as `docs/use/HTTP.md` says it.
+
+pub mod app;
+mod body;
+mod changes;
+mod conditions;
+mod connection;
+mod date;
+mod documents;
+mod facts;
+pub mod guard;
+mod head;
+mod lines;
+pub mod listening;
+mod making;
+mod merge;
+mod notices;
+mod page;
+pub mod problem;
+pub mod reasons;
+mod response;
+mod routes;
+mod schemas;
+mod target;
+mod transactions;
+
+pub use app::App;
+pub use connection::serve;

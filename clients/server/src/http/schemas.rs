@@ -1,0 +1,34 @@
+//! The schemas of the documents as resources.
+
+use super::conditions::Condition;
+use super::connection::Request;
+use super::documents::{change_if, check_kind, read, text_of, JSON};
+use super::making::{changed, or_problem};
+use super::notices::notices_in;
+use super::problem::Problem;
+use super::response::Response;
+use super::target::parameters;
+use crate::json::quoted;
+use crate::lines::replies;
+
+/// The media type of a schema.
+const SCHEMA: &str = "application/schema+json";
+
+/// The schema of a document.
+pub async fn get(request: &Request<'_>, name: &str) -> Result<Response, Problem> {
+    let [] = parameters(&request.query, [])?;
+    let (rev, text, taken) = request.app.store.of_one_moment(name, &replies::get_schema(name)).await?;
+    read(request, name, rev, text, taken, SCHEMA)
+}
+
+/// Puts a document under another schema.
+pub async fn put(request: &mut Request<'_>, name: &str) -> Result<Response, Problem> {
+    let [] = parameters(&request.query, [])?;
+    check_kind(request, &[SCHEMA, JSON])?;
+    let condition = Condition::of(&request.head)?;
+    let schema = text_of(request).await?.text;
+    let line =
+        [b"{\"cmd\":\"schema\",\"name\":", quoted(name).as_bytes(), b",\"schema\":", &schema[..], b"}\n"].concat();
+    let seq = or_problem(request, change_if(request, name, &condition, &line).await?).await?;
+    changed(name, seq, 200, &notices_in(&schema))
+}

@@ -1,0 +1,175 @@
+//! A client at the socket: its lines are taken, and its replies are handed to it, as fast as it takes them.
+
+use super::watch;
+use crate::ending::Ending;
+use crate::lines::framing::Framing;
+use crate::lines::kinds::{kind_of, own_command, Kind, Own};
+use crate::lines::{Line, Lines};
+use crate::program::room::Room;
+use crate::program::{Handle, Job, Reply, Spool};
+use std::io;
+use std::time::Duration;
+use tokio::io::{AsyncReadExt, AsyncWriteExt};
+use tokio::net::UnixStream;
+use tokio::sync::oneshot;
+use tokio::time::timeout;
+
+/// How many bytes are read at once, and the most lines of one job.
+const PIECE: usize = 1 << 16;
+const MOST_LINES: usize = 256;
+
+/// How long a client may take for its last replies.
+const FAREWELL: Duration = Duration::from_secs(5);
+
+/// A connection, and what it has sent.
+pub(super) struct Client {
+    pub stream: UnixStream,
+    pub framing: Framing,
+    pub ending: Ending,
+    /// A line that was taken, and belongs to the next job.
+    next: Option<(Kind, Line)>,
+    /// Whether the client sends nothing more.
+    pub ended: bool,
+    store: Handle,
+    room: Room,
+}
+
+/// Serves a client until it says that no more lines come and all are answered, it goes away, or the server ends.
+pub async fn attend(stream: UnixStream, store: Handle, room: Room, ending: Ending) {
+    let mut client = Client { stream, framing: Framing::default(), ending, next: None, ended: false, store, room };
+    // A client that has gone away is no error.
+    let _ = client.serve().await;
+}
+
+impl Client {
+    async fn serve(&mut self) -> io::Result<()> {
+        loop {
+            let lines = self.lines();
+            if !lines.is_empty() {
+                if !self.answer(lines).await? {
+                    return Ok(());
+                }
+                continue;
+            }
+            if let Some((_, line)) = self.next.take() {
+                match own_command(&line) {
+                    Some(Own::Export) => self.export().await?,
+                    Some(Own::Grow(sectors)) => self.grow(sectors).await?,
+                    Some(Own::Watch { from, history }) => return self.watch(from, history).await,
+                    // The program refuses a line that only looks like one of the server's own.
+                    None => self.next = Some((Kind::Question, line)),
+                }
+                continue;
+            }
+            if self.ended || !self.read().await? {
+                return Ok(());
+            }
+        }
+    }
+
+    /// The lines that have come, as many as are done in one round.
+    fn lines(&mut self) -> Lines {
+        let mut lines = Lines::default();
+        while lines.count() < MOST_LINES {
+            let (kind, line) = match self.next.take().or_else(|| self.next_line()) {
+                Some(next) => next,
+                None => break,
+            };
+            let fits = match kind {
+                Kind::Change => lines.questions.is_empty() && lines.snapshots.is_empty(),
+                Kind::Question => lines.snapshots.is_empty(),
+                Kind::Snapshot => true,
+                Kind::Own => false,
+            };
+            if !fits {
+                self.next = Some((kind, line));
+                break;
+            }
+            match kind {
+                Kind::Change => lines.changes.push(line),
+                Kind::Question => lines.questions.push(line),
+                _ => lines.snapshots.push(line),
+            }
+        }
+        lines
+    }
+
+    fn next_line(&mut self) -> Option<(Kind, Line)> {
+        let line = match self.framing.next() {
+            Some(line) => line,
+            None if self.ended => self.framing.last()?,
+            None => return None,
+        };
+        Some((kind_of(&line), line))
+    }
+
+    /// Reads what has come; false if the server ends.
+    async fn read(&mut self) -> io::Result<bool> {
+        self.framing.buffer.reserve(PIECE);
+        tokio::select! {
+            count = self.stream.read_buf(&mut self.framing.buffer) => self.ended = count? == 0,
+            () = self.ending.begun() => return Ok(false),
+        }
+        Ok(true)
+    }
+
+    /// Has lines done, and hands over the replies; false if the server ends, or there is no room for the replies.
+    async fn answer(&mut self, mut lines: Lines) -> io::Result<bool> {
+        while !lines.is_empty() {
+            let (reply, answer) = oneshot::channel();
+            self.store.ask(Job { lines, room: self.room.clone(), whole: false, reply: Reply::Lines(reply) });
+            let answer = match answer.await {
+                Ok(Ok(answer)) => answer,
+                _ => return Ok(false),
+            };
+            self.write(&answer.replies).await?;
+            lines = answer.rest;
+        }
+        Ok(true)
+    }
+
+    /// Writes as fast as the client takes it; at the server's end not for long.
+    pub(super) async fn write(&mut self, bytes: &[u8]) -> io::Result<()> {
+        let Client { stream, ending, .. } = self;
+        let late = async {
+            ending.begun().await;
+            tokio::time::sleep(FAREWELL).await;
+        };
+        tokio::select! {
+            written = stream.write_all(bytes) => written,
+            () = late => Err(io::ErrorKind::TimedOut.into()),
+        }
+    }
+
+    /// Hands the client all documents of one moment.
+    async fn export(&mut self) -> io::Result<()> {
+        let mut spool: Spool = match self.store.export("").await {
+            Ok(spool) => spool?,
+            Err(_) => return Err(io::ErrorKind::BrokenPipe.into()),
+        };
+        loop {
+            let piece = spool.next()?;
+            if piece.is_empty() {
+                return Ok(());
+            }
+            self.write(&piece).await?;
+        }
+    }
+
+    /// Has the store grow, and tells the client how that went.
+    async fn grow(&mut self, sectors: u64) -> io::Result<()> {
+        let reply = tokio::select! {
+            reply = self.store.grow(sectors) => reply,
+            () = self.ending.begun() => return Err(io::ErrorKind::ConnectionAborted.into()),
+        };
+        self.write(&reply.map_err(|_| io::ErrorKind::BrokenPipe)?).await
+    }
+
+    async fn watch(&mut self, from: Option<u64>, history: Option<String>) -> io::Result<()> {
+        let store = self.store.clone();
+        let told = watch::tell(self, &store.history, from, history).await;
+        // What the client may still read is sent before the connection is closed.
+        let _ = timeout(FAREWELL, self.stream.shutdown()).await;
+        told
+    }
+}

@@ -1,0 +1,53 @@
+//! The lines of clients and the replies to them: how bytes are cut into lines, which line is what, what a reply says.
+
+pub mod framing;
+pub mod kinds;
+pub mod replies;
+
+use bytes::Bytes;
+
+/// The most bytes of a line without its LF.
+pub const MOST_LINE: usize = 1 << 20;
+
+/// The most changes of a transaction, and of a group.
+pub const MOST_CHANGES: usize = 1024;
+
+/// A line with its LF. One without any byte stands for a line that is too long.
+pub type Line = Bytes;
+
+/// The line that asks for the status, and ends a group of changes.
+pub const STATUS: &[u8] = b"{\"cmd\":\"status\"}\n";
+
+/// The line that asks for the names.
+pub const LIST: &[u8] = b"{\"cmd\":\"list\"}\n";
+
+/// The line that makes a snapshot.
+pub const SNAPSHOT: &[u8] = b"{\"cmd\":\"snapshot\"}\n";
+
+/// Lines of a client in the order of the parts of a round: what changes, what asks, what makes room.
+#[derive(Debug, Default)]
+pub struct Lines {
+    /// Those that change documents.
+    pub changes: Vec<Line>,
+    /// Those that only ask, or are refused.
+    pub questions: Vec<Line>,
+    /// Those that make a snapshot or a step of one.
+    pub snapshots: Vec<Line>,
+}
+
+impl Lines {
+    /// How many they are.
+    pub fn count(&self) -> usize {
+        self.changes.len() + self.questions.len() + self.snapshots.len()
+    }
+
+    /// How many bytes they have.
+    pub fn size(&self) -> usize {
+        [&self.changes, &self.questions, &self.snapshots].iter().flat_map(|part| part.iter()).map(Bytes::len).sum()
+    }
+
+    /// Whether there are none.
+    pub fn is_empty(&self) -> bool {
+        self.count() == 0
+    }
+}

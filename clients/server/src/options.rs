@@ -1,0 +1,198 @@
+//! The command line.
+
+use crate::error::Error;
+use std::ffi::{OsStr, OsString};
+use std::os::unix::ffi::OsStrExt;
+use std::path::PathBuf;
+use std::time::Duration;
+
+/// What `--help` shows.
+pub const HELP: &str = "\
+Usage: jpstored STORE [OPTION..]
+
+Serves the store in the file STORE to many clients, over HTTP and by a Unix socket, until it is ended by SIGTERM or
+SIGINT. STORE may also be the socket of a running server, which is then served over HTTP.
+
+  --listen HOST:PORT   serves over HTTP at this address (127.0.0.1:8080 if neither this nor --socket is given)
+  --socket PATH        serves lines at this Unix socket
+  --token-file FILE    who asks over HTTP needs the token in this file
+  --origin ORIGIN      lets in the pages of this origin, such as https://example.org; may be given several times
+  --program PATH       the program jpstore (the one on PATH)
+  --wait SECONDS       how long to wait for a file that is in use (5)
+  --pump SECTORS       copies this many sectors of a snapshot after each group of changes, while a half fills
+  --cache BYTES        keeps at most so many bytes of documents for readers (67108864)
+  --no-cache           asks the program for each document
+  --patience SECONDS   how long a client may take for a request, and half as long for a piece of an answer (60)
+  --python PATH        the Python, with the package jpstore, that tells why a document is not valid (python3)
+  --version, --help    shows the version, or this
+";
+
+/// The options.
+#[derive(Debug)]
+pub struct Options {
+    /// The file, or the socket of a server.
+    pub store: PathBuf,
+    /// The address for HTTP.
+    pub listen: Option<String>,
+    /// The path of the Unix socket.
+    pub socket: Option<PathBuf>,
+    /// The file with the token.
+    pub token_file: Option<PathBuf>,
+    /// The origins that are let in.
+    pub origins: Vec<String>,
+    /// The program.
+    pub program: Option<PathBuf>,
+    /// How long to wait for a file that is in use.
+    pub wait: Duration,
+    /// The sectors of a step of a snapshot.
+    pub pump: u64,
+    /// The bytes of kept documents.
+    pub cache: usize,
+    /// How long a client may take for a request.
+    pub patience: Duration,
+    /// The Python that tells reasons.
+    pub python: PathBuf,
+}
+
+/// What the command line asks for.
+#[derive(Debug)]
+pub enum Asked {
+    /// To serve.
+    Serve(Options),
+    /// To show a text and end.
+    Show(String),
+}
+
+impl Options {
+    fn new() -> Options {
+        Options {
+            store: PathBuf::new(),
+            listen: None,
+            socket: None,
+            token_file: None,
+            origins: Vec::new(),
+            program: None,
+            wait: Duration::from_secs(5),
+            pump: 0,
+            cache: 1 << 26,
+            patience: Duration::from_secs(60),
+            python: "python3".into(),
+        }
+    }
+
+    fn set(&mut self, option: &str, value: OsString) -> Result<(), Error> {
+        match option {
+            "--socket" => self.socket = Some(value.into()),
+            "--token-file" => self.token_file = Some(value.into()),
+            "--program" => self.program = Some(value.into()),
+            "--python" => self.python = value.into(),
+            _ => match value.to_str() {
+                Some(text) => self.set_text(option, text)?,
+                None => return Err(wrong(option, &value.to_string_lossy())),
+            },
+        }
+        Ok(())
+    }
+
+    fn set_text(&mut self, option: &str, value: &str) -> Result<(), Error> {
+        let wrong = || wrong(option, value);
+        match option {
+            "--listen" => self.listen = Some(value.to_owned()),
+            "--origin" => self.origins.push(value.to_owned()),
+            "--wait" => self.wait = seconds(value).ok_or_else(wrong)?,
+            "--patience" => self.patience = seconds(value).ok_or_else(wrong)?,
+            "--pump" => {
+                self.pump = value.parse().ok().filter(|count| *count <= 1_000_000).ok_or_else(wrong)?;
+            }
+            "--cache" => self.cache = value.parse().map_err(|_| wrong())?,
+            _ => return Err(Error::new(format!("{option} is no option of jpstored: see `jpstored --help`"))),
+        }
+        Ok(())
+    }
+}
+
+/// The name of an option, and its value if it is in the same word.
+fn parts_of(option: &[u8]) -> (String, Option<OsString>) {
+    let (name, value) = match memchr::memchr(b'=', option) {
+        Some(place) => (&option[..place], Some(OsStr::from_bytes(&option[place + 1..]).to_owned())),
+        None => (option, None),
+    };
+    (String::from_utf8_lossy(name).into_owned(), value)
+}
+
+fn seconds(text: &str) -> Option<Duration> {
+    let number: f64 = text.parse().ok()?;
+    (0.0..=1e9).contains(&number).then(|| Duration::from_secs_f64(number))
+}
+
+fn wrong(option: &str, value: &str) -> Error {
+    Error::new(format!("`{value}` is no value of {option}: see `jpstored --help`"))
+}
+
+/// Reads the words after the name of the program.
+pub fn read(words: impl IntoIterator<Item = OsString>) -> Result<Asked, Error> {
+    let (mut options, mut store) = (Options::new(), None);
+    let mut words = words.into_iter();
+    let mut plain = false;
+    while let Some(word) = words.next() {
+        match word.as_bytes() {
+            b"--help" | b"-h" if !plain => return Ok(Asked::Show(HELP.to_owned())),
+            b"--version" if !plain => return Ok(Asked::Show(format!("jpstored {}\n", env!("CARGO_PKG_VERSION")))),
+            b"--no-cache" if !plain => options.cache = 0,
+            b"--" if !plain => plain = true,
+            option if !plain && option.starts_with(b"--") => {
+                let (name, value) = parts_of(option);
+                let value = value.or_else(|| words.next());
+                options.set(&name, value.ok_or_else(|| Error::new(format!("{name} needs a value")))?)?;
+            }
+            _ if store.is_none() => store = Some(PathBuf::from(word)),
+            word => {
+                let word = String::from_utf8_lossy(word);
+                return Err(Error::new(format!("`{word}` is one word too many: see `jpstored --help`")));
+            }
+        }
+    }
+    options.store = store.ok_or_else(|| Error::new("which store? See `jpstored --help`"))?;
+    if options.listen.is_none() && options.socket.is_none() {
+        options.listen = Some("127.0.0.1:8080".to_owned());
+    }
+    Ok(Asked::Serve(options))
+}
+
+#[cfg(test)]
+mod tests {
+    use super::{read, Asked, Options};
+    use std::path::PathBuf;
+    use std::time::Duration;
+
+    fn options(words: &[&str]) -> Result<Options, String> {
+        match read(words.iter().map(|word| word.into())) {
+            Ok(Asked::Serve(options)) => Ok(options),
+            Ok(Asked::Show(text)) => Err(text),
+            Err(error) => Err(error.to_string()),
+        }
+    }
+
+    #[test]
+    fn options_are_read_in_any_place() {
+        let found =
+            options(&["--socket=s", "store", "--origin", "a", "--origin", "b", "--wait", "0.5", "--no-cache"]).unwrap();
+        assert_eq!((found.store, found.socket, found.listen), ("store".into(), Some("s".into()), None));
+        assert_eq!(
+            (found.origins, found.wait, found.cache),
+            (vec!["a".to_owned(), "b".to_owned()], Duration::from_millis(500), 0)
+        );
+        assert_eq!(options(&["store"]).unwrap().listen.as_deref(), Some("127.0.0.1:8080"));
+        assert_eq!(options(&["--", "--store"]).unwrap().store, PathBuf::from("--store"));
+    }
+
+    #[test]
+    fn what_is_wrong_is_told() {
+        for words in
+            [&[][..], &["a", "b"], &["a", "--wait", "x"], &["a", "--pump"], &["a", "--none", "1"], &["a", "--wait=-1"]]
+        {
+            assert!(options(words).is_err(), "{words:?}");
+        }
+        assert!(options(&["--version"]).unwrap_err().starts_with("jpstored "));
+    }
+}

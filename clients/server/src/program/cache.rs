@@ -1,0 +1,139 @@
+//! The documents that were answered once, as they are sent.
+//!
+//! A copy is replaced in the round in which its document changes, after the change is on the disk and before any answer of
+//! that round is sent. So who reads a copy sees no less than was answered, and no more than is stored. Only the engine
+//! writes here.
+
+use bytes::Bytes;
+use std::collections::HashMap;
+use std::sync::atomic::{AtomicBool, Ordering};
+use std::sync::{Arc, RwLock};
+
+/// A document.
+#[derive(Debug)]
+pub struct Document {
+    /// Its revision.
+    pub rev: u64,
+    /// Its text.
+    pub text: Bytes,
+    /// Whether it was read since it was put here.
+    read: AtomicBool,
+}
+
+impl Document {
+    /// A document that nobody has read.
+    pub fn new(rev: u64, text: Bytes) -> Document {
+        Document { rev, text, read: AtomicBool::new(false) }
+    }
+}
+
+#[derive(Default)]
+struct Copies {
+    by_name: HashMap<String, Arc<Document>>,
+    size: usize,
+}
+
+/// Copies of documents, of at most so many bytes together.
+pub struct Cache {
+    most: usize,
+    copies: RwLock<Copies>,
+}
+
+/// What a copy takes beside its text.
+const BESIDE: usize = 256;
+
+impl Cache {
+    /// An empty cache; with 0 bytes it stays empty.
+    pub fn new(most: usize) -> Cache {
+        Cache { most, copies: RwLock::default() }
+    }
+
+    /// The copy of a document.
+    pub fn get(&self, name: &str) -> Option<Arc<Document>> {
+        let copies = self.copies.read().unwrap_or_else(std::sync::PoisonError::into_inner);
+        let found = copies.by_name.get(name)?;
+        if !found.read.load(Ordering::Relaxed) {
+            found.read.store(true, Ordering::Relaxed);
+        }
+        Some(found.clone())
+    }
+
+    /// Puts a copy here. If there is no room, others go.
+    pub fn put(&self, name: &str, document: Arc<Document>) {
+        let size = document.text.len() + BESIDE;
+        if size > self.most {
+            return;
+        }
+        let mut copies = self.copies.write().unwrap_or_else(std::sync::PoisonError::into_inner);
+        copies.remove(name);
+        while copies.size + size > self.most {
+            let other = copies.by_name.keys().next().cloned();
+            other.iter().for_each(|other| copies.remove(other));
+        }
+        copies.size += size;
+        copies.by_name.insert(name.to_owned(), document);
+    }
+
+    /// The names of those of these documents, which have changed, whose copies were read. Other copies go.
+    pub fn changed(&self, names: impl Iterator<Item = String>) -> Vec<String> {
+        let mut copies = self.copies.write().unwrap_or_else(std::sync::PoisonError::into_inner);
+        names.filter(|name| copies.was_read(name)).collect()
+    }
+
+    /// Takes the copy of a document away.
+    pub fn remove(&self, name: &str) {
+        self.copies.write().unwrap_or_else(std::sync::PoisonError::into_inner).remove(name);
+    }
+}
+
+impl Copies {
+    fn remove(&mut self, name: &str) {
+        let found = self.by_name.remove(name);
+        self.size -= found.map_or(0, |document| document.text.len() + BESIDE);
+    }
+
+    /// Whether there is a copy that was read; one that wasn't goes.
+    fn was_read(&mut self, name: &str) -> bool {
+        let found = self.by_name.get(name).map(|document| document.read.load(Ordering::Relaxed));
+        if found == Some(false) {
+            self.remove(name);
+        }
+        found == Some(true)
+    }
+}
+
+#[cfg(test)]
+mod tests {
+    use super::{Cache, Document, BESIDE};
+    use std::sync::Arc;
+
+    fn document(rev: u64, size: usize) -> Arc<Document> {
+        Arc::new(Document::new(rev, vec![b'1'; size].into()))
+    }
+
+    #[test]
+    fn what_changed_goes_and_what_was_read_is_told() {
+        let cache = Cache::new(10_000);
+        cache.put("a", document(1, 10));
+        cache.put("b", document(2, 10));
+        assert_eq!(cache.get("a").unwrap().rev, 1);
+        let names = ["a", "b", "c"].map(str::to_owned);
+        assert_eq!(cache.changed(names.into_iter()), ["a"]);
+        assert!(cache.get("a").is_some() && cache.get("b").is_none());
+        cache.remove("a");
+        assert!(cache.get("a").is_none());
+    }
+
+    #[test]
+    fn its_size_is_bounded() {
+        let cache = Cache::new(3 * (BESIDE + 100));
+        (0..50).for_each(|number| cache.put(&number.to_string(), document(number, 100)));
+        assert_eq!((0..50).filter(|number| cache.get(&number.to_string()).is_some()).count(), 3);
+        assert!(cache.get("49").is_some());
+        cache.put("large", document(1, 10_000));
+        assert!(cache.get("large").is_none());
+        let none = Cache::new(0);
+        none.put("a", document(1, 0));
+        assert!(none.get("a").is_none());
+    }
+}

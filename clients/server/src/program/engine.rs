@@ -1,0 +1,252 @@
+//! The rounds in which the program does the lines of all clients.
+//!
+//! A round is what has arrived: of each client first the changes that it begins with, then the questions after them, then
+//! the snapshots after these. In this way each client's lines are done and answered in its own order, and changes that
+//! arrive together are one commit. A reply is handed on after the program gave it, so an answered change is on the disk.
+
+use super::cache::Cache;
+use super::export::{self, Wanted};
+use super::growing::{Growths, Turn};
+use super::handle::{Handle, Message};
+use super::job::{send, Job, Pending};
+use super::start::Program;
+use crate::error::Error;
+use crate::history::file::Recorder;
+use crate::history::History;
+use crate::lines::replies::{is_failure, Status};
+use crate::lines::STATUS;
+use bytes::Bytes;
+use std::collections::VecDeque;
+use std::io;
+use std::path::Path;
+use std::sync::Arc;
+use tokio::sync::mpsc::{unbounded_channel, UnboundedReceiver};
+use tokio::sync::watch;
+
+/// The most lines of a round, and the most bytes of them.
+const ROUND_LINES: usize = 1024;
+const ROUND_BYTES: usize = 1 << 22;
+
+/// How often a status is asked for if the program is out of memory.
+const TRIES: usize = 5;
+
+/// The program with what is known of its store.
+pub struct Engine {
+    pub(super) program: Program,
+    pub(super) status: Status,
+    pub(super) history: Arc<History>,
+    pub(super) recorder: Recorder,
+    pub(super) cache: Arc<Cache>,
+    queue: UnboundedReceiver<Message>,
+    pub(super) waiting: VecDeque<Job>,
+    exports: VecDeque<Wanted>,
+    turns: VecDeque<Turn>,
+    growths: Growths,
+    pub(super) pump: u64,
+    /// How many bytes were used when a snapshot was last made, or tried.
+    pub(super) tried: Option<u64>,
+    pub(super) copying: bool,
+    pub(super) broken: bool,
+}
+
+impl Engine {
+    /// The engine over a program that has opened a store, and the way to it.
+    pub async fn begin(
+        mut program: Program,
+        history: History,
+        recorder: Recorder,
+        cache: Cache,
+        pump: u64,
+    ) -> Result<(Engine, Handle), Error> {
+        let first = program.pipes.exchange(STATUS, 1).await;
+        let status = match first.as_ref().ok().and_then(|replies| Status::of(&replies[0])) {
+            Some(status) => status,
+            None => return Err(Error::new(program.ended().await.to_string())),
+        };
+        let (messages, queue) = unbounded_channel();
+        let (history, cache) = (Arc::new(history), Arc::new(cache));
+        let growths = Growths::of(program.store.clone(), program.path.clone(), messages.clone());
+        let handle = Handle { messages, cache: cache.clone(), history: history.clone() };
+        let engine = Engine {
+            program,
+            status,
+            history,
+            recorder,
+            cache,
+            queue,
+            waiting: VecDeque::new(),
+            exports: VecDeque::new(),
+            turns: VecDeque::new(),
+            growths,
+            pump,
+            tried: None,
+            copying: false,
+            broken: false,
+        };
+        Ok((engine, handle))
+    }
+
+    /// Does round after round until it is stopped; an error if the program ends by itself, or the device fails.
+    pub async fn run(mut self, mut stop: watch::Receiver<bool>) -> Result<(), Error> {
+        let wrong = self.rounds(&mut stop).await.err();
+        self.queue.close();
+        // Who waits for a turn learns that there will be none.
+        while self.queue.try_recv().is_ok() {}
+        self.turns.clear();
+        self.growths.end().await;
+        let ended = self.program.ended().await;
+        match wrong {
+            _ if !ended.is_well() => Err(Error::new(ended.to_string())),
+            Some(error) if error.kind() == io::ErrorKind::InvalidData => Err(Error::new(error.to_string())),
+            _ if self.broken => Err(Error::new("the device failed")),
+            Some(_) => Err(Error::new(ended.to_string())),
+            None => Ok(()),
+        }
+    }
+
+    async fn rounds(&mut self, stop: &mut watch::Receiver<bool>) -> io::Result<()> {
+        while !*stop.borrow() && !self.broken {
+            self.gather();
+            if self.waiting.is_empty() && self.exports.is_empty() && self.turns.is_empty() {
+                tokio::select! {
+                    biased;
+                    changed = stop.changed() => if changed.is_err() { return Ok(()) },
+                    message = self.queue.recv() => match message {
+                        Some(message) => self.take(message),
+                        None => return Ok(()),
+                    },
+                    () = self.program.wait() => return Err(io::ErrorKind::UnexpectedEof.into()),
+                }
+                continue;
+            }
+            let jobs = self.next_round();
+            if !jobs.is_empty() {
+                self.round(jobs).await?;
+            }
+            if let Some(wanted) = self.exports.pop_front() {
+                export::export(self, wanted).await?;
+            }
+            if let Some(turn) = self.turns.pop_front() {
+                turn.take(self).await?;
+            }
+        }
+        Ok(())
+    }
+
+    fn take(&mut self, message: Message) {
+        match message {
+            Message::Job(job) => self.waiting.push_back(job),
+            Message::Export(wanted) => self.exports.push_back(wanted),
+            Message::Grow(wanted) => self.growths.begin(wanted, self.history.clone()),
+            Message::Turn(turn) => self.turns.push_back(turn),
+        }
+    }
+
+    /// Takes what has arrived, as much as a round may have.
+    pub(super) fn gather(&mut self) {
+        while self.waiting.len() < ROUND_LINES {
+            match self.queue.try_recv() {
+                Ok(message) => self.take(message),
+                Err(_) => return,
+            }
+        }
+    }
+
+    fn next_round(&mut self) -> Vec<Job> {
+        let (mut lines, mut size, mut jobs) = (0, 0, Vec::new());
+        while lines < ROUND_LINES && size < ROUND_BYTES {
+            let job = match self.waiting.pop_front() {
+                Some(job) => job,
+                None => break,
+            };
+            lines += job.lines.count();
+            size += job.lines.size();
+            jobs.push(job);
+        }
+        jobs
+    }
+
+    pub(super) async fn round(&mut self, jobs: Vec<Job>) -> io::Result<()> {
+        let mut round: Vec<Option<Pending>> =
+            jobs.into_iter().map(|job| Some(Pending { job, replies: Vec::new(), asked: 0 })).collect();
+        let done = self.parts(&mut round).await;
+        if done.is_err() {
+            // The program ended: what it had answered goes out.
+            round.into_iter().flatten().filter(|pending| !pending.replies.is_empty()).for_each(send);
+        }
+        crate::say::try_again();
+        done
+    }
+
+    async fn parts(&mut self, round: &mut [Option<Pending>]) -> io::Result<()> {
+        self.changes(round).await?;
+        self.questions(round).await?;
+        for pending in round.iter_mut() {
+            let mut pending = match pending.take() {
+                Some(pending) => pending,
+                None => continue,
+            };
+            let all = if pending.is_full() { Vec::new() } else { std::mem::take(&mut pending.job.lines.snapshots) };
+            for line in all {
+                let reply = self.snapshot(&line).await?;
+                pending.replies.extend_from_slice(&reply);
+            }
+            send(pending);
+        }
+        Ok(())
+    }
+
+    /// Checks that this is the number of the last of this many changes after those of the history.
+    pub(super) fn check_number(&self, number: u64, count: usize) -> io::Result<()> {
+        let last = self.history.last();
+        if number == last + count as u64 {
+            return Ok(());
+        }
+        let told = format!("the program answered {number} for change {count} after {last}");
+        Err(io::Error::new(io::ErrorKind::InvalidData, told))
+    }
+
+    pub(super) async fn take_status(&mut self, reply: Option<Bytes>) -> io::Result<()> {
+        let mut status = reply.as_deref().and_then(Status::of);
+        for _ in 0..TRIES {
+            if status.is_some() {
+                break;
+            }
+            status = Status::of(&self.exchange(STATUS, 1).await?[0]);
+        }
+        let told = format!("the program refused {TRIES} times to tell its status");
+        self.status = status.ok_or_else(|| io::Error::new(io::ErrorKind::InvalidData, told))?;
+        Ok(())
+    }
+
+    /// The replies to lines; it is noted if one says that the device failed.
+    pub(super) async fn exchange(&mut self, lines: &[u8], count: usize) -> io::Result<Vec<Bytes>> {
+        let replies = self.program.pipes.exchange(lines, count).await?;
+        self.broken |= replies.iter().any(|reply| is_failure(reply));
+        Ok(replies)
+    }
+
+    /// The reply to a line that makes a snapshot, or a step of one.
+    pub(super) async fn snapshot(&mut self, line: &[u8]) -> io::Result<Bytes> {
+        let mut replies = self.exchange(&[line, STATUS].concat(), 2).await?;
+        let status = replies.pop();
+        let reply = replies.pop().unwrap_or_default();
+        self.copying = memchr::memmem::find(&reply, b"\"copy\":\"running\"").is_some();
+        self.take_status(status).await?;
+        self.check_number(self.status.seq, 0)?;
+        self.recorder.record(&self.history, &[], &self.status);
+        Ok(reply)
+    }
+
+    /// Notes, for a server after a kill, that another file is about to take the place of the store's.
+    pub(super) fn announce(&mut self, path: &Path, inode: u64, status: &Status) {
+        self.recorder.announce(path, inode, status);
+    }
+
+    /// Goes on with the program of another file, which has taken the place of the store's; the program of the other.
+    pub(super) fn go_on(&mut self, program: Program, inode: u64, status: Status) -> Program {
+        (self.status, self.tried, self.copying) = (status, None, false);
+        self.recorder.go_on(&self.history, inode, &status);
+        std::mem::replace(&mut self.program, program)
+    }
+}

@@ -1,0 +1,81 @@
+//! The answer to `export`: all documents of one moment.
+
+use super::engine::Engine;
+use super::spool::Spool;
+use crate::lines::replies::{self, names_in, rev_in, text_in, Status, OK};
+use crate::lines::{LIST, STATUS};
+use crate::say;
+use bytes::Bytes;
+use std::io;
+use tokio::sync::oneshot;
+
+/// How many documents are asked for at once.
+const TOGETHER: usize = 16;
+
+/// An export that somebody waits for.
+pub struct Wanted {
+    /// Only documents are wanted whose names begin so.
+    pub prefix: String,
+    /// To whom it goes; an error if it can't be kept until then.
+    pub reply: oneshot::Sender<io::Result<Spool>>,
+}
+
+/// Reads the documents, while no change is made. Between pieces the questions of others are answered.
+pub async fn export(engine: &mut Engine, wanted: Wanted) -> io::Result<()> {
+    let mut spool = Spool::default();
+    let kept = read(engine, &wanted.prefix, &mut spool).await?;
+    let done = kept.and_then(|()| spool.rewind());
+    if let Err(error) = &done {
+        say::complain(&format!("an export is broken off: {error}"));
+    }
+    // One who has gone away wants it no more.
+    let _ = wanted.reply.send(done.map(|()| spool));
+    Ok(())
+}
+
+/// Writes the answer: the outer error is that of the program, the inner one that of the file.
+async fn read(engine: &mut Engine, prefix: &str, spool: &mut Spool) -> io::Result<io::Result<()>> {
+    let told = engine.exchange(&[LIST, STATUS].concat(), 2).await?;
+    let (names, seq) = match (names_in(&told[0]), Status::of(&told[1])) {
+        (Some(names), Some(status)) => (names, status.seq),
+        (None, _) => return Ok(spool.write(&told[0])),
+        (_, None) => return Ok(spool.write(&told[1])),
+    };
+    let names: Vec<String> = names.into_iter().filter(|name| name.starts_with(prefix)).collect();
+    let mut written = spool.write(format!("{{\"documents\":{},\"ok\":true,\"seq\":{seq}}}\n", names.len()).as_bytes());
+    for some in names.chunks(TOGETHER) {
+        let lines: String =
+            some.iter().map(|name| replies::get(name, "") + &replies::get_schema(name) + &replies::rev(name)).collect();
+        let told = engine.exchange(lines.as_bytes(), 3 * some.len()).await?;
+        if let Some(refused) = told.iter().find(|reply| !reply.starts_with(OK)) {
+            // Such as out of memory. It is the only answer.
+            *spool = Spool::default();
+            return Ok(spool.write(refused));
+        }
+        for (name, replies) in some.iter().zip(told.chunks(3)) {
+            written = written.and_then(|()| spool.write(&line_of(name, replies)));
+        }
+        if written.is_err() {
+            return Ok(written);
+        }
+        engine.answer_questions().await?;
+    }
+    Ok(written.and_then(|()| spool.write(format!("{{\"end\":true,\"ok\":true,\"seq\":{seq}}}\n").as_bytes())))
+}
+
+fn line_of(name: &str, replies: &[Bytes]) -> Vec<u8> {
+    let (doc, schema) = (text_in(&replies[0]).unwrap_or(b"null"), text_in(&replies[1]).unwrap_or(b"true"));
+    let rev = rev_in(&replies[2]).unwrap_or(0).to_string();
+    let parts: [&[u8]; 9] = [
+        b"{\"doc\":",
+        doc,
+        b",\"name\":\"",
+        name.as_bytes(),
+        b"\",\"rev\":",
+        rev.as_bytes(),
+        b",\"schema\":",
+        schema,
+        b"}\n",
+    ];
+    parts.concat()
+}

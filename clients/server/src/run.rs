@@ -1,0 +1,221 @@
+//! The server from its start to its end.
+
+use crate::doors::places;
+use crate::ending::{ending, End, Ending};
+use crate::error::Error;
+use crate::history::file;
+use crate::http::guard::{token_in, Guard};
+use crate::http::reasons::Reasons;
+use crate::http::{self, App};
+use crate::hub::{self, listening};
+use crate::options::Options;
+use crate::other::Other;
+use crate::program::cache::Cache;
+use crate::program::engine::Engine;
+use crate::program::room::Room;
+use crate::program::{self, Handle};
+use crate::say;
+use crate::store::{Store, Which};
+use std::os::unix::fs::FileTypeExt;
+use std::sync::Arc;
+use std::time::Duration;
+use tokio::net::TcpListener;
+use tokio::runtime::{Builder, Handle as Workers, Runtime};
+use tokio::signal::unix::{signal, SignalKind};
+use tokio::sync::watch;
+use tokio::task::JoinHandle;
+use tokio::time::timeout;
+
+/// How long clients have at the end, and the program.
+const FAREWELL: Duration = Duration::from_secs(4);
+const LAST_ROUND: Duration = Duration::from_secs(2);
+
+/// The most bytes of answers over HTTP that are in memory at once.
+const ANSWERS: usize = 1 << 28;
+
+/// Serves until a signal comes, or until the program ends.
+pub fn run(options: Options) -> Result<(), Error> {
+    // SAFETY: a signal is set to be ignored before there is another thread. A file may then not grow over its limit, which
+    // is an error of the write.
+    unsafe { libc::signal(libc::SIGXFSZ, libc::SIG_IGN) };
+    let workers = runtime(Builder::new_multi_thread().thread_name("jpstored"))?;
+    // The program is of this thread, and its replies wait for no other task.
+    let own = runtime(&mut Builder::new_current_thread())?;
+    let done = own.block_on(serve(options, workers.handle().clone()));
+    workers.shutdown_background();
+    own.shutdown_background();
+    done
+}
+
+fn runtime(builder: &mut Builder) -> Result<Runtime, Error> {
+    builder.enable_all().build().map_err(|error| Error::new(format!("the server cannot begin: {error}")))
+}
+
+/// What serves over HTTP, before there is a store.
+struct Web {
+    listener: TcpListener,
+    guard: Guard,
+}
+
+async fn serve(options: Options, workers: Workers) -> Result<(), Error> {
+    let signals = signals()?;
+    let is_other = std::fs::metadata(&options.store).map_or(false, |found| found.file_type().is_socket());
+    let web = web(&options, &workers)?;
+    if is_other {
+        return serve_other(&options, &workers, web, signals).await;
+    }
+    if let Some(path) = &options.socket {
+        // Before the store is opened, which may take a while.
+        listening::check_free(path)?;
+    }
+    let path = program::find(options.program.as_deref())?;
+    let program = program::start(&path, &options.store, options.wait).await?;
+    program::remove_leftovers(&options.store);
+    let (history, recorder) = match file::open(&options.store) {
+        Ok(opened) => opened,
+        Err(error) => {
+            program.ended().await;
+            return Err(error);
+        }
+    };
+    let (engine, store) = Engine::begin(program, history, recorder, Cache::new(options.cache), options.pump).await?;
+    let (end, ending) = ending();
+    // Both doors are open before either is announced.
+    let _listening = welcome(&options, &workers, store.clone(), ending.clone())?;
+    let app = web.map(|web| welcome_web(&options, &workers, web, Which::Own(store), &ending));
+    drop(ending);
+    if let Some(path) = &options.socket {
+        say::announce(&format!("{} is served at {}", options.store.display(), path.display()));
+    }
+    say::notify("READY=1");
+    until_the_end(engine, end, signals, app).await
+}
+
+/// Serves the store of another server over HTTP.
+async fn serve_other(
+    options: &Options,
+    workers: &Workers,
+    web: Option<Web>,
+    mut signals: watch::Receiver<bool>,
+) -> Result<(), Error> {
+    let web = web.filter(|_| options.socket.is_none()).ok_or_else(|| {
+        Error::new(format!(
+            "{} is the socket of a hub already: a further socket is made for a file only",
+            options.store.display()
+        ))
+    })?;
+    let (mut end, ending) = ending();
+    let app = welcome_web(options, workers, web, Which::Other(Arc::new(Other::at(&options.store))), &ending);
+    drop(ending);
+    say::notify("READY=1");
+    // Only a signal ends it.
+    let _ = signals.changed().await;
+    say::notify("STOPPING=1");
+    end.begin();
+    app.reasons.end().await;
+    end.all_done(FAREWELL).await;
+    Ok(())
+}
+
+fn web(options: &Options, workers: &Workers) -> Result<Option<Web>, Error> {
+    let token = options.token_file.as_deref().map(token_in).transpose()?;
+    let listen = match &options.listen {
+        Some(listen) => listen,
+        None => return Ok(None),
+    };
+    let (host, port) = http::listening::place(listen)?;
+    let address = http::listening::address(&host, port, token.is_some())?;
+    let _entered = workers.enter();
+    let listener = http::listening::at(address)?;
+    Ok(Some(Web { listener, guard: Guard::new(token, options.origins.clone(), &host) }))
+}
+
+/// How many doors there are for clients.
+fn doors(options: &Options) -> usize {
+    usize::from(options.listen.is_some()) + usize::from(options.socket.is_some())
+}
+
+fn welcome_web(options: &Options, workers: &Workers, web: Web, which: Which, ending: &Ending) -> Arc<App> {
+    let store = Store { which, answers: Room::new(ANSWERS) };
+    let reasons = Reasons::new(&options.python, Workers::current(), ending.clone());
+    let app = Arc::new(App::new(store, web.guard, reasons, options.patience));
+    let told = web.listener.local_addr().map_or_else(|_| String::new(), |address| format!("http://{address}/"));
+    workers.spawn(http::serve(web.listener, app.clone(), places(doors(options)), ending.clone()));
+    say::announce(&format!("{} is served at {told}", options.store.display()));
+    app
+}
+
+fn welcome(
+    options: &Options,
+    workers: &Workers,
+    store: Handle,
+    ending: Ending,
+) -> Result<Option<listening::Listening>, Error> {
+    let _entered = workers.enter();
+    let path = match &options.socket {
+        Some(path) => path,
+        None => return Ok(None),
+    };
+    let (listening, listener) = listening::Listening::at(path)?;
+    let listener = tokio::net::UnixListener::from_std(listener).map_err(|error| Error::of_path(path, error))?;
+    workers.spawn(hub::serve(listener, store, places(doors(options)), ending));
+    Ok(Some(listening))
+}
+
+/// Whether a signal has come that ends the server.
+fn signals() -> Result<watch::Receiver<bool>, Error> {
+    let told = |error| Error::new(format!("no signals can be taken: {error}"));
+    let mut interrupt = signal(SignalKind::interrupt()).map_err(told)?;
+    let mut terminate = signal(SignalKind::terminate()).map_err(told)?;
+    let (come, has_come) = watch::channel(false);
+    tokio::spawn(async move {
+        tokio::select! {
+            _ = interrupt.recv() => (),
+            _ = terminate.recv() => (),
+        }
+        come.send_replace(true);
+        // The others wait for a change, and not for the end of this task.
+        std::future::pending::<()>().await;
+    });
+    Ok(has_come)
+}
+
+/// Lets the engine work until it or a signal ends the server, and then ends all else.
+async fn until_the_end(
+    engine: Engine,
+    mut end: End,
+    mut signals: watch::Receiver<bool>,
+    app: Option<Arc<App>>,
+) -> Result<(), Error> {
+    let (stop, stopped) = watch::channel(false);
+    let mut engine = tokio::spawn(engine.run(stopped));
+    let ended = tokio::select! {
+        ended = &mut engine => Some(ended),
+        _ = signals.changed() => None,
+    };
+    say::notify("STOPPING=1");
+    end.begin();
+    if let Some(app) = &app {
+        app.reasons.end().await;
+    }
+    end.all_done(FAREWELL).await;
+    let ended = match ended {
+        Some(ended) => ended,
+        None => {
+            stop.send_replace(true);
+            match timeout(LAST_ROUND, &mut engine).await {
+                Ok(ended) => ended,
+                Err(_) => return Err(hanging(engine).await),
+            }
+        }
+    };
+    ended.unwrap_or_else(|error| Err(Error::new(format!("the server failed: {error}"))))
+}
+
+/// Kills a program that doesn't end, which loses nothing that was answered.
+async fn hanging(engine: JoinHandle<Result<(), Error>>) -> Error {
+    engine.abort();
+    // The program is killed when the engine is dropped.
+    let _ = engine.await;
+    Error::new("the program does not answer, and was killed")
+}
