@@ -58,7 +58,7 @@ class Failed(Exception):
     """What isn't as it must be."""
 
 
-def run(words, given=None, seconds=120, **more):
+def run(words, given=None, seconds=600, **more):
     """The standard output of a command that ends well."""
     try:
         done = subprocess.run(words, input=given, stdout=subprocess.PIPE, stderr=subprocess.STDOUT, timeout=seconds, **more)
@@ -384,7 +384,7 @@ class Embedded:
     def cargo(self, crate, target, cargo, command, more, env):
         """What a command of cargo says."""
         words = [cargo, command, "-q", "--offline", "--target-dir", os.path.join(self.folder, target)]
-        return run([*words, "--manifest-path", os.path.join(crate, "Cargo.toml"), *more], seconds=600,
+        return run([*words, "--manifest-path", os.path.join(crate, "Cargo.toml"), *more], seconds=1800,
                    env={**os.environ, "JPSTORE_LIB": self.library, **env}).decode()
 
     def python_folder(self):
@@ -431,7 +431,7 @@ class Embedded:
                 'jpstore = { path = "%s" }\n' % RUST_CLIENT)
         target = os.path.join(self.folder, "target")
         run(["cargo", "build", "-q", "--offline", "--target-dir", target], cwd=folder, env={**os.environ, "JPSTORE_LIB": self.library},
-            seconds=600)
+            seconds=1800)
         return [os.path.join(target, "debug", "page")], {}
 
     def program_in_python(self, folder, source):

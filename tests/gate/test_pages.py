@@ -16,7 +16,7 @@ import subprocess
 import sys
 import tempfile
 
-from test_clients import python_with_tools
+from test_clients import python_with_tools, use_server
 
 ROOT = pathlib.Path(__file__).resolve().parents[2]
 README = ROOT / "README.md"
@@ -32,7 +32,7 @@ def sessions(text):
 
 
 class Place:
-    """A folder of a test's own, with the program on PATH."""
+    """A folder of a test's own, with the program and the server on PATH."""
 
     def __init__(self, program, folder):
         self.folder = pathlib.Path(folder) / "place"
@@ -40,6 +40,7 @@ class Place:
         self.folder.mkdir()
         programs.mkdir()
         (programs / "jpstore").symlink_to(os.path.abspath(program))
+        (programs / "jpstored").symlink_to(os.environ["JPSTORE_SERVER"])
         path = os.pathsep.join([str(programs), os.path.dirname(python_with_tools() or sys.executable), os.environ["PATH"]])
         self.environment = {**os.environ, "LC_ALL": "C", "PATH": path, "PYTHONPATH": str(ROOT / "clients" / "python")}
 
@@ -134,6 +135,9 @@ def the_manual_page_and_the_completions_have_each_command_and_option(place):
             assert re.search(rf"\b{command}\b", text), (name, command)
             for option in options:
                 assert re.search(shape.format(option), text), (name, command, option)
+        # And none that the program doesn't have.
+        known = {"help", "version"}.union(*told.values())
+        assert set(re.findall(shape.replace("{}", r"([a-z]+)"), text)) <= known, name
 
 
 TESTS = [
@@ -150,6 +154,7 @@ def main():
     if len(sys.argv) != 2:
         print(__doc__, file=sys.stderr)
         return 2
+    use_server()
     failed = 0
     for test in TESTS:
         with tempfile.TemporaryDirectory(prefix="jpstore-") as folder:

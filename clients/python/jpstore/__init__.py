@@ -30,15 +30,13 @@ from .wire.program import check_file, copy_file, format_file, upgrade_file
 
 if TYPE_CHECKING:
     from .aio.client import AsyncStore
-    from .hub.server import run_hub
 
 __all__ = [
     "AccessError", "Adapted", "AsyncStore", "Broken", "Change", "Conflict", "Document", "Ended", "Fault", "Full",
     "Gone", "Invalid", "JpstoreError", "JpstoreWarning", "Latest", "LoadStopped", "Malformed", "Moment", "NoMemory",
     "Node", "NotFound", "Outdated", "Pumped", "REFUSALS", "Refusal", "Refused", "Scaled", "Schema", "Status", "Store",
     "TimedOut", "TooLarge", "Unsendable", "Watch", "__version__", "check_file", "copy_file", "create", "delete", "dump",
-    "explain", "format_file", "grow", "grow_file", "load", "patch", "run_hub", "set_schema", "transaction",
-    "upgrade_file",
+    "explain", "format_file", "grow", "grow_file", "load", "patch", "set_schema", "transaction", "upgrade_file",
 ]
 
 
@@ -47,7 +45,4 @@ def __getattr__(name: str) -> Any:
     if name == "AsyncStore":
         from .aio.client import AsyncStore
         return AsyncStore
-    if name == "run_hub":
-        from .hub.server import run_hub
-        return run_hub
     raise AttributeError(f"module {__name__!r} has no attribute {name!r}")

@@ -4,13 +4,15 @@ The steps of a `Store` are done when they return, so its coroutines never wait, 
 """
 from typing import Any, Callable, Dict, List, Optional, Protocol, Sequence, TypeVar
 
-from .errors import Conflict, Ended, Invalid, JpstoreError, NotFound, Outdated
+from .errors import Conflict, Ended, Invalid, JpstoreError, NotFound, Outdated, Refused
+from .faults.words import shown
 from .merge import operations_of_merge
 from .once import Once
 from .results import Node
 from .wire import requests
 from .wire.commands import Command
 from .wire.requests import Outcome, Request
+from .wire.session import Trying
 
 __all__ = [
     "ATTEMPTS", "NO_ATTEMPT", "Steps", "group_lines", "judged", "leave", "merge_patch", "once", "put",
@@ -32,6 +34,10 @@ class Steps(Protocol):
     @property
     def closed(self) -> bool:
         """Whether the session is over."""
+
+    @property
+    def wait(self) -> float:
+        """How long it is tried again after a connection was lost, in seconds."""
 
     async def ask(self, request: Request[T]) -> T:
         """Sends a request, and reads its replies."""
@@ -64,12 +70,19 @@ async def update(steps: Steps, name: str, change: Callable[[Any], List[Command]]
     for left in range(attempts - 1, -1, -1):
         rev, value = await steps.ask(requests.rev_and_doc(name))
         try:
-            return await steps.ask(requests.change(requests.patch(name, change(value), rev)))
+            return await steps.ask(requests.change(requests.patch(name, _operations(change(value)), rev)))
         except Outdated:
             if not left:
                 raise
         await steps.pause(pause)
     raise JpstoreError(NO_ATTEMPT)
+
+
+def _operations(returned: Any) -> List[Command]:
+    if not isinstance(returned, (list, tuple)):
+        raise JpstoreError("what `update` is given returns a list of the operations of a JSON Patch for the value, and "
+                           f"this is {shown(returned)}")
+    return list(returned)
 
 
 async def merge_patch(steps: Steps, name: str, patch: Any, if_rev: Optional[int], attempts: int, pause: float) -> int:
@@ -100,12 +113,15 @@ async def put(steps: Steps, replacing: Request[int], making: Optional[Request[in
 
 async def once(steps: Steps, work: Once, attempts: int, pause: float) -> int:
     """As `Store.once`."""
-    for left in range(attempts - 1, -1, -1):
+    trying, left = Trying(steps.wait), attempts
+    while left > 0:
         try:
             return await _once(steps, work)
         except JpstoreError as error:
-            work.check_again(error, left > 0 and not steps.closed)
-        await steps.pause(pause)
+            overtaken = isinstance(error, Refused)
+            left -= overtaken
+            work.check_again(error, left > 0 and not steps.closed, trying)
+            await steps.pause(pause if overtaken else trying.pause)
     raise JpstoreError(NO_ATTEMPT)
 
 

@@ -71,9 +71,9 @@ class Store:
 
         `wait` is how long it tries until a hub is there, in seconds. `timeout` is the longest time without a byte
         of the hub. If the connection is lost, the next call connects again, and waits as at first. A question whose
-        reply was lost is asked once more. A change is never sent twice, except by `once`: if its reply is lost,
-        `Ended` is raised, and its `change` is the one that may or may not be stored. With `reconnect=False` a lost
-        connection is the end of the session.
+        reply was lost is asked again: once, and more often for `wait` seconds. A change is never sent twice, except by
+        `once`: if its reply is lost, `Ended` is raised, and its `change` is the one that may or may not be stored. With
+        `reconnect=False` a lost connection is the end of the session.
         """
         return cls(path, hub=True, timeout=timeout, wait=wait, reconnect=reconnect)
 
@@ -183,9 +183,14 @@ class Store:
         The key is a text that the caller chooses for this one piece of work, such as `"order-1234"`. It is noted in the
         document `notes` together with the changes. A call with a key that is noted changes nothing, and returns the
         number that the first one returned. So a call whose answer was lost may be made again, from another process too.
-        Over a hub that comes back this is done here.
+        Over a hub that comes back this is done here, for the `wait` seconds of the store.
 
-        Let each client have a document of its own; it is made when it is needed. It has the newest `keep` notes.
+        Let each client have a document of its own; it is made when it is needed. It has the newest `keep` notes: a key
+        that `keep` others followed is forgotten, and its changes would be made again. A job that restarts from its
+        beginning needs `keep` over its length.
+
+        `attempts` is how often it is tried if others change the same notes meanwhile, and `pause` how long it waits
+        between.
         """
         return finished(calls.once(_Steps(self), Once(key, list(changes), notes, keep), attempts, pause))
 
@@ -287,8 +292,9 @@ class Store:
     def follow(self, name: str, path: str = "") -> Values:
         """A document of a hub's store, or the value at a place of it, at once and again after changes of it.
 
-        It yields None if there is no such document or place. Several changes may come as one. It waits for the next
-        change, and goes on after the hub was ended or killed and started anew, or serves another history of the store.
+        It yields None if there is no such document or place, and with a `path` also if the value there is the same.
+        Several changes may come as one: `watch` has each. It waits for the next change, and goes on after the hub was
+        ended or killed and started anew, or serves another history of the store, whose revisions count anew.
         """
         if self.hub is None:
             raise JpstoreError(UNWATCHED)
@@ -330,6 +336,10 @@ class _Steps:
     @property
     def closed(self) -> bool:
         return self._store.closed
+
+    @property
+    def wait(self) -> float:
+        return self._store._session.wait
 
     async def ask(self, request: Request[T]) -> T:
         return self._store._do(request)

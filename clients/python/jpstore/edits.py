@@ -1,10 +1,15 @@
 """Small edits of one place of a document, as the shell and the command line offer them."""
+import contextlib
 from typing import Any, Optional
 
 from .client import ATTEMPTS, Store
-from .errors import NotFound, Outdated
+from .errors import Conflict, JpstoreError, NotFound, Outdated, Refused
+from .faults.words import shown
 
-__all__ = ["put", "remove"]
+__all__ = ["patched", "put", "remove"]
+
+# A `test` found another value.
+_TEST = 34
 
 
 def put(store: Store, name: str, pointer: str, value: Any) -> int:
@@ -14,8 +19,13 @@ def put(store: Store, name: str, pointer: str, value: Any) -> int:
     meanwhile, this is done again.
     """
     for left in range(ATTEMPTS - 1, -1, -1):
-        rev = store.rev(name)
-        operation = "replace" if _exists(store, name, pointer) else "add"
+        try:
+            rev = store.rev(name)
+            operation = "replace" if _exists(store, name, pointer) else "add"
+        except Refused as refused:
+            # What was asked for is no question.
+            refused.command = {**refused.command, "cmd": "set"}
+            raise
         try:
             return store.patch(name, [{"op": operation, "path": pointer, "value": value}], rev)
         except Outdated:
@@ -33,6 +43,19 @@ def remove(store: Store, name: str, pointer: Optional[str] = None, if_rev: Optio
     if pointer is None:
         return store.delete(name, if_rev)
     return store.patch(name, [{"op": "remove", "path": pointer}], if_rev)
+
+
+def patched(store: Store, name: str, operations: Any, if_rev: Optional[int] = None) -> int:
+    """As `Store.patch`; if a `test` fails, the refusal also says what the document has there."""
+    try:
+        return store.patch(name, operations, if_rev)
+    except Conflict as refused:
+        with contextlib.suppress(JpstoreError, LookupError, TypeError):
+            path = operations[refused.op]["path"]
+            if refused.number == _TEST:
+                found = shown(store.get(name, path)) if _exists(store, name, path) else "no value"
+                refused.detail += f"; the document has {found} there"
+        raise
 
 
 def _exists(store: Store, name: str, pointer: str) -> bool:

@@ -51,10 +51,11 @@ def _error(file: Optional[str], fault: Any) -> Ended:
     """How the program would have ended, and the system's reason."""
     number, refusal, system_error = fault.args[:3]
     status = _STATUS_OF_WORDS if number == _embedded.ARGUMENTS else _STATUS
-    what = f"the store in {file or 'memory'}: {_embedded.fault_text(number)}"
-    ended = Ended(what, status, _complaint(number, refusal))
+    complaint = _complaint(number, refusal)
+    what = "libjpstore" if complaint else f"the store in {file or 'memory'}: {_embedded.fault_text(number)}"
+    ended = Ended(what, status, complaint, file=file or "the store in memory")
     if system_error:
-        ended.system_error, ended.cause = system_error, os.strerror(system_error)
+        ended.system_error, ended.cause = system_error, f"{ended.file}: {os.strerror(system_error)}"
     return ended
 
 

@@ -1,5 +1,6 @@
 """Errors: a refusal by its family, the end of the program, a value that cannot be sent."""
 import contextlib
+import errno
 import json
 import os
 import re
@@ -8,7 +9,8 @@ from typing import (
     TYPE_CHECKING, Any, Callable, Dict, Iterator, List, Mapping, NamedTuple, Optional, Sequence, Tuple, Type, Union,
 )
 
-from .refusals import ADVICE, COMPLAINTS, REFUSALS
+from .called import as_called
+from .refusals import ADVICE, COMPLAINTS, REFUSALS, advice_for
 
 if TYPE_CHECKING:
     from .explain import Fault
@@ -50,7 +52,7 @@ def accessing(path: Union[str, "os.PathLike[str]"], advice: Mapping[int, str] = 
     except OSError as error:
         named = error.filename or os.fspath(path)
         told = AccessError(error.errno or 0, error.strerror or str(error), named)
-        told.advice = advice.get(told.errno or 0, "")
+        told.advice = as_called(advice.get(told.errno or 0, ""))
         raise told from error
 
 
@@ -59,7 +61,7 @@ class Unsendable(JpstoreError, ValueError):
 
 
 # The refusals that say less than the place of the fault does.
-_TOLD_BY_DETAIL = (14, 40, 41, 42, 43, 50, 51)
+_TOLD_BY_DETAIL = (14, 30, 31, 32, 33, 34, 37, 38, 40, 41, 42, 43, 50, 51)
 
 
 class Refused(JpstoreError):
@@ -84,7 +86,7 @@ class Refused(JpstoreError):
         row = REFUSALS.get(number)
         #: What the refusal means, and what to do about it.
         self.meaning = row.meaning if row else ""
-        self.advice = row.advice if row else ""
+        self.advice = as_called(advice_for(number, self.command, op) or (row.advice if row else ""))
         super().__init__(number, name, op, rev, command, change, self.before)
 
     @property
@@ -92,7 +94,7 @@ class Refused(JpstoreError):
         """The place of the fault in the line, the schema or the query, and what is wrong there, if it is found."""
         if self._detail is None:
             from .faults import detail_of
-            self._detail = detail_of(self.number, self.command) if self.command else ""
+            self._detail = detail_of(self.number, self.command, self.op) if self.command else ""
         return self._detail
 
     @detail.setter
@@ -248,7 +250,10 @@ class Ended(JpstoreError):
     If `change` is set, this change was sent and not answered: it may or may not be stored, but never in part.
     """
 
-    def __init__(self, what: str, status: Optional[int] = None, errors: str = "", replies: Sequence[Any] = ()) -> None:
+    def __init__(self, what: str, status: Optional[int] = None, errors: str = "", replies: Sequence[Any] = (),
+                 file: str = "") -> None:
+        #: The file that the program was given, if it is known.
+        self.file = file
         #: The exit status, or minus the signal that ended the program; None if a hub closed the connection.
         self.status = status
         #: What the program wrote to standard error.
@@ -268,9 +273,10 @@ class Ended(JpstoreError):
 
     def _explained(self) -> _Explained:
         if self.name in COMPLAINTS:
-            return _Explained(COMPLAINTS[self.name], ADVICE.get(self._cause_word or self.name, ""))
+            advice = ADVICE.get("socket" if self.system_error == errno.ENXIO else self._cause_word or self.name, "")
+            return _Explained(COMPLAINTS[self.name], as_called(advice))
         row = REFUSALS.get(self.number or 0)
-        return _Explained(row.meaning, row.advice) if row else _Explained("", "")
+        return _Explained(row.meaning, as_called(row.advice)) if row else _Explained("", "")
 
     @property
     def document(self) -> Optional[str]:
@@ -283,8 +289,13 @@ class Ended(JpstoreError):
         if self.status is not None:
             how = f"by signal {-self.status}" if self.status < 0 else f"with status {self.status}"
             what = f"{what} ended {how}"
-        said = _REASON.sub("", self.errors) if self.cause else self.errors
-        parts = [what, said.strip(), self.cause or self.meaning]
+        said = (_REASON.sub("", self.errors) if self.cause else self.errors).strip()
+        parts = [what, said, self.cause or self.meaning]
+        if self.file and self.meaning and said.startswith("jpstore: ") and "\n" not in said:
+            # The file and what is the matter with it come first: how the program was called is of less use.
+            known = " is in use" if self.name == "in-use" else said[len("jpstore"):]
+            matter = self.cause or f"{self.file}{known}: {self.meaning.replace('FILE', 'it')}"
+            parts = [f"{matter} ({what})"]
         if self.change is not None:
             parts.append(f"`{told_command(self.change)}` may or may not be stored")
         return ": ".join(part for part in parts if part)

@@ -1,4 +1,4 @@
-"""The larger file of a store that is served: how it is made, and how it takes the other's name.
+"""The larger file of a store: how it is made, and how it takes the other's name.
 
 It is made in a folder beside the store's file, and gets the name of that by a renaming, when it has all its changes. So
 at each moment the name leads to a file with every change that was answered.
@@ -16,15 +16,11 @@ from .wire.program import ended_program, find_program
 from .wire.rights import create_private
 from .wire.store_file import SECTOR, Committed, committed_in
 
-__all__ = ["Larger", "Unsettled", "remove_leftovers"]
+__all__ = ["Larger"]
 
 # The folder is called as the store's file, with this and what makes the name its own.
 _FOLDER, _OWN = ".growing-", re.compile("[a-z0-9_]{8}")
 _NAMES = ("from", "to")
-
-
-class Unsettled(JpstoreError):
-    """The larger file has the name, and the disk refused to keep that: no further change may be answered."""
 
 
 class Larger:
@@ -34,14 +30,12 @@ class Larger:
         # A renaming would replace a symbolic link, and not what it leads to.
         self._file, self._sectors = os.path.realpath(file), sectors
         self._program = find_program(program)
-        self._running: Optional["subprocess.Popen[bytes]"] = None
-        self._stopped = False
         self._format = 0
         with accessing(self._file):
             self._old = open(self._file, "r+b")
         try:
             self._check()
-            remove_leftovers(self._file)
+            _remove_leftovers(self._file)
             with accessing(self._file):
                 self._folder = tempfile.mkdtemp(prefix=os.path.basename(self._file) + _FOLDER,
                                                 dir=os.path.dirname(self._file))
@@ -51,11 +45,6 @@ class Larger:
         #: The larger file, until it has the other's name.
         self.path = os.path.join(self._folder, "to")
         self._base = os.path.join(self._folder, "from")
-
-    @property
-    def inode(self) -> int:
-        """The larger file, as the system numbers it."""
-        return os.stat(self.path).st_ino
 
     def take(self) -> int:
         """Copies what the store has now, while nobody writes it; returns the number of its last change."""
@@ -79,13 +68,6 @@ class Larger:
             self._run("upgrade", self.path, "--format", str(self._format))
         os.unlink(self._base)
 
-    def stop(self) -> None:
-        """Breaks off what a program does here."""
-        self._stopped = True
-        running = self._running
-        if running is not None:
-            running.kill()
-
     def replace(self) -> None:
         """Gives the larger file the name of the other, which is no store any more then.
 
@@ -99,7 +81,7 @@ class Larger:
         try:
             _sync_folder(os.path.dirname(self._file))
         except OSError as error:
-            raise Unsettled(f"the folder of {self._file} can't be synced: {error.strerror}") from None
+            raise JpstoreError(f"the folder of {self._file} can't be synced: {error.strerror}") from None
         with contextlib.suppress(OSError):
             self._old.seek(0)
             self._old.write(bytes(SECTOR))
@@ -131,18 +113,14 @@ class Larger:
     def _run(self, *words: str) -> None:
         line = [self._program, *words, "--why"]
         with accessing(self._program):
-            self._running = subprocess.Popen(line, stdin=subprocess.DEVNULL, stdout=subprocess.DEVNULL,
-                                             stderr=subprocess.PIPE, start_new_session=True)
-        if self._stopped:
-            self._running.kill()
-        errors = self._running.communicate()[1]
-        if self._running.returncode:
-            raise ended_program(line, self._running.returncode, errors)
+            ended = subprocess.run(line, stdin=subprocess.DEVNULL, stdout=subprocess.DEVNULL, stderr=subprocess.PIPE,
+                                   start_new_session=True, check=False)
+        if ended.returncode:
+            raise ended_program(line, ended.returncode, ended.stderr)
 
 
-def remove_leftovers(file: str) -> None:
+def _remove_leftovers(file: str) -> None:
     """Removes what a killed growth of this store left. Nobody else may grow it now, since somebody serves it here."""
-    file = os.path.realpath(file)
     folder, name = os.path.split(file)
     with contextlib.suppress(OSError):
         for each in os.listdir(folder):

@@ -1,4 +1,5 @@
 """Warnings of what the store accepts in silence, although it may not be what was meant."""
+import difflib
 import itertools
 import warnings
 from typing import Any, Dict, Iterator, List, Optional, Set, Tuple
@@ -28,7 +29,21 @@ _KEYWORDS = _OF_SCHEMA | _OF_SCHEMAS | _OF_NAMED_SCHEMAS | {
 # Keywords of earlier drafts that the store ignores, each with the one of 2020-12 that says the same.
 _EARLIER = {
     "$recursiveRef": "$ref", "additionalItems": "prefixItems` and `items", "dependencies": "dependentRequired",
+    "disallow": "not", "divisibleBy": "multipleOf", "extends": "allOf", "id": "$id",
 }
+
+# What a keyword is called elsewhere.
+_ELSEWHERE = {
+    "choices": "enum", "len": "minLength` and `maxLength", "length": "minLength` and `maxLength", "max": "maximum",
+    "maxlen": "maxLength", "min": "minimum", "minlen": "minLength", "nullable": "\"null\"` in a list of `type",
+    "optional": "required", "options": "enum", "unique": "uniqueItems", "values": "enum",
+}
+
+# A name that begins with it is one's own, by custom, and no misspelled keyword.
+_OWN = "x-"
+
+# From this share of common letters on a name is perhaps a keyword.
+_NEAR = 0.75
 
 # The most warnings of one schema and letters of a place, and the most words that are looked at: no schema that the
 # store accepts has more.
@@ -50,15 +65,18 @@ def notices_of_schema(schema: Any) -> List[str]:
 
 
 def _notice_of(place: _Place, word: Any) -> Optional[str]:
-    meant = None if word in _KEYWORDS else _meant_by(word)
-    if not meant and word != "format" and word not in _EARLIER:
+    if not isinstance(word, str) or word.startswith(_OWN):
+        return None
+    if word in _KEYWORDS and word not in _EARLIER and word != "format":
         return None
     where = f"schema {_pointer((place, word))}"
     if word == "format":
         return f"{where}: `format` is not checked, as JSON Schema has it; other keywords, as `maxLength`, are"
     if word in _EARLIER:
         return f"{where}: `{word}` is a keyword of earlier drafts, and is ignored: use `{_EARLIER[word]}`"
-    return f"{where}: `{word}` is not a keyword, and is ignored: perhaps `{meant}` is meant"
+    meant = _meant_by(word)
+    told = f"{where}: `{word[:_MOST_LETTERS]}` is not a keyword, and is ignored"
+    return f"{told}: perhaps `{meant}` is meant" if meant else told
 
 
 def _pointer(place: _Place) -> str:
@@ -88,13 +106,14 @@ def _subschemas(schema: Any) -> Iterator[Tuple[_Place, Any]]:
                 waiting.extend(((below, name), item) for name, item in value.items())
 
 
-def _meant_by(word: Any) -> Optional[str]:
-    """The first keyword that is one letter away from a word; upper case does not count."""
-    if not isinstance(word, str) or len(word) > _LONGEST + 1:
+def _meant_by(word: str) -> Optional[str]:
+    """The keyword that is one letter away from a word, upper case aside, or has its meaning or most of its letters."""
+    if len(word) > _LONGEST + 1:
         return None
     lower = word.lower()
     near = {known for form in _forms(lower) & _BY_FORM.keys() for known in _BY_FORM[form]}
-    return min(filter(lambda known: _is_one_letter_away(lower, known.lower()), near), default=None)
+    found = min(filter(lambda known: _is_one_letter_away(lower, known.lower()), near), default=None)
+    return found or _ELSEWHERE.get(lower) or next(iter(difflib.get_close_matches(word, _SORTED, 1, _NEAR)), None)
 
 
 def _forms(word: str) -> Set[str]:
@@ -112,6 +131,9 @@ def _by_form() -> Dict[str, Set[str]]:
 
 # The keywords that have a form, and the length of the longest.
 _BY_FORM, _LONGEST = _by_form(), max(map(len, _KEYWORDS))
+
+# In an order, so that the same one is found each time.
+_SORTED = sorted(_KEYWORDS)
 
 
 def _is_one_letter_away(word: str, known: str) -> bool:

@@ -16,11 +16,13 @@ from .notices import warn_of_command
 from .wire import commands
 from .wire.commands import Command, is_change
 from .wire.requests import Request, rev_and_value
+from .wire.session import Trying
 
 __all__ = ["KEPT", "NOTES", "Once"]
 
-#: The document that has the notes, and how many of them it keeps, if nothing else is said.
-NOTES, KEPT = "once", 100
+#: The document that has the notes, and how many of them it keeps, if nothing else is said. Each call reads them: of
+#: 1,000 that takes two milliseconds.
+NOTES, KEPT = "once", 1000
 
 _SCHEMA = {
     "type": "array",
@@ -112,11 +114,14 @@ class Once:
         old = min(max(len(notes) + 1 - self._keep, 0), _MOST_REMOVED)
         return commands.patch(self._document, operations + [{"op": "remove", "path": "/0"}] * old, rev)
 
-    def check_again(self, error: JpstoreError, may: bool) -> None:
-        """Raises an error, unless the work may be tried again and should: it was overtaken, or an answer was lost."""
+    def check_again(self, error: JpstoreError, may: bool, trying: Trying) -> None:
+        """Raises an error, unless the work may be tried again and should: it was overtaken, or an answer was lost.
+
+        It is overtaken as often as the caller lets it be, and answers are lost as long as `trying` says.
+        """
         if isinstance(error, Ended) and error.change is not None:
             self._lost = error
-        if may and (self._was_overtaken(error) or _comes_back(error)):
+        if may and (self._was_overtaken(error) or (_is_looked_for(error) and trying.again())):
             return
         if self._lost is not None and isinstance(error, (AccessError, Ended)):
             raise self._lost from error
@@ -126,6 +131,9 @@ class Once:
         return isinstance(error, Refused) and error.document == self._document and error.number in _OVERTAKEN
 
 
-def _comes_back(error: JpstoreError) -> bool:
-    """Whether a connection was lost, and it was not tried in vain to make it again. A hub that hangs is left alone."""
-    return isinstance(error, Ended) and not isinstance(error, TimedOut) and error.__cause__ is None
+def _is_looked_for(error: JpstoreError) -> bool:
+    """Whether the answer to the changes was lost: then their note tells. A hub that hangs is left alone.
+
+    A question whose answer is lost was asked again by itself, as long as that is wanted.
+    """
+    return isinstance(error, Ended) and error.change is not None and not isinstance(error, TimedOut)

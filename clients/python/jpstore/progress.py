@@ -1,4 +1,4 @@
-"""A line on standard error about work that takes over a second."""
+"""A line on a terminal about work that takes over a second."""
 import sys
 import threading
 import time
@@ -6,13 +6,15 @@ from typing import Any, Optional, TextIO
 
 __all__ = ["Progress"]
 
-# When the first line comes, and how often another, on a terminal and elsewhere; in seconds.
-_FIRST = 1.0
-_EACH_ON_TERMINAL, _EACH = 0.25, 10.0
+# When the line comes, and how often it is written anew, in seconds.
+_FIRST, _EACH = 1.0, 0.25
 
 
 class Progress:
-    """Tells how far the work of a `with` block is, after its first second; on a terminal in a line that is cleared."""
+    """Tells how far the work of a `with` block is, after its first second, in a line that is cleared.
+
+    What is no terminal gets nothing: a script reads errors there.
+    """
 
     def __init__(self, what: str, unit: str = "", total: Optional[int] = None, stream: Optional[TextIO] = None) -> None:
         self._what, self._unit, self._total = what, unit, total
@@ -29,13 +31,15 @@ class Progress:
 
     def __enter__(self) -> "Progress":
         self._began = time.monotonic()
-        self._thread.start()
+        if self._stream.isatty():
+            self._thread.start()
         return self
 
     def __exit__(self, *_: Any) -> None:
         self._ended.set()
-        self._thread.join()
-        if self._shown and self._stream.isatty():
+        if self._thread.ident is not None:
+            self._thread.join()
+        if self._shown:
             self._stream.write("\r" + " " * self._shown + "\r")
             self._stream.flush()
 
@@ -43,14 +47,11 @@ class Progress:
         pause = _FIRST
         while not self._ended.wait(pause):
             self._show()
-            pause = _EACH_ON_TERMINAL if self._stream.isatty() else _EACH
+            pause = _EACH
 
     def _show(self) -> None:
         line = self._line()
-        if self._stream.isatty():
-            line, self._shown = "\r" + line.ljust(self._shown), len(line)
-        else:
-            line += "\n"
+        line, self._shown = "\r" + line.ljust(self._shown), len(line)
         self._stream.write(line)
         self._stream.flush()
 

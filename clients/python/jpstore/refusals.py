@@ -3,10 +3,11 @@
 `docs/use/PROTOCOL.md` shows the same texts; `python -m jpstore.refusals` prints its table of refusals.
 """
 from dataclasses import dataclass
-from typing import Dict
+from typing import Any, Dict, Mapping, Optional
 
 __all__ = [
-    "ADVICE", "COMPLAINTS", "GONE", "NAMES", "NO_MAJORITY", "REFUSALS", "Refusal", "WATCHING", "table",
+    "ADVICE", "COMPLAINTS", "DIALECT", "GONE", "NAMES", "NO_MAJORITY", "REFUSALS", "Refusal", "WATCHING",
+    "advice_for", "table",
 ]
 
 
@@ -165,6 +166,12 @@ _ROWS = [
             "store by `format`, and load the dump"),
 ]
 
+# Those whose advice depends on the command.
+_PATCH_MISSING, _PATCH_ROOT, _SCHEMA_KEYWORD = 32, 35, 41
+
+#: The dialect that a schema may name.
+DIALECT = "https://json-schema.org/draft/2020-12/schema"
+
 #: The refusals by number.
 REFUSALS: Dict[int, Refusal] = {row.number: row for row in _ROWS}
 
@@ -193,17 +200,37 @@ COMPLAINTS: Dict[str, str] = {
 #: What to do about a complaint, by its word; for `file` by the cause that `--why` tells.
 ADVICE: Dict[str, str] = {
     "exists": "choose another name; the file that has it is left as it is",
-    "missing": "compare the path; `jpstore-cli format FILE` makes a store, and `jpstore-cli hub FILE --socket PATH` "
-               "serves one at a socket",
+    "missing": "compare the path, whose folder must exist; `jpstore-cli format FILE` makes a store, and "
+               "`jpstore-cli hub FILE --socket PATH` serves one at a socket",
     "folder": "name a file in it",
-    "denied": "a store is read and written by its owner, even to look at it: run this as that user, or change the "
-              "rights of the file and its folder (`chmod`, `chown`)",
+    "denied": "a store is read and written by its owner, even to look at it, and made in a folder of theirs: run this "
+              "as that user, or change the rights of the file and its folder (`chmod`, `chown`)",
     "read-only": "copy the file to a file system that can be written",
     "descriptors": "close files, or raise the limit (`ulimit -n`)",
     "no-space": "make room, or choose a smaller size; `--sparse` leaves the room to be taken later",
+    "socket": "this is the socket of a hub: open it by `Store.connect`, or by the command line",
     "in-use": "connect to the socket of the hub that serves it, end the other command, or wait for it by `--wait "
               "SECONDS`",
 }
+
+
+def advice_for(number: int, command: Mapping[str, Any], operation: Optional[int]) -> str:
+    """What to do about a refusal of this command in particular; empty if that is what the table says.
+
+    A patch has the place of the operation that was refused.
+    """
+    if number == _PATCH_MISSING:
+        operations = command.get("ops")
+        known = isinstance(operations, (list, tuple)) and operation is not None and operation < len(operations)
+        refused = operations[operation] if known else None  # type: ignore[index]
+        adds = isinstance(refused, dict) and refused.get("op") == "add"
+        return "" if adds or refused is None else "read the document, to see what is there"
+    if number == _PATCH_ROOT:
+        return "delete the document instead: by `store.delete(name)`, `rm STORE NAME`, or `DELETE` over HTTP"
+    schema = command.get("schema")
+    if number == _SCHEMA_KEYWORD and isinstance(schema, dict) and schema.get("$schema") not in (None, DIALECT):
+        return "`jpstore-cli schema adapt FILE` makes a schema of it that the store reads"
+    return ""
 
 
 def table() -> str:

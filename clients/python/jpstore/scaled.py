@@ -1,5 +1,4 @@
 """Fractions as whole numbers: a member `price_e2` has hundredths, and is `price` as a `Decimal` in a program."""
-import re
 from decimal import Context, Decimal, InvalidOperation
 from typing import Any, Dict
 
@@ -10,8 +9,6 @@ __all__ = ["Scaled"]
 
 # A number of 64 bits has 19 digits.
 _MOST_DIGITS = 19
-
-_STORED = re.compile(r"(.+)_e([0-9]{1,2})", re.DOTALL)
 
 
 class Scaled:
@@ -30,14 +27,21 @@ class Scaled:
     def stored(self, value: Any) -> Any:
         """A value as the store has it: `{"price": Decimal("19.99")}` becomes `{"price_e2": 1999}`.
 
-        A `float` counts as the digits that Python shows of it. `Unsendable` if a number has more places than these.
+        A `float` counts as the digits that Python shows of it. `Unsendable` if a number has more places than these, or
+        if an object has both names.
         """
         return self._stored(value, "")
 
     def _stored(self, value: Any, place: str) -> Any:
         if isinstance(value, dict):
-            pairs = (self._stored_member(name, part, f"{place}/{escaped(str(name))}") for name, part in value.items())
-            return dict(pairs)
+            members: Dict[str, Any] = {}
+            for name, part in value.items():
+                at = f"{place}/{escaped(str(name))}"
+                kept, made = self._stored_member(name, part, at)
+                if kept in members:
+                    raise Unsendable(f"{at}: another member is `{kept}` in the store too")
+                members[kept] = made
+            return members
         if isinstance(value, (list, tuple)):
             return [self._stored(part, f"{place}/{index}") for index, part in enumerate(value)]
         return value
@@ -50,14 +54,15 @@ class Scaled:
     def read(self, value: Any) -> Any:
         """A value of the store as a program has it: `{"price_e2": 1999}` becomes `{"price": Decimal("19.99")}`."""
         if isinstance(value, dict):
-            return dict(self._read_member(name, part) for name, part in value.items())
+            return dict(self._read_member(name, value) for name in value)
         return [self.read(part) for part in value] if isinstance(value, list) else value
 
-    def _read_member(self, name: str, value: Any) -> Any:
-        found = _STORED.fullmatch(name)
-        if found is None or self._places.get(found[1]) != int(found[2]) or not isinstance(value, int):
+    def _read_member(self, name: str, members: Dict[str, Any]) -> Any:
+        value, plain = members[name], name.rpartition("_e")[0]
+        is_number = isinstance(value, int) and not isinstance(value, bool)
+        if not is_number or plain not in self._places or self._name(plain) != name or plain in members:
             return name, self.read(value)
-        return found[1], Decimal(value).scaleb(-int(found[2]))
+        return plain, Decimal(value).scaleb(-self._places[plain])
 
     def schema(self, **members: Dict[str, Any]) -> Dict[str, Any]:
         """`properties` of a schema for these members, under the names that they have in the store."""

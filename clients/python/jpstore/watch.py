@@ -10,7 +10,7 @@ import json
 import os
 import time
 from dataclasses import dataclass
-from typing import Any, Dict, Generic, Iterator, Optional, Type, TypeVar
+from typing import Any, Callable, Dict, Generic, Iterator, Optional, Type, TypeVar
 
 from .errors import AccessError, Ended, JpstoreError, accessing, refusal_of
 from .wire.connection import Connection
@@ -56,8 +56,12 @@ class Gone(JpstoreError):
         super().__init__(asked, since)
 
     def __str__(self) -> str:
-        return (f"the changes after {self.args[0]} are gone, and one may watch from {self.since} on: read the "
-                "documents again (`export`), and watch from their number")
+        asked = self.args[0]
+        if asked is not None and asked >= self.since:
+            return (f"the store has no change {asked}, or is another one than that which had it; one may watch from "
+                    f"{self.since} on: read the documents again (`export`), and watch from their number")
+        return (f"the changes after {asked} are gone, and one may watch from {self.since} on: read the documents again "
+                "(`export`), and watch from their number")
 
 
 class Progress:
@@ -73,15 +77,20 @@ class Progress:
         self._last: Optional[int] = None
         self._follow, self._wait = follow, wait
         self._until: Optional[float] = None
+        #: Called when a connection that had begun is lost.
+        self.tell_lost: Callable[[], None] = lambda: None
 
     def asked(self) -> bytes:
         """The line that a connection begins with."""
+        return json.dumps(self._command()).encode() + b"\n"
+
+    def _command(self) -> Dict[str, Any]:
         asked: Dict[str, Any] = {"cmd": "watch"}
         if self.since is not None:
             asked["from"] = self.since
             if self.history is not None:
                 asked["history"] = self.history
-        return json.dumps(asked).encode() + b"\n"
+        return asked
 
     def take(self, line: bytes) -> Optional[Change]:
         """The meaning of a line: a change, or how the hub begins, which is None."""
@@ -96,7 +105,7 @@ class Progress:
             return None
         if record["error"] == "gone":
             raise Gone(self.since, record["from"])
-        raise refusal_of(record)
+        raise refusal_of(record, self._command())
 
     @property
     def begun(self) -> bool:
@@ -113,6 +122,8 @@ class Progress:
         if self._until is None:
             wait = self._wait if self._wait is not None else (float("inf") if self.begun else 0)
             self._until = time.monotonic() + wait
+            if self.begun:
+                self.tell_lost()
         over = time.monotonic() >= self._until
         if error is not None and (over or not may_come(error)):
             raise error
@@ -134,6 +145,10 @@ class Watcher(Generic[C]):
     def history(self) -> Optional[str]:
         """Tells the history of this store from that of another which takes its place."""
         return self._progress.history
+
+    def tell_lost(self, call: Callable[[], None]) -> None:
+        """Calls this each time that the hub goes away, before it is waited for."""
+        self._progress.tell_lost = call
 
     def close(self) -> None:
         """Ends it; a step that waits ends too."""

@@ -27,10 +27,11 @@ def how_to_run(kind, text, store):
 
 
 def clone(place):
-    """The environment in a folder in which the program and the package are as in a clone after a build."""
+    """The environment in a folder in which the program, the server and the package are as in a clone after a build."""
     out = place.path("crates/jpstore/out")
     os.makedirs(out)
     os.symlink(place.program, os.path.join(out, "jpstore"))
+    os.symlink(os.environ["JPSTORE_SERVER"], os.path.join(out, "jpstored"))
     os.makedirs(place.path("clients"))
     os.symlink(PACKAGE, place.path("clients/python"))
     path = os.pathsep.join([out, os.path.dirname(sys.executable), os.environ["PATH"]])

@@ -13,6 +13,7 @@ from ..wire.connection import check_socket, doubled, ended_connection, new_socke
 from ..wire.conversation import Call, Conversation
 from ..wire.forks import Descriptor
 from ..wire.program import Started
+from ..wire.session import Trying
 from ..wire.stream import StreamEnded, StreamSilent, read_piece, write_piece
 
 __all__ = ["AsyncCall", "AsyncChannel", "AsyncConnection", "AsyncProgram", "in_thread"]
@@ -53,6 +54,8 @@ class AsyncCall(Call):
         self.answered: "asyncio.Future[None]" = asyncio.get_running_loop().create_future()
         #: How the connection ended over which it was sent first.
         self.lost: Optional[Ended] = None
+        #: How long it is sent again then.
+        self.trying: Optional[Trying] = None
 
     def tell(self, error: Optional[Exception] = None) -> None:
         """Lets the task go on, if it still waits: with the replies, or with this error."""

@@ -246,6 +246,10 @@ class _Steps:
     def closed(self) -> bool:
         return self._store.closed
 
+    @property
+    def wait(self) -> float:
+        return self._store._session.wait
+
     async def ask(self, request: Request[T]) -> T:
         return await self._store._do(request)
 

@@ -10,7 +10,7 @@ from typing import Awaitable, Callable, Deque, List, Optional, Sequence, Set
 from ..errors import AccessError, Ended, JpstoreError, TimedOut
 from ..wire.commands import STATUS
 from ..wire.forks import check_process, in_each_child, not_here
-from ..wire.session import CLOSED, PAUSE, may_come
+from ..wire.session import CLOSED, PAUSE, Trying, may_come
 from ..wire.stream import StreamEnded
 from .channel import AsyncCall, AsyncChannel, AsyncConnection, AsyncProgram
 
@@ -28,7 +28,9 @@ class AsyncSession:
 
     def __init__(self, start: Callable[[], Awaitable[AsyncChannel]], wait: float, reconnect: bool,
                  gathers: bool = False, hub: bool = True) -> None:
-        self._start, self._wait, self._reconnect = start, wait, reconnect
+        #: As `Session.wait`.
+        self.wait = wait
+        self._start, self._reconnect = start, reconnect
         self._gathers, self._hub = gathers, hub
         self._loop: Optional[asyncio.AbstractEventLoop] = None
         self._closed = True
@@ -101,8 +103,8 @@ class AsyncSession:
     async def exchange(self, lines: Sequence[bytes], gathered: bool, changes: bool) -> List[bytes]:
         """Sends lines, and returns the replies; with `gathered` one line more, if the program may wait for others.
 
-        If the connection is lost, questions are sent once more over a new one. Changes are sent once more only if no
-        byte of them was sent before.
+        If the connection is lost, questions are sent again over a new one: once, and more often for `wait` seconds.
+        Changes are sent again only if no byte of them was sent before.
         """
         self._check()
         call = AsyncCall(lines, changes, gathered)
@@ -173,7 +175,7 @@ class AsyncSession:
             ending.add_done_callback(self._ended)
 
     async def _tell_end(self, channel: AsyncChannel, ended: StreamEnded) -> None:
-        """Tells the calls that were under way, but those that may be sent once more."""
+        """Tells the calls that were under way, but those that may be sent again."""
         try:
             lost = await channel.ended(ended)
         except (JpstoreError, OSError) as error:
@@ -196,7 +198,11 @@ class AsyncSession:
 
     def _may_be_sent_again(self, call: AsyncCall, lost: Ended) -> bool:
         return (self._reconnect and not self._closed and not isinstance(lost, TimedOut)
-                and not (call.sent and call.changes) and call.lost is None)
+                and not (call.sent and call.changes) and self._trying_of(call).again())
+
+    def _trying_of(self, call: AsyncCall) -> Trying:
+        call.trying = call.trying or Trying(self.wait)
+        return call.trying
 
     def _ended(self, ending: "asyncio.Task[None]") -> None:
         self._ending.discard(ending)
@@ -205,6 +211,8 @@ class AsyncSession:
     async def _open_again(self) -> None:
         """Opens a channel for the calls that wait, or gives them the error why there is none."""
         try:
+            # A connection may be lost as soon as it is made.
+            await asyncio.sleep(max((call.trying.pause for call in self._waiting if call.trying), default=0.0))
             self._take(await self._opened())
         except JpstoreError as error:
             self._tell_waiting(error)
@@ -225,7 +233,7 @@ class AsyncSession:
 
     async def _opened(self) -> AsyncChannel:
         loop = asyncio.get_running_loop()
-        until = loop.time() + self._wait
+        until = loop.time() + self.wait
         while True:
             try:
                 return await self._tried()

@@ -1,10 +1,11 @@
 """The command line: a sub-command for each thing that one does with a store, and a shell."""
 import argparse
+import contextlib
 import json
 import os
 import sys
 import warnings
-from typing import Any, Callable, Dict, List, Optional, Sequence, Tuple, Type
+from typing import Any, Callable, Dict, List, NoReturn, Optional, Sequence, Tuple, Type
 
 from ..dump import LoadStopped
 from ..errors import (
@@ -69,17 +70,48 @@ _EXIT: List[Tuple[Type[JpstoreError], int]] = [
 ]
 
 
+class _Parser(argparse.ArgumentParser):
+    """A parser whose complaints are JSON too if that is asked for."""
+
+    #: Whether it is.
+    as_json = False
+
+    def error(self, message: str) -> NoReturn:
+        if _Parser.as_json:
+            print(json.dumps({"error": "Usage", "message": f"{self.prog}: {message}"}, ensure_ascii=False),
+                  file=sys.stderr)
+            sys.exit(2)
+        super().error(message)
+
+
+# What is perhaps meant by words that a command does not take.
+_HINTS = {
+    "find": "`--all` in place of NAME asks all documents, and `--prefix PREFIX` goes with it",
+    "load": "it reads standard input: `load STORE < FILE`",
+    "ls": "`--prefix PREFIX` lists the names that begin with it",
+    "new": "a schema is given by `--schema FILE`",
+    "put": "a schema is given by `--schema FILE`",
+}
+
+
+def _refuse_words(options: argparse.Namespace, words: Sequence[str]) -> None:
+    """Ends with the usage of the command whose words these are not."""
+    parser: argparse.ArgumentParser = options.parser
+    hint = _HINTS.get(parser.prog.split()[-1])
+    parser.error(f"what is `{' '.join(words)}` for?{f' {hint[0].upper()}{hint[1:]}.' if hint else ''}")
+
+
 def _parser() -> argparse.ArgumentParser:
     prog = "python3 -m jpstore" if os.path.basename(sys.argv[0]) == "__main__.py" else None
     raw = argparse.RawDescriptionHelpFormatter
-    shared = argparse.ArgumentParser(add_help=False, argument_default=argparse.SUPPRESS)
+    shared = _Parser(add_help=False, argument_default=argparse.SUPPRESS)
     shared.add_argument("--program", metavar="PATH", help="the program `jpstore`, if it is not on PATH")
     shared.add_argument("--wait", metavar="SECONDS", type=float,
                         help="how long to wait for a file that is in use, or for a hub (0; 5 for `hub` and `http`)")
     shared.add_argument("--timeout", metavar="SECONDS", type=float, help="how long to wait for a reply")
     shared.add_argument("--json", action="store_true", help="print results and errors as one line of JSON")
-    parser = argparse.ArgumentParser(prog=prog, description=_ABOUT, epilog=_STATUSES, formatter_class=raw,
-                                     parents=[shared])
+    parser = _Parser(prog=prog, description=_ABOUT, epilog=_STATUSES, formatter_class=raw, parents=[shared])
+    parser.set_defaults(parser=parser)
     parser.add_argument("--version", action="version", version=f"jpstore {__version__}")
     commands = parser.add_subparsers(metavar="COMMAND", required=True)
     for name, row in COMMANDS.items():
@@ -109,7 +141,7 @@ def _add(commands: Any, shared: argparse.ArgumentParser, prog: str, name: str, r
     for word, how in arguments:
         added = (sizes if word in SIZE_WORDS else command).add_argument(word, **how)
         _completed(added, _COMPLETERS.get(word))
-    command.set_defaults(do=do)
+    command.set_defaults(do=do, parser=command)
 
 
 def _completed(action: argparse.Action, completer: Optional[Callable[..., List[str]]]) -> None:
@@ -188,7 +220,11 @@ def main(words: Optional[Sequence[str]] = None) -> int:
         argcomplete.autocomplete(parser)
     except ImportError:
         pass
-    options = parser.parse_args(_with_command(parser, sys.argv[1:] if words is None else words))
+    given = sys.argv[1:] if words is None else words
+    _Parser.as_json = "--json" in given
+    options, left = parser.parse_known_args(_with_command(parser, given))
+    if left:
+        _refuse_words(options, left)
     _prepare_streams()
     warnings.simplefilter("always", JpstoreWarning)
     warnings.showwarning = _show_warning
@@ -204,6 +240,12 @@ def main(words: Optional[Sequence[str]] = None) -> int:
         print("interrupted", file=sys.stderr)
         return 130
     except (JpstoreError, OSError) as error:
+        if not isinstance(error, JpstoreError) and error.filename is None:
+            # No file was named to the system: these are the streams that it gave.
+            with contextlib.suppress(OSError, ValueError):
+                # What is left in its buffer is no second error.
+                os.dup2(os.open(os.devnull, os.O_WRONLY), sys.stdout.fileno())
+            error = JpstoreError(f"standard input or output: {error.strerror or error}")
         print(_told(error) if getattr(options, "json", False) else shown_error(error), file=sys.stderr)
         return exit_status(error)
 

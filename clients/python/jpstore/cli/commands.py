@@ -3,13 +3,14 @@ import argparse
 import json
 import os
 import sys
-from typing import Any, Dict, Sequence, Tuple
+from typing import Any, Dict, List, Optional, Sequence, Tuple
 
 from ..client import Store
 from ..dump import GROUP_LINES, dump, load
-from ..edits import put, remove
+from ..edits import patched, put, remove
 from ..errors import JpstoreError
-from ..once import NOTES
+from ..once import KEPT, NOTES
+from ..server import run_server
 from ..watch import Watch
 from ..wire.commands import set_schema
 from .display import printable, shown, shown_status
@@ -28,6 +29,9 @@ def _get(words: argparse.Namespace) -> None:
 
 
 def _set(words: argparse.Namespace) -> None:
+    if not words.pointer and not words.whole:
+        words.parser.error("POINTER is empty, which is the place of the whole document: to replace that, use `put`, or "
+                           "add `--whole`")
     value = value_of_word(words.value)
     with opened(words) as store:
         accepted(words, put(store, words.name, words.pointer, value))
@@ -54,13 +58,15 @@ def _transaction(words: argparse.Namespace) -> None:
     changes = value_of_word(words.changes)
     if not isinstance(changes, list):
         raise JpstoreError("the changes are a list of JSON objects")
-    if words.once is None and words.notes is not None:
-        raise JpstoreError("`--notes` is for `--once`, which is missing")
+    for option, value in (("--notes", words.notes), ("--keep", words.keep)):
+        if words.once is None and value is not None:
+            raise JpstoreError(f"`{option}` is for `--once`, which is missing")
     with opened(words) as store:
         if words.once is None:
             accepted(words, store.transaction(changes))
         else:
-            accepted(words, store.once(words.once, changes, notes=words.notes or NOTES))
+            keep = KEPT if words.keep is None else words.keep
+            accepted(words, store.once(words.once, changes, notes=words.notes or NOTES, keep=keep))
 
 
 def _ls(words: argparse.Namespace) -> None:
@@ -95,7 +101,7 @@ def _patch(words: argparse.Namespace) -> None:
         if words.merge:
             accepted(words, store.merge_patch(words.name, patch, words.if_rev))
         else:
-            accepted(words, store.patch(words.name, patch, words.if_rev))
+            accepted(words, patched(store, words.name, patch, words.if_rev))
 
 
 def _schema(words: argparse.Namespace) -> None:
@@ -164,25 +170,25 @@ def _load(words: argparse.Namespace) -> None:
     said(words, {"changes": made}, f"{made:,} changes made")
 
 
-def _hub(words: argparse.Namespace) -> int:
-    from ..hub.server import run_hub
-    return run_hub(words.store, words.socket, program_of(words), words.pump, getattr(words, "wait", 5.0))
+def _hub(words: argparse.Namespace) -> None:
+    _serve(words, [("--socket", words.socket), ("--pump", str(words.pump))])
 
 
-def _http(words: argparse.Namespace) -> int:
-    try:
-        from ..gateway.run import run_http
-    except ImportError as error:
-        if error.name is None or not error.name.startswith("aiohttp"):
-            raise
-        raise JpstoreError("the gateway needs aiohttp: pip install 'aiohttp>=3.8', or apt-get install "
-                           "python3-aiohttp") from None
-    return run_http(words.store, words.listen, token_file=words.token_file, path=words.socket, origins=words.origin,
-                    program=program_of(words), wait=getattr(words, "wait", 5.0))
+def _http(words: argparse.Namespace) -> None:
+    _serve(words, [("--listen", words.listen), ("--token-file", words.token_file), ("--socket", words.socket),
+                   *(("--origin", origin) for origin in words.origin)])
+
+
+def _serve(words: argparse.Namespace, options: List[Tuple[str, Optional[str]]]) -> None:
+    wait = str(words.wait) if hasattr(words, "wait") else None
+    given = [word for option, value in [*options, ("--wait", wait)] if value is not None for word in (option, value)]
+    run_server(words.store, given, program_of(words))
 
 
 def _watch(words: argparse.Namespace) -> None:
     with Watch(words.store, words.since, follow=not words.past, wait=getattr(words, "wait", None)) as changes:
+        gone = f"{words.store}: the hub is gone, and is waited for"
+        changes.tell_lost(lambda: print(gone, file=sys.stderr, flush=True))
         for change in changes:
             if words.name in (None, change.command.get("name")):
                 print_record(change.record())
@@ -220,7 +226,8 @@ COMMANDS: Dict[str, Row] = {
     "get": (_get, "shows a document, or the value at a place of it", "get inventory shelf-1 /bolts", [_NAME, _POINTER]),
     "set": (_set, "puts a value at a place of a document", "set inventory shelf-1 /bolts 39", [
         _NAME, ("pointer", {"metavar": "POINTER", "help": "a JSON Pointer; /list/- is the place after a list's last"}),
-        ("value", {"metavar": "VALUE", "help": "a JSON value, or `-` for standard input"})]),
+        ("value", {"metavar": "VALUE", "help": "a JSON value, or `-` for standard input"}),
+        ("--whole", {"action": "store_true", "help": "POINTER may be empty: it is the whole document then"})]),
     "new": (_new, "makes a document", "new inventory shelf-1 '{\"bolts\": 40}' --schema counts.json", [
         _NAME, ("doc", {"metavar": "DOC", "help": "a JSON value, or `-` for standard input"}),
         ("--schema", {"metavar": "FILE", "help": "a file with the JSON Schema of the document"})]),
@@ -239,7 +246,8 @@ COMMANDS: Dict[str, Row] = {
     "patch": (_patch, "patches a document", "patch inventory shelf-1 --merge '{\"bolts\": 39, \"nuts\": null}'", [
         _NAME, ("patch", {"metavar": "PATCH", "help": _PATCH_FORM}),
         ("--merge", {"action": "store_true", "help": "PATCH is a JSON Merge Patch (RFC 7396)"}), _IF_REV]),
-    "schema": (_schema, "shows the schema of a document, or puts documents under another, all or none",
+    "schema": (_schema, "shows the schema of a document, or puts documents under another, all or none; `schema adapt "
+                        "FILE` makes a schema of other people one that the store reads",
                "schema inventory shelf-1 shelf-2 --to counts.json", [
                    ("name", {**_NAME[1], "nargs": "+"}),
                    ("--to", {"metavar": "FILE", "help": "a file with the new schema; `-` is standard input"}), _IF_REV,
@@ -248,7 +256,8 @@ COMMANDS: Dict[str, Row] = {
     "transaction": (_transaction, "makes several changes, all or none", "transaction inventory - < changes.json", [
         ("changes", {"metavar": "CHANGES", "help": _CHANGES_FORM}),
         ("--once", {"metavar": "KEY", "help": "only if no call with this key has made them before"}),
-        ("--notes", {"metavar": "NAME", "help": f"the document that notes the keys of `--once` ({NOTES})"})]),
+        ("--notes", {"metavar": "NAME", "help": f"the document that notes the keys of `--once` ({NOTES})"}),
+        ("--keep", {"metavar": "N", "type": int, "help": f"how many keys it keeps, the newest ({KEPT})"})]),
     "rev": (_rev, "shows the revision of a document: the number of its last change", "rev inventory shelf-1", [_NAME]),
     "status": (_status, "shows how many documents there are, and how full the store is", "status inventory --json", []),
     "snapshot": (_snapshot, "drops the history, which makes room", "snapshot inventory", []),
@@ -260,7 +269,8 @@ COMMANDS: Dict[str, Row] = {
         ("--socket", {"metavar": "PATH", "required": True, "help": "where clients connect"}),
         ("--pump", {"metavar": "N", "type": int, "default": 0, "help": "copy snapshots in steps of N sectors"})]),
     "http": (_http, "serves the store over HTTP, with a page at /", "http inventory --listen 127.0.0.1:8080", [
-        ("--listen", {"metavar": "HOST:PORT", "default": "127.0.0.1:8080", "help": "where it is asked"}),
+        ("--listen", {"metavar": "HOST:PORT", "default": "127.0.0.1:8080",
+                      "help": "where it is asked (127.0.0.1:8080)"}),
         ("--token-file", {"metavar": "FILE", "help": "a file with the token that each request needs"}),
         ("--socket", {"metavar": "PATH", "help": "where clients of the hub connect, if STORE is a file"}),
         ("--origin", {"metavar": "ORIGIN", "action": "append", "default": [],
@@ -269,7 +279,8 @@ COMMANDS: Dict[str, Row] = {
         ("--since", {"metavar": "N", "type": int, "help": "begin after change N; else with the next change"}),
         ("--past", {"action": "store_true", "help": "end with the last change that is already made"}),
         ("--name", {"metavar": "NAME", "help": "only the changes of this document"})]),
-    "follow": (_follow, "shows a document of a hub now and after each change of it, as a line of JSON",
+    "follow": (_follow, "shows a document of a hub now, and its newest state after changes of it, as a line of JSON; "
+                        "`watch` shows each change",
                "follow inventory.socket shelf-1", [_NAME, _POINTER]),
     "shell": (_shell, "opens a shell, or does the lines of standard input", "shell inventory", []),
 }

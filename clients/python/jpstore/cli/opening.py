@@ -3,14 +3,16 @@ import argparse
 import os
 import stat
 import sys
+import time
 from typing import Any, Callable, Dict, List, Optional, Tuple
 
 from ..client import Store
 from ..errors import accessing
 from ..progress import Progress
+from ..wire.session import PAUSE
 from ..wire.texts import value_of_text
 
-__all__ = ["Do", "Row", "Word", "is_socket", "opened", "program_of", "value_in", "value_of_word"]
+__all__ = ["Do", "Row", "Word", "is_socket", "opened", "program_of", "value_in", "value_of_word", "wait_for"]
 
 #: What a sub-command does with its words; its result is the exit status, if that is not 0.
 Do = Callable[[argparse.Namespace], Optional[int]]
@@ -32,12 +34,21 @@ def is_socket(path: str) -> bool:
     return os.path.exists(path) and stat.S_ISSOCK(os.stat(path).st_mode)
 
 
+def wait_for(words: argparse.Namespace) -> float:
+    """Waits until there is a file or a socket at STORE, as long as `--wait` says; what is left of that, in seconds."""
+    wait: float = getattr(words, "wait", 0.0)
+    until = time.monotonic() + wait
+    while not os.path.exists(words.store) and time.monotonic() < until:
+        time.sleep(PAUSE)
+    return max(until - time.monotonic(), 0.0)
+
+
 def opened(words: argparse.Namespace, batch: int = 1) -> Store:
     """The store in a file, or that of the hub whose socket is named."""
-    wait, timeout = getattr(words, "wait", 0.0), getattr(words, "timeout", None)
+    wait, timeout = wait_for(words), getattr(words, "timeout", None)
     if is_socket(words.store):
         return Store.connect(words.store, wait=wait, timeout=timeout)
-    with Progress("open"):
+    with Progress(f"open {words.store}" + (", which may be in use" if wait else "")):
         return Store(words.store, program=program_of(words), wait=wait, timeout=timeout, batch=batch)
 
 

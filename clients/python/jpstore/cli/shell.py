@@ -6,8 +6,9 @@ import os
 import sys
 from typing import Any, Callable, ContextManager, List, Optional, Sequence, Union
 
+from ..called import called
 from ..client import Store
-from ..edits import put, remove
+from ..edits import patched, put, remove
 from ..errors import Ended, JpstoreError, Refused
 from ..progress import Progress
 from ..results import Node
@@ -18,8 +19,8 @@ from .nearest import no_command
 from .printing import done, print_record
 from .shell_transaction import Draft
 from .shell_words import (
-    Usage, flag_and_rest, names_and_file, nothing_more, number_of, option_and_rest, schema_and_doc, value_in, value_of,
-    word_and_rest,
+    Usage, flag_and_rest, if_rev_and_rest, names_and_file, nothing_more, number_of, option_and_rest, schema_and_doc,
+    value_in, value_of, word_and_rest,
 )
 
 __all__ = ["ELSEWHERE", "run_shell"]
@@ -46,6 +47,8 @@ class Shell(cmd.Cmd):
         self.failed = False
         self._busy = False
         self._draft: Optional[Draft] = None
+        # How many lines were read.
+        self._lines = 0
         self._show_prompt()
 
     def _show_prompt(self) -> None:
@@ -70,14 +73,15 @@ class Shell(cmd.Cmd):
     def do_find(self, line: str) -> str:
         """find NAME QUERY: the places and values that a JSONPath query selects, as `find shelf $[?@ < 20]`.
 
-        `find --all QUERY` asks all documents.
+        `find --all [--prefix PREFIX] QUERY` asks all documents, or those whose names begin with PREFIX.
         """
         name, query = word_and_rest(line, "NAME")
+        prefix, query = option_and_rest(query, "--prefix") if name == "--all" else (None, query)
         if not query:
             raise Usage("QUERY is missing")
         if name == "--all":
-            return "\n".join(f"{found}  {_told(node)}" for found, nodes in self.store.query_all(query).items()
-                             for node in nodes)
+            return "\n".join(f"{found}  {_told(node)}"
+                             for found, nodes in self.store.query_all(query, prefix or "").items() for node in nodes)
         return "\n".join(map(_told, self.store.query(name, query)))
 
     def do_new(self, line: str) -> str:
@@ -92,26 +96,31 @@ class Shell(cmd.Cmd):
     def do_put(self, line: str) -> str:
         """put NAME [SCHEMA-FILE] DOC, or put NAME [SCHEMA-FILE] < FILE: makes a document, or replaces the whole of it.
 
-        Without a file a document keeps its schema.
+        Without a file a document keeps its schema. `put NAME --if-rev N ..` replaces it only at this revision.
         """
         name, rest = word_and_rest(line, "NAME")
+        if_rev, rest = if_rev_and_rest(rest)
         schema, doc = schema_and_doc(rest, None)
         if self._draft is None:
-            return done(self.store.put(name, doc, schema))
+            return done(self.store.put(name, doc, schema, if_rev))
+        _check_no_rev(if_rev)
         if schema is not None:
             raise Usage("after `begin` it is `put` without a schema, and `schema NAME FILE`")
         self._draft.replace(self.store, name, doc)
         return _noted(self._draft)
 
     def do_patch(self, line: str) -> str:
-        """patch NAME PATCH: applies a JSON Patch, or with `--merge` before PATCH a JSON Merge Patch."""
+        """patch NAME [--merge] [--if-rev N] PATCH: applies a JSON Patch, or with `--merge` a JSON Merge Patch."""
         name, rest = word_and_rest(line, "NAME")
         merges, rest = flag_and_rest(rest, "--merge")
+        if_rev, rest = if_rev_and_rest(rest)
         if self._draft is not None:
             raise Usage("after `begin` the changes are `new`, `put`, `set`, `rm` and `schema`; for others there is "
                         "`transaction` of the command line")
         change = value_of(rest, "PATCH")
-        return done(self.store.merge_patch(name, change) if merges else self.store.patch(name, change))
+        if merges:
+            return done(self.store.merge_patch(name, change, if_rev))
+        return done(patched(self.store, name, change, if_rev))
 
     def do_set(self, line: str) -> str:
         """set NAME POINTER VALUE: puts a value at a place, as `set shelf /bolts 39` or `set shelf /tags/- "red"`.
@@ -127,11 +136,16 @@ class Shell(cmd.Cmd):
         return _noted(self._draft)
 
     def do_rm(self, line: str) -> str:
-        """rm NAME [POINTER]: deletes a document, or removes the value at a place of it."""
+        """rm NAME [POINTER] [--if-rev N]: deletes a document, or removes the value at a place of it."""
         name, rest = word_and_rest(line, "NAME")
-        pointer = _pointer(rest) if rest else None
+        pointer: Optional[str] = None
+        if rest and not rest.startswith("--if-rev"):
+            pointer, rest = word_and_rest(rest, "POINTER")
+        if_rev, rest = if_rev_and_rest(rest)
+        nothing_more(rest)
         if self._draft is None:
-            return done(remove(self.store, name, pointer))
+            return done(remove(self.store, name, pointer, if_rev))
+        _check_no_rev(if_rev)
         self._draft.remove(self.store, name, pointer)
         return _noted(self._draft)
 
@@ -149,6 +163,11 @@ class Shell(cmd.Cmd):
         prefix, line = option_and_rest(line, "--prefix")
         names, file = names_and_file(line)
         if prefix is not None:
+            if names:
+                raise Usage(f"what is `{names[0]}` for? `schema --prefix PREFIX --to FILE` puts documents under "
+                            "another")
+            if file is None:
+                raise Usage("`--to FILE` is missing")
             names = self.store.names(prefix)
         if not names:
             raise Usage("NAME is missing" if prefix is None else f"no document's name begins with {prefix}")
@@ -261,7 +280,7 @@ class Shell(cmd.Cmd):
         """Refuses a line that begins with no command."""
         word = line.split()[0]
         if word in ELSEWHERE:
-            raise Usage(f"`{word}` is for the command line: `jpstore-cli {word} --help`")
+            raise Usage(f"`{word}` is for the command line: `{called()} {word} --help`")
         known = [name[3:] for name in self.get_names() if name.startswith("do_")]
         raise Usage(no_command(word, known, "`help`"))
 
@@ -279,6 +298,7 @@ class Shell(cmd.Cmd):
         if line == "EOF":
             return True
         self._busy = True
+        self._lines += 1
         try:
             word = line.strip().partition(" ")[0]
             with _progress(word):
@@ -290,7 +310,7 @@ class Shell(cmd.Cmd):
             if self._draft is not None and not self._by_hand:
                 # Who types sees what was refused; what is read from a pipe goes on as if it were done.
                 self._draft.failed = True
-            print(shown_error(error), file=sys.stderr)
+            print(f"{'' if self._by_hand else f'line {self._lines}: '}{shown_error(error)}", file=sys.stderr)
         self._busy = False
         self._show_prompt()
         if isinstance(answer, str) and answer:
@@ -313,6 +333,11 @@ def _pointer(rest: str) -> str:
     pointer, rest = word_and_rest(rest, "POINTER")
     nothing_more(rest)
     return pointer
+
+
+def _check_no_rev(if_rev: Optional[int]) -> None:
+    if if_rev is not None:
+        raise Usage("after `begin` there is no `--if-rev`: a transaction asks for the revisions that it has read")
 
 
 def _progress(word: str) -> ContextManager[Any]:

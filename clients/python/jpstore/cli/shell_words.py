@@ -7,8 +7,8 @@ from ..errors import JpstoreError, accessing
 from ..wire.texts import value_of_text
 
 __all__ = [
-    "Usage", "flag_and_rest", "names_and_file", "nothing_more", "number_of", "option_and_rest", "schema_and_doc",
-    "value_in", "value_of", "word_and_rest",
+    "Usage", "flag_and_rest", "if_rev_and_rest", "names_and_file", "nothing_more", "number_of", "option_and_rest",
+    "schema_and_doc", "value_in", "value_of", "word_and_rest",
 ]
 
 
@@ -41,6 +41,12 @@ def option_and_rest(line: str, option: str) -> Tuple[Optional[str], str]:
     """The value of an option that a line begins with, None if it begins with another word, and what follows."""
     has, rest = flag_and_rest(line, option)
     return word_and_rest(rest, f"the value of {option}") if has else (None, line)
+
+
+def if_rev_and_rest(line: str) -> Tuple[Optional[int], str]:
+    """The number of `--if-rev N`, None if a line does not begin with it, and what follows."""
+    word, rest = option_and_rest(line, "--if-rev")
+    return None if word is None else number_of(word, "the value of --if-rev"), rest
 
 
 def flag_and_rest(line: str, flag: str) -> Tuple[bool, str]:

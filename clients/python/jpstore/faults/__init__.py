@@ -1,4 +1,4 @@
-"""Where a refused command is at fault: the member of a line, the keyword of a schema, the character of a query.
+"""Where a refused command is at fault: a member of a line, an operation, a keyword of a schema, a character of a query.
 
 The store answers a number; these find the place by the same rules. What they don't find is left out: what the store
 says counts.

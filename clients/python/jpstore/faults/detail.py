@@ -2,16 +2,21 @@
 from typing import Any, Dict, Optional
 
 from .command import fault_of_depth, fault_of_form, fault_of_name
+from .patch import fault_of_patch, fault_of_pointer
 from .query import fault_of_query
 from .schema import faults_of_schema
+from .words import place_in
 
 __all__ = ["detail_of"]
 
 _MOST_LETTERS = 20
 
 
-def detail_of(number: int, command: Optional[Dict[str, Any]]) -> str:
-    """Where a command that was refused by this number is at fault; empty if it isn't found, or needs no finding."""
+def detail_of(number: int, command: Optional[Dict[str, Any]], operation: Optional[int] = None) -> str:
+    """Where a command that was refused by this number is at fault; empty if it isn't found, or needs no finding.
+
+    Of a patch the operation that was refused is given, if it is known.
+    """
     if number == 14:
         return fault_of_form(command)
     if not isinstance(command, dict):
@@ -20,10 +25,20 @@ def detail_of(number: int, command: Optional[Dict[str, Any]]) -> str:
         return fault_of_depth(command)
     if number == 15:
         return fault_of_name(command)
+    if 30 <= number <= 34:
+        return fault_of_patch(number, command, operation)
+    if number in (37, 38):
+        return _of_pointer(number, command.get("path"))
     if 40 <= number <= 43:
         found = (str(fault) for fault in faults_of_schema(command.get("schema")) if fault.number == number)
         return next(found, "")
     return _of_query(number, command.get("path")) if number in (50, 51) else ""
+
+
+def _of_pointer(number: int, pointer: Any) -> str:
+    if not isinstance(pointer, str):
+        return ""
+    return f"there is no {place_in(pointer)}" if number == 37 else fault_of_pointer(pointer)
 
 
 def _of_query(number: int, query: Any) -> str:

@@ -5,13 +5,12 @@ The rules are those of `docs/use/PROTOCOL.md`, under *Names, schemas, places and
 import re
 from typing import Any, Callable, Dict, Iterator, List, NamedTuple, Optional, Set, Tuple
 
+from ..called import called
+from ..refusals import DIALECT
 from ..wire.values import canonical
 from .words import Trail, nearest, place_in, pointer_of, shown
 
 __all__ = ["DIALECT", "NOT_SUPPORTED", "SchemaFault", "faults_of_schema", "subschemas"]
-
-#: The dialect that a schema may name.
-DIALECT = "https://json-schema.org/draft/2020-12/schema"
 
 #: The keywords of 2020-12 that are refused (41), each with what is nearest to it.
 NOT_SUPPORTED = {
@@ -181,8 +180,8 @@ def _of_identity(is_below: bool, word: str, value: Any) -> Optional[Tuple[int, s
     if not _is_text(value):
         return 40, f"`{word}` is {shown(value)}, and must be a text"
     if word == "$schema" and value != DIALECT:
-        return 41, (f"{shown(value)} is another dialect than {DIALECT}: `jpstore-cli schema adapt` translates earlier "
-                    "drafts")
+        return 41, (f"{shown(value)} is another dialect than {DIALECT}: `{called()} schema adapt` translates "
+                    "earlier drafts")
     return None
 
 
@@ -208,7 +207,8 @@ def _dangling(root: Any, reference: str) -> str:
     if near is not None:
         return f"{said}: perhaps `#/$defs/{near}` is meant"
     if not reference.startswith("#"):
-        return f"{said}: put that schema under `$defs` of the root, as `jpstore-cli schema adapt` does with files"
+        adapted = f"`{called()} schema adapt`"
+        return f"{said}: put that schema under `$defs` of the root, as {adapted} does with files"
     return f"{said}: put that schema under `$defs` of the root, by a name of letters, digits, `_`, `-` and `.`"
 
 

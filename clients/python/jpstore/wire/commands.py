@@ -1,9 +1,11 @@
 """The commands as what is sent: one object a line."""
+import re
 from typing import Any, Dict, List, Optional, Sequence
 
+from ..called import called
 from ..errors import Unsendable, told_command
 from .forms import CHANGES, TRANSACTION, is_change
-from .values import text_of
+from .values import WHOLE, text_of
 
 __all__ = [
     "COPY", "END_OF_TRANSACTION", "EXPORT", "HEAD_OF_CREATION", "LIST", "SNAPSHOT", "STATUS", "changes_in", "create",
@@ -27,6 +29,9 @@ EXPORT, COPY = b'{"cmd":"export"}\n', b'{"cmd":"copy"}\n'
 HEAD_OF_CREATION = b'{"cmd":"create",'
 
 _CHANGING = (*CHANGES, TRANSACTION)
+
+# The place of a fault is in a schema.
+_IN_SCHEMA = re.compile("(/changes/[0-9]+)?/schema/")
 
 # Around the texts of its changes, which have a comma between two, the text of a transaction has these.
 _BEGIN_OF_TRANSACTION, END_OF_TRANSACTION = b'{"changes":[', b'],"cmd":"transaction"}'
@@ -105,8 +110,10 @@ def line_of(command: Command) -> bytes:
     try:
         return text_of(command) + b"\n"
     except Unsendable as error:
-        told = told_command(command)
-        raise Unsendable(f"{told}: {error}" if told else str(error)) from None
+        told, said = told_command(command), str(error)
+        if _IN_SCHEMA.match(said):
+            said = said.replace(WHOLE, f"`{called()} schema adapt` makes a bound of whole numbers of it")
+        raise Unsendable(f"{told}: {said}" if told else said) from None
 
 
 def line_of_creation(name: str, doc: bytes, schema: bytes) -> bytes:

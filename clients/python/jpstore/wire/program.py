@@ -52,7 +52,8 @@ def path_word(file: Path) -> str:
 
 def ended_program(words: Sequence[str], status: int, errors: bytes, replies: Sequence[bytes] = ()) -> Ended:
     """The error for a program that ended."""
-    return Ended(" ".join(words), status, errors.decode("utf-8", "replace"), replies)
+    file = words[2] if len(words) > 2 else ""
+    return Ended(" ".join(words), status, errors.decode("utf-8", "replace"), replies, file)
 
 
 class Started:

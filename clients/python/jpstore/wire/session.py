@@ -1,4 +1,4 @@
-"""A session with a store: lines out and replies in, and one new connection after a hub's was lost."""
+"""A session with a store: lines out and replies in, and new connections after a hub's was lost."""
 import errno
 import threading
 import time
@@ -15,7 +15,7 @@ from .forks import check_process, in_each_child, not_here
 from .program import Program
 from .stream import StreamEnded
 
-__all__ = ["CLOSED", "PAUSE", "Channel", "Session", "give_back_if_dropped", "may_come"]
+__all__ = ["CLOSED", "PAUSE", "Channel", "Session", "Trying", "give_back_if_dropped", "may_come"]
 
 #: What is said by a session that is over.
 CLOSED = "the store is closed"
@@ -43,6 +43,26 @@ def give_back_if_dropped(store: Any, path: str, give_back: Callable[[], bool]) -
     weakref.finalize(store, dropped).atexit = False
 
 
+class Trying:
+    """How long a call is tried again after its connection was lost: once at once, and then until the time is over."""
+
+    def __init__(self, wait: float) -> None:
+        self._wait = wait
+        #: When that is; None as long as no connection was lost.
+        self.until: Optional[float] = None
+        #: How long to wait before the next try, in seconds.
+        self.pause = 0.0
+
+    def again(self) -> bool:
+        """Whether it is tried again, after a connection was lost."""
+        now = time.monotonic()
+        if self.until is None:
+            self.until = now + self._wait
+            return True
+        self.pause = PAUSE
+        return now < self.until
+
+
 class Session:
     """A channel that is used by one thread at a time, and opened again if it was lost and that is wanted.
 
@@ -50,14 +70,16 @@ class Session:
     """
 
     def __init__(self, start: Callable[[], Channel], wait: float, reconnect: bool, hub: bool = False) -> None:
-        self._start, self._wait, self._reconnect, self._hub = start, wait, reconnect, hub
+        #: How long a lost connection is made again, in seconds.
+        self.wait = wait
+        self._start, self._reconnect, self._hub = start, reconnect, hub
         self._lock = threading.RLock()
         self._closed = False
         # Whether it is that of the process which forked this one, and whether a first channel is still to be opened.
         self._inherited = self._unopened = False
         self._channel: Optional[Channel] = None
         in_each_child(self)
-        self._channel = self._opened()
+        self._channel = self._opened(Trying(wait))
 
     def let_go(self) -> None:
         """Forgets the channel, in a child."""
@@ -101,25 +123,27 @@ class Session:
     def exchange(self, lines: Sequence[bytes], gathered: bool, changes: bool) -> List[bytes]:
         """Sends lines, and returns the replies; with `gathered` one line more, if the program may wait for others.
 
-        If the connection is lost, questions are sent once more over a new one. Changes are sent once more only if no
-        byte of them was sent before.
+        If the connection is lost, questions are sent again over a new one: once, and more often for `wait` seconds.
+        Changes are sent again only if no byte of them was sent before.
         """
         check_process()
-        call = Call(lines, changes, gathered)
+        trying = Trying(self.wait)
+        lost: Optional[Ended] = None
         with self._lock:
-            try:
-                return self._exchange(call)
-            except StreamEnded as ended:
-                lost = self._lost(ended, call)
-                if not self._reconnect or isinstance(lost, TimedOut) or (ended.sent and changes):
-                    raise lost from None
-            call = Call(lines, changes, gathered)
-            try:
-                return self._exchange(call)
-            except StreamEnded as ended:
-                raise self._lost(ended, call) from None
-            except AccessError as error:
-                raise lost from error
+            while True:
+                call = Call(lines, changes, gathered)
+                try:
+                    return self._exchange(call, trying)
+                except StreamEnded as ended:
+                    lost = self._lost(ended, call)
+                    may = self._reconnect and not isinstance(lost, TimedOut) and not (ended.sent and changes)
+                    if not may or not trying.again():
+                        raise lost from None
+                except AccessError as error:
+                    if lost is None:
+                        raise
+                    raise lost from error
+                time.sleep(trying.pause)
 
     def value(self, name: str, path: str) -> Any:
         """The value at a place of a document of an embedded store; NotImplemented if a general line has to be sent."""
@@ -148,13 +172,13 @@ class Session:
                 call.sent, call.replies = ended.sent, ended.replies
                 raise self._lost(ended, call) from None
 
-    def _exchange(self, call: Call) -> List[bytes]:
+    def _exchange(self, call: Call, trying: Trying) -> List[bytes]:
         if self._inherited:
             raise not_here()
         if self.over:
             raise JpstoreError(CLOSED)
         if self._channel is None:
-            self._channel = self._opened()
+            self._channel = self._opened(trying)
             self._unopened = False
         channel = self._channel
         try:
@@ -176,8 +200,8 @@ class Session:
             raise not_here()
         return call.broken_off(channel.ended(ended))
 
-    def _opened(self) -> Channel:
-        until = time.monotonic() + self._wait
+    def _opened(self, trying: Trying) -> Channel:
+        until = trying.until or time.monotonic() + self.wait
         while True:
             try:
                 return self._tried()

@@ -7,6 +7,7 @@ from typing import List
 
 from ..errors import Ended
 from .commands import STATUS
+from .program import ended_program
 
 __all__ = ["ended_serving", "opened_serving"]
 
@@ -47,7 +48,7 @@ async def ended_serving(words: List[str], program: Process) -> Ended:
         await program.stdin.wait_closed()
     errors = await program.stderr.read()
     await dropping
-    return Ended(" ".join(words), await program.wait(), errors.decode("utf-8", "replace"))
+    return ended_program(words, await program.wait(), errors)
 
 
 async def _drop(replies: asyncio.StreamReader) -> None:

@@ -5,7 +5,10 @@ from typing import Any, Iterator, List, Tuple
 from ..errors import Unsendable
 from .limits import MOST_DEPTH
 
-__all__ = ["LEAST", "MOST", "canonical", "check_value", "escaped", "text_of"]
+__all__ = ["LEAST", "MOST", "WHOLE", "canonical", "check_value", "escaped", "text_of"]
+
+#: What to do about a fraction in a document.
+WHOLE = "send a whole number, or a text"
 
 #: The least and the greatest number of a document.
 LEAST, MOST = -(1 << 63), (1 << 63) - 1
@@ -72,7 +75,7 @@ def _check_plain(value: Any, trail: _Trail) -> None:
     if isinstance(value, str):
         _check_text(value, trail)
     elif isinstance(value, float):
-        raise _unsendable(trail, f"{value!r} is not a whole number: send a whole number, or a text")
+        raise _unsendable(trail, f"{value!r} is not a whole number: {WHOLE}")
     elif isinstance(value, int):
         if not LEAST <= value <= MOST:
             raise _unsendable(trail, f"a number is beyond 64 bits ({LEAST} to {MOST}): send a text")

@@ -99,7 +99,11 @@ def each_command(place, store, told):
     for _ in range(2):
         assert told(place, "transaction", store, more, "--once", "k", "--notes", "mine") == "done, change 27"
     assert told(place, "transaction", store, "[]", "--once", "k") == "done, change 28"
+    assert told(place, "transaction", store, "[]", "--once", "l", "--keep", "1") == "done, change 29"
+    assert told(place, "get", store, "once") == '[{"key": "l", "more": 0}]'
     # The key was forgotten: nothing is made as if it were not asked for.
+    place.shows("transaction", store, more, "--keep", "9", errors="`--keep` is for `--once`, which is missing\n",
+                status=1)
     place.shows("transaction", store, more, "--notes", "mine", errors="`--notes` is for `--once`, which is missing\n",
                 status=1)
     assert told(place, "ls", store) == "c\nmine\nn\nonce"
@@ -146,7 +150,7 @@ def test_the_exit_status_is_of_the_family(place):
         (2, ["get", "store"]), (2, ["patch", "store", "d", "[]", "--if-rev", "x"]),
         (3, ["get", "store", "other"]), (3, ["get", "store", "d", "/a"]), (3, ["rm", "store", "other"]),
         (4, ["new", "store", "d", "1"]), (4, ["patch", "store", "d", "[]", "--if-rev", "9"]),
-        (5, ["set", "store", "d", "", "6"]),
+        (5, ["set", "store", "d", "", "6", "--whole"]), (2, ["set", "store", "d", "", "6"]),
         (6, ["get", "store", "d", "a"]), (6, ["new", "store", "a b", "1"]), (6, ["find", "store", "d", "x"]),
         (6, ["new", "store", "e", "1.5"]), (6, ["new", "store", "e", "{"]),
         (6, ["new", "store", "e", "1", "--schema", "store"]),
@@ -204,7 +208,7 @@ def test_changes_are_shown_as_the_hub_tells_them(place):
                  '{"change":{"cmd":"delete","name":"d"},"seq":2}\n']
         place.shows("watch", "socket", "--since", "0", "--past", output="".join(lines))
         place.shows("watch", "socket", "--past")
-        assert "changes after 7 are gone" in errors(place, "watch", "socket", "--since", "7", status=1)
+        assert "the store has no change 7" in errors(place, "watch", "socket", "--since", "7", status=1)
         with subprocess.Popen(place.words("watch", "socket", "--since", "1"), stdout=subprocess.PIPE, cwd=place.folder,
                               env=place.environment()) as watching:
             assert watching.stdout.readline().decode() == lines[1]
@@ -239,7 +243,7 @@ def test_sizes_that_are_none_are_told(place):
         assert "is no size: give bytes, or as 512K, 16M or 2G" in shown
     assert "is no mode" in errors(place, "format", "store", "--mode", "8", status=2)
     assert "not allowed with" in errors(place, "format", "store", "--size", "1M", "--sectors", "9", status=2)
-    assert [sectors_of_size(text) for text in ("1536", "1k", "3KB", "2MiB", "1G")] == [3, 2, 6, 4096, 1 << 21]
+    assert [sectors_of_size(text) for text in ("1536", "2k", "3KB", "2MiB", "1G")] == [3, 4, 6, 4096, 1 << 21]
     assert "store: No such file" in errors(place, "grow", "store", "larger", status=1)
     join = ["replica", "join", "new", "--node", "a", "--from", "x", "--etcd", "x", "--log", "x", "--size"]
     assert "is no size" in errors(place, *join, "2X", status=2)
@@ -282,7 +286,7 @@ def test_many_documents_are_asked_and_put_under_a_schema_at_once(place):
     assert told(place, "schema", "store", "a-1", "a-2", "--to", "schema.json") == "done, changes 7 to 8"
     assert told(place, "schema", "store", "--to", "schema.json", "--prefix", "a-", "--json") == '{"seq": 10}'
     # All or none.
-    told(place, "set", "store", "a-2", "", "0")
+    told(place, "set", "store", "a-2", "", "0", "--whole")
     place.text("schema.json", '{"maximum": 2}')
     assert "45 invalid, change 0" in errors(place, "schema", "store", "--prefix", "", "--to", "schema.json", status=5)
     assert told(place, "schema", "store", "b") == '{"maximum": 3}'
@@ -318,7 +322,7 @@ def test_a_store_may_have_the_name_of_a_command(place):
 
 def test_a_file_that_is_in_use_may_be_waited_for(place):
     with place.made() as store:
-        assert "in-use" in errors(place, "ls", "store", status=1)
+        assert "store is in use" in errors(place, "ls", "store", status=1)
         with subprocess.Popen(place.words("ls", "store", "--wait", "30"), stdout=subprocess.PIPE, cwd=place.folder,
                               env=place.environment()) as waiting:
             store.create("d", 1)
@@ -379,11 +383,11 @@ def test_what_cannot_be_written_is_told(place):
 def test_nobody_reads_what_is_written(place):
     with place.made() as store:
         store.group([jpstore.create(f"n{number}", "x" * 4000) for number in range(200)])
-    with subprocess.Popen(place.words("dump", "store"), stdout=subprocess.PIPE, stderr=subprocess.PIPE,
-                          cwd=place.folder, env=place.environment()) as dumping:
-        dumping.stdout.close()
-        assert dumping.stderr.read() == b""
-        assert dumping.wait() == 1
+    for command in ("dump", "ls"):
+        with subprocess.Popen(place.words(command, "store"), stdout=subprocess.PIPE, stderr=subprocess.PIPE,
+                              cwd=place.folder, env=place.environment()) as writing:
+            writing.stdout.close()
+            assert (writing.stderr.read(), writing.wait()) == (b"", 1)
     with Store(place.file, program=place.program, wait=5) as store:
         assert len(store.names()) == 200
 

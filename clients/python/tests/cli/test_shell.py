@@ -91,7 +91,7 @@ def test_commands_are_done(place):
 def test_a_refusal_is_shown_with_what_to_do(place):
     place.format()
     place.shows("store", given=b"cat shelf\nnew d 1\n", output="done, change 1\n", status=1,
-                errors="get shelf: 21 no-document: no document has that name\n"
+                errors="line 1: get shelf: 21 no-document: no document has that name\n"
                        "  what to do: list the names, and compare\n")
 
 
@@ -101,10 +101,15 @@ def test_what_is_no_command_is_told(place):
         (b"frob", "no command is called frob (`help` lists them)\n"),
         (b"lst", "no command is called lst; did you mean ls? (`help` lists them)\n"),
         (b"delete d", "no command is called delete; did you mean rm? (`help` lists them)\n"),
-        (b"grow larger", "`grow` is for the command line: `jpstore-cli grow --help`\n"),
+        (b"grow larger", "`grow` is for the command line: `python3 -m jpstore grow --help`\n"),
         (b"watch", "only the store of a hub can be watched: serve the file by a hub, and connect to its socket\n"),
         (b"watch x", "SINCE is a number, as 41\n"), (b"ls --prefix", "the value of --prefix is missing\n"),
-        (b"schema d --to", "the value of --to is missing\n"), (b"schema a b c", "what is `c` for?\n"),
+        (b"schema d --to", "the value of --to is missing\n"),
+        (b"schema --prefix d", "`--to FILE` is missing\n"),
+        (b"schema --prefix d a.json",
+         "what is `a.json` for? `schema --prefix PREFIX --to FILE` puts documents under another\n"),
+        (b"rm d --if-rev", "the value of --if-rev is missing\n"), (b"rm d /a /b", "what is `/b` for?\n"),
+        (b"schema a b c", "what is `c` for?\n"),
         (b"schema --prefix x --to nowhere", "no document's name begins with x\n"),
         (b"ls x", "what is `x` for?\n"),
         (b"cat", "NAME is missing\n"),
@@ -118,15 +123,16 @@ def test_what_is_no_command_is_told(place):
         (b"help frob", "no command is called frob\n"),
     ]
     for line, errors in rows:
-        place.shows("store", given=line + b"\n", errors=errors, status=1)
+        place.shows("store", given=line + b"\n", errors="line 1: " + errors, status=1)
 
 
 def test_help_has_the_form_of_each_command(place):
     place.format()
     shown_help = place.run("store", given=b"help\nhelp set\n").stdout.decode()
     for form in ("ls [--prefix PREFIX]:", "get NAME [POINTER]:", "cat NAME [POINTER]:", "find NAME QUERY:",
-                 "new NAME [SCHEMA-FILE] DOC,", "rm NAME [POINTER]:", "set NAME POINTER VALUE:", "rev NAME:",
-                 "schema NAME [FILE]:", "status:", "snapshot:", "quit:", "exit:", "the place after its last."):
+                 "new NAME [SCHEMA-FILE] DOC,", "rm NAME [POINTER] [--if-rev N]:", "set NAME POINTER VALUE:",
+                 "rev NAME:", "schema NAME [FILE]:", "status:", "snapshot:", "quit:", "exit:",
+                 "the place after its last."):
         if form not in shown_help:
             pytest.fail(f"{form} isn't in {shown_help}")
 
@@ -141,8 +147,7 @@ def test_status_says_how_full_it_is(place):
 def test_a_file_that_is_no_store_is_told(place):
     place.text("store", "x" * 4096)
     errors = place.run("store", status=1).stderr.decode()
-    if "ended with status 1: jpstore: not-a-store (72): the file does not begin as a store does" not in errors:
-        pytest.fail(errors)
+    assert errors.startswith("store: not-a-store (72): the file does not begin as a store does")
 
 
 def test_values_are_shown_readably():
@@ -158,13 +163,13 @@ class Terminal(io.StringIO):
 
 
 def test_work_over_a_second_has_a_line():
-    for stream, pattern in ((io.StringIO(), r"(dump: [1-9] s, 3 of 9 documents\n)+"),
-                            (Terminal(), r"(\rdump: [1-9] s, 3 of 9 documents)+\r +\r")):
-        with Progress("dump", "documents", 9, stream) as progress:
-            progress.step(3)
-            until(stream.getvalue, "the line")
-        if not re.fullmatch(pattern, stream.getvalue()):
-            pytest.fail(repr(stream.getvalue()))
+    log, stream = io.StringIO(), Terminal()
+    with Progress("dump", "documents", 9, log), Progress("dump", "documents", 9, stream) as progress:
+        progress.step(3)
+        until(stream.getvalue, "the line")
+    if not re.fullmatch(r"(\rdump: [1-9] s, 3 of 9 documents)+\r +\r", stream.getvalue()):
+        pytest.fail(repr(stream.getvalue()))
+    assert log.getvalue() == ""
     with Progress("dump", stream=stream) as progress:
         before = stream.getvalue()
     assert stream.getvalue() == before
@@ -230,7 +235,8 @@ find --all $[?@ == 2]
 patch a [{"op":"remove","path":"/n"}]
 patch a --merge {"m": 3}
 get a
-put a []
+put a --if-rev 5 []
+find --all --prefix b $[?@ == 2]
 schema a b --to list.json
 schema --prefix a --to list.json
 schema b
@@ -256,6 +262,7 @@ done, change 4
 done, change 5
 {"m": 3}
 done, change 6
+b  $[0]  2
 done, changes 7 to 8
 done, change 9
 {"type": "array"}
@@ -372,9 +379,9 @@ def test_a_transaction_that_is_refused_is_over(place):
     assert shown_all.stdout.decode() == ("done, change 1\nnoted, 1 change\nnoted, 2 changes\n{}\nnoted, 1 change\n"
                                          'done, change 2\n{"a": 2}\n')
     assert shown_all.stderr.decode() == (
-        "create d: 20 exists, change 1: a document of that name exists already\n"
+        "line 5: create d: 20 exists, change 1: a document of that name exists already\n"
         "  what to do: choose another name, or patch the document that exists\n"
-        "nothing is made: forgotten, 2 changes\nno transaction is begun\n")
+        "nothing is made: forgotten, 2 changes\nline 6: no transaction is begun\n")
 
 
 def test_a_script_commits_nothing_after_a_line_that_was_refused(place):
@@ -386,20 +393,20 @@ def test_a_script_commits_nothing_after_a_line_that_was_refused(place):
                          (b"cat e", "get e: 21 no-document: no document has that name\n"
                                     "  what to do: list the names, and compare\n")):
         place.shows("store", given=b"begin\nnew d {}\n" + line + b"\ncommit\nls\n", output="noted, 1 change\n",
-                    errors=errors + "a line since `begin` was refused, so nothing is made\n", status=1)
+                    errors=f"line 3: {errors}line 4: a line since `begin` was refused, so nothing is made\n", status=1)
 
 
 def test_how_a_transaction_is_begun_and_ended_is_told(place):
     place.format()
-    place.shows("store", given=b"commit\n", errors="no transaction is begun\n", status=1)
-    place.shows("store", given=b"abort\n", errors="no transaction is begun\n", status=1)
+    place.shows("store", given=b"commit\n", errors="line 1: no transaction is begun\n", status=1)
+    place.shows("store", given=b"abort\n", errors="line 1: no transaction is begun\n", status=1)
     place.shows("store", given=b"begin\nabort\nbegin\ncommit\n", output="forgotten, 0 changes\n", status=1,
-                errors="there is no change since `begin`\n")
+                errors="line 4: there is no change since `begin`\n")
     place.shows("store", given=b"begin\nbegin\n", status=1, errors=(
-        "a transaction is begun already: end it by `commit` or `abort`\n"
+        "line 2: a transaction is begun already: end it by `commit` or `abort`\n"
         "the transaction was not committed: forgotten, 0 changes\n"))
     place.shows("store", given=b"begin\nnew d {}\nrm d\nset d /a 1\n", output="noted, 1 change\nnoted, 2 changes\n",
-                status=1, errors="the transaction has deleted d\n"
+                status=1, errors="line 4: the transaction has deleted d\n"
                                  "the transaction was not committed: forgotten, 2 changes\n")
     place.shows("store", given=b"begin\nnew d {}\nquit\n", output="noted, 1 change\n", status=1,
                 errors="the transaction was not committed: forgotten, 1 change\n")

@@ -1,4 +1,5 @@
 """The client of a hub: it waits, it connects again, and it never sends a change twice."""
+import asyncio
 import contextlib
 import os
 import pathlib
@@ -8,7 +9,7 @@ import threading
 import time
 
 import pytest
-from jpstore import AccessError, Conflict, Ended, JpstoreError, Store, TimedOut, create
+from jpstore import AccessError, AsyncStore, Conflict, Ended, JpstoreError, Store, TimedOut, create
 from jpstore.edits import put
 from serving import FakeHub, RealHub
 from support import PATIENCE, SILENCE, raised
@@ -213,3 +214,57 @@ def test_a_subclass_connects(place):
             self.title = title
     with FakeHub(place.path("fake")) as hub, Named.connect(hub.path) as store:
         assert (type(store), store.title) == (Named, "none")
+
+
+class Closing(FakeHub):
+    """It closes each connection at the first question, as often as it is told, and answers `rev` with 7 then."""
+
+    def __init__(self, path, times):
+        super().__init__(path)
+        self.times = times
+
+    def _answer(self, connection, command):
+        if command != {"cmd": "status"} and self.times:
+            self.times -= 1
+            return False
+        self._answers = [{"ok": True, "rev": 7}]
+        return super()._answer(connection, command)
+
+
+def test_a_question_is_asked_again_as_long_as_the_hub_is_waited_for(place):
+    with Closing(place.path("fake"), 8) as hub, Store.connect(hub.path, wait=PATIENCE) as store:
+        assert (store.rev("d"), hub.times) == (7, 0)
+    with Closing(place.path("fake"), 10 ** 9) as hub, Store.connect(hub.path, wait=0.5) as store:
+        begin = time.monotonic()
+        raised(Ended, store.rev, "d")
+        assert 0.5 <= time.monotonic() - begin < PATIENCE and 10 ** 9 - hub.times > 2
+        raised(Ended, store.once, "k", [])
+
+
+def test_a_question_over_asyncio_is_asked_again_as_long_as_the_hub_is_waited_for(place):
+    async def asked(path, wait):
+        async with AsyncStore.connect(path, wait=wait) as store:
+            return await asyncio.gather(store.rev("d"), store.rev("e"))
+    with Closing(place.path("fake"), 8) as hub:
+        assert (asyncio.run(asked(hub.path, PATIENCE)), hub.times) == ([7, 7], 0)
+    with Closing(place.path("fake"), 10 ** 9) as hub:
+        begin = time.monotonic()
+        with pytest.raises(Ended):
+            asyncio.run(asked(hub.path, 0.5))
+        assert 0.5 <= time.monotonic() - begin < PATIENCE and 10 ** 9 - hub.times > 2
+
+
+def test_the_command_line_waits_for_a_hub_that_has_not_started(place):
+    place.format()
+    hubs = []
+    late = threading.Timer(0.5, lambda: hubs.append(RealHub(place)))
+    late.start()
+    try:
+        place.shows("--wait", "30", "new", "socket", "d", "1", output="done, change 1\n")
+        place.shows("get", "socket", "d", output="1\n")
+    finally:
+        late.join()
+        hubs[0].kill()
+    begin = time.monotonic()
+    assert b"nowhere: No such file or directory" in place.run("ls", "nowhere", "--wait", "0.5", status=1).stderr
+    assert time.monotonic() - begin > 0.5

@@ -55,7 +55,7 @@ def test_clients_of_a_hub_and_the_shell_say_why(place):
         assert places(refused.why()) == [("", "/maximum")]
         ended = place.run("socket", given=b"new d schema.json 6\n", status=1)
         assert ended.stderr.decode().splitlines() == [
-            "create d: 45 invalid: the document, as the change would leave it, is not valid under its schema",
+            "line 1: create d: 45 invalid: the document, as the change would leave it, is not valid under its schema",
             "  why: the document: 6 is greater than the maximum of 5 (schema `/maximum`)",
             "  what to do: " + refused.advice]
 
@@ -66,9 +66,9 @@ def test_a_reason_outlives_the_store(place):
             store.create("d", 1, {"maximum": 5})
             store.patch("d", [{"op": "replace", "path": "", "value": 6}])
     assert places(caught.value.why()) == [("", "/maximum")]
-    told = place.run("set", "store", "d", "", "6", status=5).stderr.decode()
+    told = place.run("set", "store", "d", "", "6", "--whole", status=5).stderr.decode()
     assert "  why: the document: 6 is greater than the maximum of 5 (schema `/maximum`)\n" in told
-    told = json.loads(place.run("set", "store", "d", "", "6", "--json", status=5).stderr)
+    told = json.loads(place.run("set", "store", "d", "", "6", "--whole", "--json", status=5).stderr)
     assert told["why"] == "the document: 6 is greater than the maximum of 5 (schema `/maximum`)"
 
 

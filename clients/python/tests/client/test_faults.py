@@ -25,11 +25,11 @@ _SCHEMAS = [
     ({"properties": {"a": {"pattern": "^a"}}}, 41, "/properties/a/pattern", "`pattern` is not supported; `enum`"),
     ({"$defs": {"a": {"patternProperties": {}}}}, 41, "/$defs/a/patternProperties", "`properties` has the members"),
     ({"items": {"$id": "x"}}, 41, "/items/$id", "`$id` is for the root only"),
-    ({"$schema": _OLD}, 41, "/$schema", "`jpstore-cli schema adapt` translates earlier drafts"),
+    ({"$schema": _OLD}, 41, "/$schema", "`python3 -m jpstore schema adapt` translates earlier drafts"),
     ({"properties": {"a": {"$ref": "#/definitions/b"}}}, 42, "/properties/a/$ref", "put that schema under `$defs`"),
     ({"$ref": "#/definitions/b", "$defs": {"b": {}}}, 42, "/$ref", "write `#/$defs/b`"),
     ({"$ref": "#/$defs/adress", "$defs": {"address": {}}}, 42, "/$ref", "perhaps `#/$defs/address` is meant"),
-    ({"$ref": "other.json"}, 42, "/$ref", "as `jpstore-cli schema adapt` does with files"),
+    ({"$ref": "other.json"}, 42, "/$ref", "as `python3 -m jpstore schema adapt` does with files"),
     ({"$defs": {"a": {"allOf": [{"$ref": "#/$defs/a"}]}}}, 43, "/$defs/a", "leads back to it for the same value"),
 ]
 

@@ -10,7 +10,6 @@ import shlex
 import shutil
 import signal
 import subprocess
-import sys
 
 import jpstore
 import pytest
@@ -146,13 +145,10 @@ def test_the_unit_of_the_guide_starts_a_hub(place):
     place.format()
     for unit in units:
         words = shlex.split(re.search(r"^ExecStart=(.*)$", unit, re.M)[1])
-        begin = words.index("hub")
-        assert words[:begin] in (["/opt/jpstore/bin/jpstore-cli"], ["/usr/bin/python3", "-I", "-m", "jpstore"])
         places = {"/var/lib/jpstore/inventory/store": place.file, "/run/jpstore/inventory/socket": place.path("socket"),
-                  "/usr/local/bin/jpstore": place.program}
-        words = [places.get(word, word) for word in words[begin:]]
+                  **dict.fromkeys(["/usr/local/bin/jpstored", "/usr/bin/jpstored"], os.environ["JPSTORE_SERVER"])}
         environment = {**place.environment(), "PATH": os.path.dirname(place.program) + os.pathsep + os.environ["PATH"]}
-        with _Running(place, environment, [sys.executable, "-m", "jpstore", *words]) as running:
+        with _Running(place, environment, [places.get(word, word) for word in words]) as running:
             assert running.lines(1) == f"{place.file} is served at {place.path('socket')}\n"
             # systemd ends it by SIGTERM.
             assert running.ended_by(signal.SIGTERM) == 0

@@ -23,8 +23,26 @@ def test_a_keyword_with_a_wrong_letter_is_told():
     assert notices_of_schema({"minimun": 3})[0].endswith("perhaps `minimum` is meant")
 
 
+@pytest.mark.parametrize("word, meant", [
+    ("property", "properties"), ("additionalProperty", "additionalProperties"), ("min", "minimum"),
+    ("maxLen", "maxLength"), ("unique", "uniqueItems"), ("nullable", '"null"` in a list of `type'), ("unit", None),
+    ("port", None),
+])
+def test_a_name_that_is_no_keyword_is_told(word, meant):
+    hint = f": perhaps `{meant}` is meant" if meant else ""
+    assert notices_of_schema({"properties": {"a": {word: {}}}}) == [
+        f"schema /properties/a/{word}: `{word}` is not a keyword, and is ignored{hint}"]
+
+
+def test_a_warning_that_is_an_error_stops_the_change(place):
+    with place.made() as store, warnings.catch_warnings():
+        warnings.simplefilter("error", JpstoreWarning)
+        raised(JpstoreWarning, store.create, "a", 1, {"property": {}})
+        assert store.names() == []
+
+
 def test_what_is_no_mistake_is_not_told():
-    schema = {"title": "a", "x-note": 1, "unit": "mm", "const": {"tpye": 1}, "enum": [{"minimun": 1}],
+    schema = {"title": "a", "x-note": 1, "const": {"tpye": 1}, "enum": [{"minimun": 1}],
               "default": {"formt": 1}, "properties": {"format": True, "requird": False},
               "dependentRequired": {"tpye": []}}
     assert notices_of_schema(schema) == []
@@ -38,8 +56,12 @@ def test_the_longest_schemas_take_little():
     assert all(len(notice) < 1200 for notice in told)
     # No word of these is near a keyword, but some begin as one.
     begin = time.process_time()
-    assert notices_of_schema({f"abcde{number:06}": 1 for number in range(100_000)}) == []
-    assert notices_of_schema({"properties": {"x" * 500_000: {f"y{number}": 1 for number in range(100_000)}}}) == []
+    for many in ({f"abcde{number:06}": 1 for number in range(100_000)},
+                 {"properties": {"x" * 500_000: {f"y{number}": 1 for number in range(100_000)}}},
+                 {"properties": {"a" * 500_000: {"b" * 500_000: 1}}},
+                 {f"x-{number}": 1 for number in range(100_000)}):
+        told = notices_of_schema(many)
+        assert len(told) <= 100 and all(len(notice) < 2200 for notice in told)
     assert time.process_time() - begin < 5
 
 
@@ -49,12 +71,17 @@ def test_format_is_told():
 
 
 def test_keywords_of_earlier_drafts_are_told(place):
-    schema = {"dependencies": {"a": ["b"]}, "items": {"additionalItems": False}, "not": {"$recursiveRef": "#"}}
+    schema = {"dependencies": {"a": ["b"]}, "items": {"additionalItems": False}, "not": {"$recursiveRef": "#"},
+              "id": "a", "properties": {"a": {"divisibleBy": 2, "disallow": "any", "extends": {}}}}
     said = "is a keyword of earlier drafts, and is ignored: use"
     assert sorted(notices_of_schema(schema)) == [
         f"schema /dependencies: `dependencies` {said} `dependentRequired`",
+        f"schema /id: `id` {said} `$id`",
         f"schema /items/additionalItems: `additionalItems` {said} `prefixItems` and `items`",
-        f"schema /not/$recursiveRef: `$recursiveRef` {said} `$ref`"]
+        f"schema /not/$recursiveRef: `$recursiveRef` {said} `$ref`",
+        f"schema /properties/a/disallow: `disallow` {said} `not`",
+        f"schema /properties/a/divisibleBy: `divisibleBy` {said} `multipleOf`",
+        f"schema /properties/a/extends: `extends` {said} `allOf`"]
     with place.made() as store, pytest.warns(JpstoreWarning):
         # The store accepts them, as JSON Schema 2020-12 has it for names that it doesn't know.
         store.create("a", {"a": 1}, {"dependencies": {"a": ["b"]}})

@@ -66,9 +66,23 @@ def test_old_notes_go(place):
         store.once("more", [], keep=1)
         assert notes_of(store) == ["more"]
         for number in range(105):
-            store.once(str(number), [])
+            store.once(str(number), [], keep=100)
         assert notes_of(store) == [str(number) for number in range(5, 105)]
         raised(JpstoreError, store.once, "k", [], keep=0)
+
+
+def test_a_job_that_restarts_from_its_beginning_finds_its_keys(place):
+    with made(place, batch=64) as store:
+        first = store.once("order-0", [one_more("d")])
+        for number in range(1, 300):
+            store.once(f"order-{number}", [])
+        assert (store.once("order-0", [one_more("d")]), store.get("d")) == (first, ["x"])
+        # As said of `keep`: what is over it is forgotten.
+        for number in range(300, 1000):
+            store.once(f"order-{number}", [])
+        assert store.noted("order-0") == first
+        store.once("order-1000", [])
+        assert (store.noted("order-0"), len(notes_of(store))) == (None, 1000)
 
 
 def test_a_refusal_counts_the_changes_of_the_call_and_notes_nothing(place):

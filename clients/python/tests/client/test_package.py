@@ -17,9 +17,8 @@ BEFORE = {
         "AccessError AsyncStore Broken Change Conflict Document Ended Fault Full Gone Invalid JpstoreError "
         "JpstoreWarning LoadStopped Malformed Moment NoMemory Node NotFound Outdated Pumped REFUSALS Refusal "
         "Refused Status Store TimedOut TooLarge Unsendable Watch __version__ check_file copy_file create "
-        "delete dump explain format_file grow load patch run_hub set_schema transaction upgrade_file",
+        "delete dump explain format_file grow load patch set_schema transaction upgrade_file",
     "jpstore.cli": "exit_status main",
-    "jpstore.hub": "Hub run_hub serve_hub",
     "jpstore.embedded": "SECTORS Embedded embedded_version format_embedded",
     "jpstore.errors":
         "AccessError Broken Conflict Ended Full Invalid JpstoreError JpstoreWarning Malformed NoMemory "
@@ -47,7 +46,7 @@ def test_what_could_be_imported_can_be(module):
 
 def test_all_that_is_public_is_there():
     assert all(hasattr(jpstore, name) for name in jpstore.__all__)
-    for name in ("AsyncStore", "dump", "load", "grow", "run_hub", "__version__"):
+    for name in ("AsyncStore", "dump", "load", "grow", "__version__"):
         assert name in jpstore.__all__
     for value in map(jpstore.__dict__.get, jpstore.__all__):
         if isinstance(value, type) and issubclass(value, Exception) and not issubclass(value, Warning):
@@ -60,14 +59,36 @@ def test_the_program_has_the_version_of_the_package(program):
     assert told.group(1).decode() == jpstore.__version__
 
 
-def test_the_gateway_names_what_it_needs(place):
-    place.text("aiohttp.py", "raise ModuleNotFoundError('none', name='aiohttp')")
-    path = os.pathsep.join([place.folder, PACKAGE])
-    ended = subprocess.run(place.words("http", place.file), env={**place.environment(), "PYTHONPATH": path},
-                           stdout=subprocess.PIPE, stderr=subprocess.PIPE, check=False)
-    assert ended.returncode == 1
-    assert ended.stderr.decode() == ("the gateway needs aiohttp: pip install 'aiohttp>=3.8', or apt-get install "
-                                     "python3-aiohttp\n")
+def test_the_server_has_the_version_of_the_package(server):
+    assert subprocess.check_output([server, "--version"]).decode() == f"jpstored {jpstore.__version__}\n"
+
+
+HOW_TO_GET = (": it is in the Debian package jpstore, and `./build` of a clone puts it beside the program; "
+              "JPSTORE_SERVER names one at another place\n")
+
+
+@pytest.mark.parametrize("words", [["http"], ["hub", "--socket", "socket"]], ids=lambda words: words[0])
+def test_who_has_no_server_is_told_how_to_get_it(place, words):
+    environment = {**place.environment(), "PATH": place.folder, "JPSTORE_SERVER": ""}
+    started = place.words(words[0], place.file, *words[1:])
+    for found, named in (("jpstored is not on PATH", ""), ("nothing is not a program", "nothing")):
+        words = [*started[:-2], "--program", sys.executable]
+        ended = subprocess.run(words, env={**environment, "JPSTORE_SERVER": named}, stdout=subprocess.PIPE,
+                               stderr=subprocess.PIPE, check=False)
+        assert (ended.returncode, ended.stderr.decode()) == (1, found + HOW_TO_GET)
+
+
+def test_the_server_beside_the_program_is_taken(place, server):
+    os.mkdir(place.path("bin"))
+    for name, path in (("jpstore", place.program), ("jpstored", server)):
+        os.symlink(path, place.path(f"bin/{name}"))
+    for environment, program in (({"PATH": place.path("bin")}, None), ({"PATH": "/"}, place.path("bin/jpstore"))):
+        words = [sys.executable, "-m", "jpstore", "hub", "--help"]
+        assert subprocess.call(words, env={**place.environment(), **environment}, stdout=subprocess.DEVNULL) == 0
+        found = subprocess.check_output(
+            [sys.executable, "-c", f"from jpstore import server; print(server.find_server({program!r}))"],
+            env={**place.environment(), "JPSTORE_SERVER": "", **environment})
+        assert found.decode() == place.path("bin/jpstored") + "\n"
 
 
 def test_no_text_of_the_package_installs_one_by_its_name():
@@ -106,6 +127,5 @@ def test_it_is_installed_without_a_network(place):
     code = "import importlib.metadata, jpstore; print(importlib.metadata.version('jpstore'), jpstore.__path__[0])"
     version, folder = subprocess.check_output([python, "-c", code], env=clean).decode().split()
     assert version == jpstore.__version__
-    page = [f"gateway/page/{name}" for name in ("index.html", "page.css", "page.js")]
-    for file in ("py.typed", "gateway/gateway.py", *page):
+    for file in ("py.typed", "replica/node.py"):
         assert os.path.exists(os.path.join(folder, file)), file

@@ -38,9 +38,15 @@ def test_it_is_read_as_a_decimal_again(place):
     ({"price": "0.10" + "0" * 40 + "1"}, "has more than 2 places"), ({"price": True}, "/price: True is no number"),
     ({"price": Decimal("1E+999999999")}, "beyond 64 bits"), ({"price": []}, "/price: [] is no number"),
     ({"price": Decimal("Infinity")}, "is no number"),
+    ([{"price": 1, "price_e2": 100}], "/0/price_e2: another member is `price_e2` in the store too"),
 ])
 def test_what_has_no_such_number_is_told(value, said):
     assert said in str(raised(Unsendable, MONEY.stored, value))
+
+
+def test_what_is_no_number_of_a_program_is_read_as_it_is():
+    for value in ({"price_e2": 5, "price": 7}, {"price_e02": 5}, {"price_e2": True}, {"price_e2": None}):
+        assert MONEY.read(value) == value
 
 
 def test_a_schema_has_the_names_of_the_store():

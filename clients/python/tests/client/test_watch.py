@@ -218,7 +218,7 @@ def test_a_number_of_another_store_is_gone(place):
     place.format()
     with Hub(place) as hub:
         gone = raised(Gone, Watch, hub.path, 7)
-        assert (gone.since, "changes after 7 are gone" in str(gone)) == (0, True)
+        assert (gone.since, "the store has no change 7, " in str(gone)) == (0, True)
         with hub.connect() as store:
             store.group([{"cmd": "create", "doc": 1, "name": f"n{n}", "schema": True} for n in range(9)])
         watch = Watch(hub.path, 7)

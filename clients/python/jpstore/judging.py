@@ -1,0 +1,80 @@
+"""The process that tells why lines are refused, for the server `jpstored` at the other end of its pipes.
+
+Each line of its input has the number of a refusal, the command, the changes before it in its transaction, and the
+document and the schema that the store has, if they are needed. Each is answered with an object in a line: `detail`, a
+text that tells the place of the fault, and `errors`, the faults of a document that is not valid, or null. A schema may
+take the library very long, so a process looks, whose processor time and memory are limited by the system.
+"""
+import contextlib
+import importlib
+import json
+import math
+import resource
+import sys
+import time
+from typing import Any, BinaryIO, Dict, List, Optional
+
+from .errors import JpstoreError
+from .explain import faults_of
+from .faults import detail_of
+
+__all__ = ["main"]
+
+# The most faults of an answer.
+_MOST = 20
+
+# How much processor time one document may take, in whole seconds as the system counts it, and how much memory all may.
+_SECONDS, _MEMORY = 1, 1 << 29
+
+# The refusal of a document that is not valid.
+_INVALID = 45
+
+# The longest line of faults that is answered, in bytes.
+_MOST_ANSWER = 1 << 20
+
+
+def main() -> None:
+    """Answers lines until its input ends."""
+    _limit(resource.RLIMIT_AS, _MEMORY)
+    _limit(resource.RLIMIT_CORE, 0)
+    with contextlib.suppress(ImportError):
+        # They take as long as many documents do.
+        for library in ("jsonschema", "jsonpatch"):
+            importlib.import_module(library)
+    _answer(sys.stdout.buffer, b"ready")
+    for line in sys.stdin.buffer:
+        _limit(resource.RLIMIT_CPU, math.ceil(time.process_time()) + _SECONDS)
+        text = json.dumps(_told(json.loads(line))).encode()
+        _answer(sys.stdout.buffer, text if len(text) <= _MOST_ANSWER else b"null")
+
+
+def _told(asked: Dict[str, Any]) -> Dict[str, Any]:
+    number: int = asked["number"]
+    detail = ""
+    with contextlib.suppress(RecursionError, MemoryError):
+        detail = detail_of(number, asked["command"])
+    return {"detail": detail, "errors": _faults(asked) if number == _INVALID else None}
+
+
+def _faults(asked: Dict[str, Any]) -> Optional[List[Dict[str, str]]]:
+    pair: List[Any] = asked["pair"]
+    try:
+        found = faults_of(asked["command"], lambda: pair, _MOST, asked["before"])
+    except (JpstoreError, RecursionError, MemoryError):
+        return None
+    return [{"place": fault.place, "keyword": fault.keyword, "detail": fault.message} for fault in found]
+
+
+def _limit(what: int, most: int) -> None:
+    """Sets a limit, which is raised again for the next document, so the greatest possible one stays."""
+    _, hard = resource.getrlimit(what)
+    resource.setrlimit(what, (most if hard == resource.RLIM_INFINITY else min(most, hard), hard))
+
+
+def _answer(output: BinaryIO, text: bytes) -> None:
+    output.write(text + b"\n")
+    output.flush()
+
+
+if __name__ == "__main__":
+    main()
