@@ -10,6 +10,7 @@ ghost use Rattle.doc_tree.specs.TreeView.{view};
 use crate::change::{Change, change_at};
 use crate::spare::Spare;
 use doc_tree::Tree;
+use name_map::Name;
 use std::alloc::Global;
 use std::mem;
 
@@ -40,7 +41,7 @@ pub struct Origin {
     /// The tokens that lead there.
     pub path: Vec<String>,
     /// The last of them.
-    pub name: String,
+    pub name: Name,
     /// Room in the object or array that holds the place.
     pub spare: Spare,
 }

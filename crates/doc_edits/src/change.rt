@@ -13,6 +13,7 @@ use crate::index::index_within;
 use crate::spare::Spare;
 use crate::{elements, members};
 use doc_tree::Tree;
+use name_map::Name;
 use std::alloc::Global;
 
 /// What is done at a place.
@@ -26,7 +27,7 @@ pub enum Change {
     Replace(Tree),
     /// The value comes back to where it was, in the room that was kept for it, if it is a member under that name.
     Return {
-        name: String,
+        name: Name,
         spare: Spare,
         value: Tree,
     },

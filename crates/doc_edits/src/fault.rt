@@ -4,6 +4,7 @@ ghost use Rattle.std.specs.Prelude.{◌≡◌, None, Some};
 ghost use Rattle.doc_edits.specs.declared.fault.TheConstants.{MISSING};
 
 use doc_tree::Tree;
+use name_map::Name;
 use refusals::numbers::{MEMORY, PATCH_MISSING};
 use std::alloc::{AllocError, AllocFailed};
 
@@ -91,13 +92,13 @@ impl From<AllocFailed<Tree>> for Unmade {
     }
 }
 
-impl From<AllocFailed<(String, Tree)>> for Unmade {
+impl From<AllocFailed<(Name, Tree)>> for Unmade {
     ghost use Rattle.std.specs.Prelude.{◌≡◌, Some};
     ghost use Rattle.doc_edits.specs.declared.fault.TheConstants.{NO_MEMORY};
 
     ghost from_gives = { λ refused unmade. unmade ≡ record { fault = NO_MEMORY; value = Some refused.value.1 } };
 
-    fn from(refused: AllocFailed<(String, Tree)>) -> Unmade {
+    fn from(refused: AllocFailed<(Name, Tree)>) -> Unmade {
         let (_name, value) = refused.value;
         Unmade {
             fault: NO_MEMORY,

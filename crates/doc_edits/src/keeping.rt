@@ -12,6 +12,7 @@ use crate::back::{Back, Origin};
 use crate::spare::spare_at;
 use doc_pointer::child_at;
 use doc_tree::Tree;
+use name_map::Name;
 use std::alloc::{AllocError, Global};
 
 /// The whole document as it is, to be put back.
@@ -39,7 +40,7 @@ pub fn origin_of(alloc: Global, tree: &Tree, path: &[String]) -> Result<Option<O
     let last = last_of(token.as_str(), rest);
     Ok(Some(Origin {
         path: copy_path(alloc, path)?,
-        name: String::from_str(alloc, last)?,
+        name: Name::copy_of(alloc, last)?,
         spare,
     }))
 }

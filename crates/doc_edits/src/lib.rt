@@ -20,6 +20,7 @@ pub mod laws;
 pub mod limits;
 mod members;
 mod moving;
+mod neighbour;
 mod operation;
 pub mod place;
 mod size_change;

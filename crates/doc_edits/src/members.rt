@@ -17,7 +17,7 @@ use crate::fault::{MISSING, NO_MEMORY, Unmade};
 use crate::limits::DOCUMENT_BYTES;
 use crate::spare::Spare;
 use doc_tree::{Tree, quoted_len_within};
-use name_map::NameMap;
+use name_map::{Name, NameMap};
 use std::alloc::Global;
 use std::mem;
 
@@ -46,7 +46,7 @@ pub fn add(
         None => {}
     }
     let has_others = !members.is_empty();
-    let key = match String::from_str(alloc, name) {
+    let key = match Name::copy_of(alloc, name) {
         Ok(key) => key,
         Err(_) => return Err(Unmade::of(NO_MEMORY, value)),
     };
@@ -107,7 +107,7 @@ pub fn replace(members: &mut NameMap<Tree>, name: &str, value: Tree) -> Result<M
 /// Puts a member back that went, into the room that was kept for it. It takes no memory.
 pub fn put_in(
     members: &mut NameMap<Tree>,
-    name: String,
+    name: Name,
     spare: Spare,
     value: Tree,
 ) -> Result<Made, Unmade>

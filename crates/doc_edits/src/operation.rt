@@ -15,6 +15,7 @@ ghost use Rattle.doc_tree.specs.TreeView.{view};
 use crate::fault::{MISSING, OperationFault};
 use crate::limits::check_limits;
 use crate::moving::move_value;
+use crate::neighbour::neighbour_at;
 use crate::place;
 use crate::place::Exchanged;
 use crate::size_change::{
@@ -118,7 +119,7 @@ pub fn perform<'a>(
         Operation::Add { path, value } => Ok(Done::of(add(alloc, tree, path, value)?)),
         Operation::Remove { path } => Ok(Done::of(remove(alloc, tree, path, known)?)),
         Operation::Replace { path, value } => {
-            let value = value.copy(alloc)?;
+            let value = value.copy_like(alloc, path.resolve(tree))?;
             Ok(Done::of(place::replace(alloc, tree, path.tokens(), value)?))
         }
         Operation::Move { from, path } => {
@@ -156,7 +157,8 @@ fn add(
     ensures sound { IsSound (view tree.old) → IfOk result (λ _. IsSound (view tree.new)) }
 {
     let weight = weigh(value, KnownSize::unknown());
-    place::add(alloc, tree, path.tokens(), value.copy(alloc)?, weight)
+    let copy = value.copy_like(alloc, neighbour_at(tree, path.tokens()))?;
+    place::add(alloc, tree, path.tokens(), copy, weight)
 }
 
 // Takes away the value at the place, which is not the root.

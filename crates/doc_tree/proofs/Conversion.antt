@@ -1,7 +1,6 @@
 -- A list and a map that grow at their ends as data is turned into a document.
-use Rattle.std.proofs.Common.{◌≡◌, ℕ, ◌≤◌, Bool, true, false, List, [], ◌∷◌, ◌++◌, Option, Some, None, option_map, Result, Ok, Err, IfOk, IfErr, MatchResult, String, Global, Less, Greater, string_bytes, string_cmp, nat_cmp, refl, sym, ap, ◌∙◌, subst}
+use Rattle.std.proofs.Common.{◌≡◌, ℕ, ◌≤◌, Bool, true, false, List, [], ◌∷◌, ◌++◌, Option, Some, None, option_map, Result, Ok, Err, IfOk, IfErr, MatchResult, string_bytes, refl, sym, ap, ◌∙◌}
 use Rattle.std.proofs.lemmas.Str.{IsUtf8-from_is_utf8, is_utf8-from_IsUtf8}
-use Rattle.std.specs.List.{AllByRecursion}
 use Rattle.std.specs.Str.{IsUtf8, is_utf8}
 use Rattle.serde_json.specs.Data.{Data}
 use Rattle.serde_json.specs.Read.{read}
@@ -9,12 +8,6 @@ use Rattle.doc_tree.specs.Fault.{IsFaultOf, IsRefusalOf, refusal_of}
 use Rattle.doc_tree.specs.Read.{document, not_json, if_whole, reading_of, doc_of, read_of}
 use Rattle.doc_tree.specs.declared.fault.TreeFault.{TreeFault}
 use Rattle.refusals.specs.declared.numbers.TheConstants.{NOT_JSON}
-use Rattle.std.proofs.lemmas.Cmp.{nat_list_cmp_total}
-use Rattle.std.specs.Cmp.Lexicographic.{slice_cmp}
-use Rattle.std.specs.List.Sorted.{IsStrictlySortedBy}
-use Rattle.std.specs.Map.{keys_of}
-use Rattle.std.specs.Ordering.{ordering_reverse}
-use Rattle.std.specs.BTreeMap.{insert_entry}
 use Rattle.doc_tree.specs.Doc.{Doc, height, Elements, no_elements, element, Members, no_members, member}
 use Rattle.doc_tree.specs.TreeView.{view, elements_view, members_view}
 use Rattle.doc_tree.specs.declared.tree.Tree.{Tree}
@@ -56,34 +49,6 @@ one_more_member es e (Some rest) = ap Some (members_before-push es e rest)
 pub unmapped : {A : Type 0} (o : Option A) → o ≡ option_map (λ a. a) o
 unmapped None = refl
 unmapped (Some a) = refl
-
-keys_of-append : {X : Type 0} (es fs : List (String Global × X)) → keys_of (es ++ fs) ≡ keys_of es ++ keys_of fs
-keys_of-append [] fs = refl
-keys_of-append (e ∷ es) fs = ap (λ ks. e.0 ∷ ks) (keys_of-append es fs)
-
-below_keys : (first : String Global) (ks : List (String Global)) (k : String Global) (more : List (String Global)) → AllByRecursion (λ y. string_cmp first y ≡ Less) (ks ++ k ∷ more) → string_cmp first k ≡ Less
-below_keys first [] k more h = h.0
-below_keys first (l ∷ ks) k more h = below_keys first ks k more h.1
-
--- a key above those before it goes last
-insert_entry_last : {X : Type 0} (es : List (String Global × X)) (k : String Global) (v : X) (more : List (String Global)) → IsStrictlySortedBy string_cmp (keys_of es ++ k ∷ more)
-    → insert_entry string_cmp es k v ≡ es ++ (k, v) ∷ []
-unfolding IsStrictlySortedBy
-insert_entry_last [] k v more h = refl
-insert_entry_last (f ∷ es) k v more h =
-    let above : slice_cmp nat_cmp (string_bytes k) (string_bytes f.0) ≡ Greater =
-    nat_list_cmp_total.antisymm (string_bytes k) (string_bytes f.0) ∙ ap ordering_reverse (below_keys f.0 (keys_of es) k more h.0) in
-    rw above (ap (λ xs. f ∷ xs) (insert_entry_last es k v more h.1))
-
--- a map that has the keys of `done` takes the next key at its end
-pub next_entry : {X Y : Type 0} (found : List (String Global × X)) (done left : List (String Global × Y)) (k : String Global) (v : X) (w : Y) → keys_of found ≡ keys_of done
-    → IsStrictlySortedBy string_cmp (keys_of (done ++ (k, w) ∷ left))
-    → (insert_entry string_cmp found k v ≡ found ++ (k, v) ∷ []) × (keys_of (found ++ (k, v) ∷ []) ≡ keys_of (done ++ (k, w) ∷ []))
-next_entry found done left k v w same sorted =
-    let keys : keys_of (done ++ (k, w) ∷ left) ≡ keys_of found ++ k ∷ keys_of left = keys_of-append done ((k, w) ∷ left) ∙ ap (λ ks. ks ++ k ∷ keys_of left) (sym same) in (
-      insert_entry_last found k v (keys_of left) (subst (IsStrictlySortedBy string_cmp) keys sorted),
-      keys_of-append found ((k, v) ∷ []) ∙ ap (λ ks. ks ++ k ∷ []) same ∙ sym (keys_of-append done ((k, w) ∷ [])),
-    )
 
 -- ---- the whole text
 

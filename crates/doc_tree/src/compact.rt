@@ -3,6 +3,7 @@
 //! It states nothing of what it answers: its callers compare the tree's text with the bytes (`Tree::strip_text`), and
 //! read with `Tree::read` if nothing is answered. So all that is proved here is that it ends and never panics, whatever
 //! the bytes are.
+use crate::alike;
 use crate::strip::strip_byte;
 use crate::tree::Tree;
 use name_map::NameMap;
@@ -22,7 +23,7 @@ impl Tree {
     /// says nothing either. It is answered if there is no compact text, as soon as a name doesn't come after the one
     /// before it, and also if the text has an escape or the number -2^63, is over 127 levels deep, or memory is refused.
     pub fn read_compact(alloc: Global, bytes: &[u8]) -> Option<(Tree, &[u8])> {
-        value(alloc, MOST_LEVELS, bytes)
+        value(alloc, MOST_LEVELS, bytes, None)
     }
 }
 
@@ -43,15 +44,21 @@ fn unescaped(bytes: &[u8]) -> Option<(&str, &[u8])> {
     Some((str::from_utf8(plain).ok()?, rest))
 }
 
+// `like` is a tree that may look like the one to be read, and then shares its names with it.
 #[cycle(compact)]
-fn value(alloc: Global, levels: u32, bytes: &[u8]) -> Option<(Tree, &[u8])> {
+fn value<'b>(
+    alloc: Global,
+    levels: u32,
+    bytes: &'b [u8],
+    like: Option<&Tree>,
+) -> Option<(Tree, &'b [u8])> {
     match *bytes.first()? {
         b'"' => {
             let (text, rest) = read_unescaped(alloc, bytes)?;
             Some((Tree::Text(text), rest))
         }
-        b'[' => elements(alloc, levels.checked_sub(1)?, &bytes[1..]),
-        b'{' => members(alloc, levels.checked_sub(1)?, &bytes[1..]),
+        b'[' => elements(alloc, levels.checked_sub(1)?, &bytes[1..], like),
+        b'{' => members(alloc, levels.checked_sub(1)?, &bytes[1..], like),
         b'n' => Some((Tree::Null, bytes.strip_prefix(b"null")?)),
         b't' => Some((Tree::Bool(true), bytes.strip_prefix(b"true")?)),
         b'f' => Some((Tree::Bool(false), bytes.strip_prefix(b"false")?)),
@@ -61,14 +68,19 @@ fn value(alloc: Global, levels: u32, bytes: &[u8]) -> Option<(Tree, &[u8])> {
 
 // The elements after the opening bracket: each takes at least a byte.
 #[cycle(compact)]
-fn elements(alloc: Global, levels: u32, bytes: &[u8]) -> Option<(Tree, &[u8])> {
-    let mut items = Vec::new(alloc);
+fn elements<'b>(
+    alloc: Global,
+    levels: u32,
+    bytes: &'b [u8],
+    like: Option<&Tree>,
+) -> Option<(Tree, &'b [u8])> {
     if let Some(rest) = strip_byte(b']', bytes) {
-        return Some((Tree::List(items), rest));
+        return Some((Tree::List(Vec::new(alloc)), rest));
     }
+    let mut items: Vec<Tree> = Vec::with_capacity(alloc, alike::len_of(like)).ok()?;
     let mut next = bytes;
     for _ in 0..bytes.len() {
-        let (item, rest) = value(alloc, levels, next)?;
+        let (item, rest) = value(alloc, levels, next, alike::item(&items, like))?;
         items.push(item).ok()?;
         if let Some(rest) = strip_byte(b']', rest) {
             items.shrink_to_fit();
@@ -81,11 +93,16 @@ fn elements(alloc: Global, levels: u32, bytes: &[u8]) -> Option<(Tree, &[u8])> {
 
 // The members after the opening brace, as long as their names come in order.
 #[cycle(compact)]
-fn members(alloc: Global, levels: u32, bytes: &[u8]) -> Option<(Tree, &[u8])> {
-    let mut found = NameMap::new(alloc);
+fn members<'b>(
+    alloc: Global,
+    levels: u32,
+    bytes: &'b [u8],
+    like: Option<&Tree>,
+) -> Option<(Tree, &'b [u8])> {
     if let Some(rest) = strip_byte(b'}', bytes) {
-        return Some((Tree::Object(found), rest));
+        return Some((Tree::Object(NameMap::new(alloc)), rest));
     }
+    let mut found: NameMap<Tree> = NameMap::with_capacity(alloc, alike::len_of(like)).ok()?;
     let mut next = bytes;
     let mut last = None;
     for _ in 0..bytes.len() {
@@ -94,8 +111,10 @@ fn members(alloc: Global, levels: u32, bytes: &[u8]) -> Option<(Tree, &[u8])> {
             return None;
         }
         last = Some(name.as_bytes());
-        let (member, rest) = value(alloc, levels, strip_byte(b':', rest)?)?;
-        found.add_last(String::from_str(alloc, name).ok()?, member)?;
+        let twin = alike::member(&found, name, like);
+        let (member, rest) = value(alloc, levels, strip_byte(b':', rest)?, twin.value)?;
+        let name = alike::name_of(alloc, name, twin.name).ok()?;
+        found.add_last(name, member)?;
         if let Some(rest) = strip_byte(b'}', rest) {
             found.shrink();
             return Some((Tree::Object(found), rest));

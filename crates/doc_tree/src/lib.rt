@@ -5,6 +5,7 @@
 //! (`laws`).
 #![tactic(auto)]
 
+mod alike;
 mod compact;
 mod compare;
 mod convert;

@@ -25,7 +25,7 @@ impl Tree {
         ensures err { IfErr result (λ e. IsFaultOf e (read_of bytes.now)) }
     {
         match Value::from_slice(alloc, bytes) {
-            Ok(value) => tree_of(alloc, value),
+            Ok(value) => tree_of(alloc, value, None),
             Err(e) => match e.classify() {
                 Category::Memory => Err(TreeFault { number: MEMORY }),
                 _ => Err(TreeFault { number: NOT_JSON }),

@@ -1,10 +1,10 @@
 //! The map of names to values on its own: its order, additions at its end, entries taken out and put back.
-use name_map::NameMap;
+use name_map::{Name, NameMap};
 use std::alloc::Global;
 use std::process::Abort;
 
-fn name(rt: &impl Abort, alloc: Global, text: &str) -> String {
-    String::from_str(alloc, text).expect(rt, "room for a name")
+fn name(rt: &impl Abort, alloc: Global, text: &str) -> Name {
+    Name::copy_of(alloc, text).expect(rt, "room for a name")
 }
 
 // A map of these names to their places in the list.
@@ -63,4 +63,36 @@ fn a_taken_entry_goes_back_with_room_and_without(rt: HostRuntime) {
     map.shrink();
     map.put_back(room, name, value);
     has(&rt, &map, &all);
+}
+
+#[test]
+fn an_entry_is_found_from_any_index(rt: HostRuntime) {
+    let map = map_of(&rt, rt.alloc(), &["a", "b", "d"]);
+    for near in 0..5 {
+        let (name, value) = map.entry_near(near, "b").expect(&rt, "an entry");
+        assert_eq!(rt; name.as_str(), "b");
+        assert!(rt; *value == 1);
+        assert!(rt; map.entry_near(near, "c").is_none());
+    }
+    assert!(rt; map.last_value() == Some(&2));
+    let none = map_of(&rt, rt.alloc(), &[]);
+    assert!(rt; none.last_value().is_none());
+    assert!(rt; none.entry_near(0, "").is_none());
+}
+
+#[test]
+fn a_shared_name_stays_as_long_as_one_map_has_it(rt: HostRuntime) {
+    let alloc = rt.alloc();
+    let map = map_of(&rt, alloc, &["a", "b"]);
+    let mut other = NameMap::new(alloc);
+    for (name, value) in map.named() {
+        let again = name.share().expect(&rt, "one more");
+        other
+            .add_last(again, *value)
+            .expect(&rt, "room for an entry");
+    }
+    drop(map);
+    has(&rt, &other, &[("a", 0), ("b", 1)]);
+    drop(other.remove("a"));
+    has(&rt, &other, &[("b", 1)]);
 }

@@ -1,5 +1,5 @@
 //! The map, and what is found and changed in it by a name.
-ghost use Rattle.std.specs.Prelude.{◌≡◌, ◌↔◌, ◌<◌, ◌≤◌, ◌+◌, ◌^◌, [], ◌∷◌, ◌++◌, length, is_some, IfOk, IfErr, IfSome, IfNone, IsTrue, IsOk, OnOk, OnErr, OnSome, Some, None, MatchOption, option_map, if◌then◌else◌, string_bytes, String, slice_get, IsSome};
+ghost use Rattle.std.specs.Prelude.{◌≡◌, ◌↔◌, ◌<◌, ◌≤◌, ◌+◌, ◌-◌, ◌^◌, [], ◌∷◌, ◌++◌, length, is_some, IfOk, IfErr, IfSome, IfNone, IsTrue, IsOk, OnOk, OnErr, OnSome, Some, None, MatchOption, option_map, if◌then◌else◌, string_bytes, String, slice_get, IsSome};
 ghost use Rattle.std.specs.Option.{option_copied, option_copied_mut};
 ghost use Rattle.std.specs.Borrow.{sem};
 ghost use Rattle.std.specs.List.Sorted.{IsSearchInRange};
@@ -11,7 +11,8 @@ ghost use Rattle.std.specs.Cmp.Lexicographic.{slice_cmp};
 ghost use Rattle.std.specs.declared.cmp.Ordering.TheVariants.{Equal};
 ghost use Rattle.name_map.specs.Entries.{entry_named, seek, named, put, without, IsLast, IsOrdered};
 
-use crate::iter::Iter;
+use crate::iter::{Iter, Named};
+use crate::name::Name;
 use crate::room::Room;
 use std::alloc::{AllocError, AllocFailed, Global};
 use std::cmp::Ordering;
@@ -21,7 +22,7 @@ use std::mem;
 /// A map from names to values, in the order of the names' bytes.
 #[derive(Drop)]
 pub struct NameMap<V> {
-    list: Vec<(String, V)>,
+    list: Vec<(Name, V)>,
 }
 
 impl<V> Model for NameMap<V> {
@@ -87,6 +88,16 @@ impl<V> NameMap<V> {
         Iter::new(self.list.as_slice())
     }
 
+    /// The same with the names as they are shared.
+    pub fn named(&self) -> Named<'_, V>
+        ensures rest { result ≡ self.now.entries }
+        ensures runs { ShowsInOrder (deref_pair {K = String Global} {X = V}) }
+        ensures values_run { ShowsValuesInOrder (deref_pair {K = String Global} {X = V}) }
+        ensures ordered { IsOrdered self.now }
+    {
+        Named::new(self.list.as_slice())
+    }
+
     // The place of the entry of that name, or else the one at which it would go in.
     fn place(&self, name: &str) -> Result<usize, usize>
         ensures place { result ≡ seek (named name.now) self.now.entries }
@@ -94,10 +105,25 @@ impl<V> NameMap<V> {
         ensures ordered { IsOrdered self.now }
     {
         self.list.binary_search_by(
-            |entry: &(String, V)| -> Ordering
+            |entry: &(Name, V)| -> Ordering
                 ensures { result ≡ slice_cmp nat_cmp (string_bytes entry.now.0) name.entry.now }
             { entry.0.as_str().cmp(name) },
         )
+    }
+
+    // The same, which is looked for at that index first.
+    fn place_near(&self, near: usize, name: &str) -> Result<usize, usize>
+        ensures place { result ≡ seek (named name.now) self.now.entries }
+        ensures bound { IsSearchInRange result (length self.now.entries) }
+        ensures ordered { IsOrdered self.now }
+    {
+        match self.list.get(near) {
+            Some(entry) => if entry.0.as_str() == name {
+                return Ok(near);
+            },
+            None => {}
+        }
+        self.place(name)
     }
 
     /// The value of the name.
@@ -116,6 +142,20 @@ impl<V> NameMap<V> {
         ensures value { option_map (λ p. p.1.now) result ≡ entry_named name.now self.now }
     {
         match self.place(name) {
+            Ok(at) => {
+                let entry = &self.list[at];
+                Some((entry.0.as_string(), &entry.1))
+            }
+            Err(_) => None,
+        }
+    }
+
+    /// The entry of the name, which is looked for at that index first.
+    pub fn entry_near(&self, near: usize, name: &str) -> Option<(&Name, &V)>
+        ensures name { IfSome result (λ p. string_bytes p.0.now ≡ name.now) }
+        ensures value { option_map (λ p. p.1.now) result ≡ entry_named name.now self.now }
+    {
+        match self.place_near(near, name) {
             Ok(at) => {
                 let entry = &self.list[at];
                 Some((&entry.0, &entry.1))
@@ -139,7 +179,7 @@ impl<V> NameMap<V> {
     }
 
     /// Sets the value of a name, and answers the one before. Only a new name takes memory, and only if there is no room.
-    pub fn insert(&mut self, name: String, value: V) -> Result<Option<V>, AllocFailed<(String, V)>>
+    pub fn insert(&mut self, name: Name, value: V) -> Result<Option<V>, AllocFailed<(Name, V)>>
         ensures old { IfOk result (λ old. old ≡ entry_named (string_bytes name) self.old) }
         ensures entries { OnOk result (self.new.entries ≡ put self.old name value) }
         ensures value_returned { IfErr result (λ y. y.value ≡ (name, value)) }
@@ -169,11 +209,12 @@ impl<V> NameMap<V> {
     }
 
     /// Adds an entry after the others. `None` if the name doesn't come after theirs, or memory is refused.
-    pub fn add_last(&mut self, name: String, value: V) -> Option<()>
+    pub fn add_last(&mut self, name: Name, value: V) -> Option<()>
     where
         V: Drop,
         ensures some { OnSome result (self.new.entries ≡ self.old.entries ++ (name, value) ∷ []) }
         ensures last { OnSome result (IsLast (string_bytes name) self.old) }
+        ensures ordered { IsOrdered self.new }
         ensures none { IfNone result (self.new.entries ≡ self.old.entries) }
     {
         if !self.is_last(name.as_str()) {
@@ -205,7 +246,7 @@ impl<V> NameMap<V> {
     }
 
     /// Removes the entry of that name, and answers it. `put_back` with it makes the map what it was.
-    pub fn take(&mut self, name: &str) -> Option<(String, V)>
+    pub fn take(&mut self, name: &str) -> Option<(Name, V)>
         ensures value { option_map (λ e. e.1) result ≡ entry_named name.now self.old }
         ensures entries { self.new.entries ≡ without name.now self.old }
         ensures back { IfSome result (λ e. put self.new e.0 e.1 ≡ self.old.entries) }
@@ -224,13 +265,23 @@ impl<V> NameMap<V> {
         ensures first { IfSome result (λ p. slice_get self.now.entries 0 ≡ Some (p.0.now, p.1.now)) }
     {
         match self.list.first() {
-            Some(entry) => Some((&entry.0, &entry.1)),
+            Some(entry) => Some((entry.0.as_string(), &entry.1)),
+            None => None,
+        }
+    }
+
+    /// The value of the last entry.
+    pub fn last_value(&self) -> Option<&V>
+        ensures { option_copied result ≡ option_map (λ e. e.1) (slice_get self.now.entries (length self.now.entries - 1)) }
+    {
+        match self.list.last() {
+            Some(entry) => Some(&entry.1),
             None => None,
         }
     }
 
     /// Removes the first entry, and answers it.
-    pub fn pop_first(&mut self) -> Option<(String, V)>
+    pub fn pop_first(&mut self) -> Option<(Name, V)>
         ensures variant { IsSome result ↔ (0 < length self.old.entries) }
         ensures removal { IfSome result (λ p. self.old.entries ≡ p ∷ self.new.entries) }
         ensures unchanged { IfNone result (self.new.entries ≡ self.old.entries) }
@@ -250,7 +301,7 @@ impl<V> NameMap<V> {
     }
 
     /// Puts an entry of a new name in: it needs no memory, since all entries move to the room that is given if it has none.
-    pub fn put_back(&mut self, room: Room<V>, name: String, value: V)
+    pub fn put_back(&mut self, room: Room<V>, name: Name, value: V)
     where
         V: Drop,
         requires room { length self.old.entries < room }

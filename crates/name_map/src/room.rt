@@ -1,13 +1,14 @@
 //! Room for entries, taken before it is needed.
 ghost use Rattle.std.specs.Prelude.{◌≡◌, ◌≤◌, [], IfOk, vec_capacity};
 
+use crate::name::Name;
 use std::alloc::{AllocError, Global};
 use std::marker::Model;
 
 /// Room for entries of a map. Contracts see it as for how many.
 #[derive(Drop)]
 pub struct Room<V> {
-    list: Vec<(String, V)>,
+    list: Vec<(Name, V)>,
 }
 
 impl<V> Model for Room<V> {
@@ -36,7 +37,7 @@ impl<V> Room<V> {
         self.list.capacity()
     }
 
-    pub(crate) fn into_list(self) -> Vec<(String, V)>
+    pub(crate) fn into_list(self) -> Vec<(Name, V)>
         ensures items { result.items ≡ [] }
         ensures capacity { vec_capacity result ≡ self }
     {

@@ -11,7 +11,7 @@ pub returns-in-Some-clause-made : goal.returns-in-Some-clause-made
 returns-in-Some-clause-made c = member_set c.args.name.now c.args.members.now.entries _ c.in-Some.place.now c.args.value c.replace.new.dest c.replace.ensures.after c.in-Some.ensures.value (c.get_mut.follows.holds c.replace.new.dest).0
 
 pub returns-clause-made : goal.returns-clause-made
-returns-clause-made c = member_added c.args.name.now c.args.members.now.entries _ c.in-Ok.key c.args.value c.in-None.ensures.value c.in-Ok.ensures.ok (c.in_ok-insert.ensures.entries ∙ ap (λ m. insert_entry string_cmp m.entries c.in-Ok.key c.args.value) c.get_mut.follows.holds-at-none)
+returns-clause-made c = member_added c.args.name.now c.args.members.now.entries _ c.in-Ok.key c.args.value c.in-None.ensures.value c.in-Ok.ensures (c.in_ok-insert.ensures.entries ∙ ap (λ m. insert_entry string_cmp m.entries c.in-Ok.key c.args.value) c.get_mut.follows.holds-at-none)
 
 pub returns-in-Some-clause-sized : goal.returns-in-Some-clause-sized
 returns-in-Some-clause-sized c =

@@ -1,8 +1,9 @@
-use Rattle.std.proofs.Common.{◌≡◌, List, ◌++◌, option_map, String, Global}
+use Rattle.std.proofs.Common.{◌≡◌, option_map}
+use Rattle.std.specs.List.Sorted.{IsStrictlySortedBy}
 use Rattle.std.specs.Map.{keys_of}
 use Rattle.std.specs.Vec.Iter.{into_iter_items}
 use Rattle.serde_json.specs.View.{items_view, members_view}
-use Rattle.serde_json.specs.declared.value.Value.{Value}
+use Rattle.std.specs.String.{string_cmp}
 use Rattle.doc_tree.specs.Read.{elements_from, members_from}
 use Rattle.doc_tree.specs.Sound.{AreSound}
 use Rattle.doc_tree.specs.TreeView.{elements_view}
@@ -22,6 +23,6 @@ abbrev pub invariant-members_of-loop-name : goal.invariant-members_of-loop-name
 invariant-members_of-loop-name l =
     (goal.iterator-members_of-loop-name).can_next l.name-iterator ×
     (goal.iterator-members_of-loop-name).is_finite l.name-iterator ×
-    (done : List (String Global × Value)) × (l.fn.members.entries ≡ done ++ l.name-iterator) × (keys_of l.found.entries ≡ keys_of done)
+    IsStrictlySortedBy string_cmp (keys_of l.found.entries)
     × (members_from (members_view l.fn.members.entries) ≡ option_map (members_before l.found.entries) (members_from (members_view l.name-iterator)))
     × AllSound l.found.entries

@@ -20,6 +20,7 @@ use Rattle.std.specs.declared.alloc.Global.{Global}
 use Rattle.std.specs.formers.vec.Vec as vec
 use Rattle.std_collections.specs.Layout.Former.{entry, on_value, entries_puts, values_listed, keys_on_values, entries_recoded}
 use Rattle.name_map.specs.Entries.{Entries, name_row}
+use Rattle.name_map.specs.contracts.name.Name as name
 use Rattle.name_map.specs.contracts.map.NameMap as contracts
 use Rattle.name_map.specs.contracts.map.NameMap.TheInside as inside
 use Rattle.name_map.specs.declared.map.NameMap.TheInside.{Inside}
@@ -57,14 +58,14 @@ the_empty = whole ([], 0)
 -- ---- the fields: a `Vec` of tuples
 
 abbrev row_of_entry : RattleType → RattleType
-row_of_entry T = Tuple (name_row ∷ T ∷ [])
+row_of_entry T = Tuple (name.the_row ∷ T ∷ [])
 
 abbrev stored : Former {0}
 stored = via (vec.the_former (entry this (String Global)) Global) Inside (λ X m. m.list) (λ X v. record { list = v }) (λ X m. refl) (λ X v. refl)
 
 module _ (R S : RattleType) (h : R.Denot → S.Denot) where
   places_of_entry : Alike R S h → Alike (row_of_entry R) (row_of_entry S) (on_value h)
-  places_of_entry a = struct_places (tuple_type (name_row ∷ R ∷ [])) (tuple_type (name_row ∷ S ∷ [])) (λ n. n, (h, tt)) (on_value h) (λ e. refl) refl
+  places_of_entry a = struct_places (tuple_type (name.the_row ∷ R ∷ [])) (tuple_type (name.the_row ∷ S ∷ [])) (λ n. n, (h, tt)) (on_value h) (λ e. refl) refl
       ((refl, (λ n. refl, λ n. refl)), (laid _ _ _ a, tt))
 
   places_of_list : Alike R S h → Alike (inside.the_row R) (inside.the_row S) (stored.map R.Denot S.Denot h)
