@@ -142,7 +142,7 @@ enum jpstore_refusal {
     JPSTORE_REFUSAL_BROKEN = 62,            /* the disk has failed before */
     JPSTORE_REFUSAL_MEMORY = 63,            /* out of memory for this; it may be tried again */
     JPSTORE_REFUSAL_SEQ_END = 64,           /* the count of changes is at its end */
-    JPSTORE_REFUSAL_TRANSACTION_LARGE = 65, /* a transaction's documents have over 33,554,432 bytes together */
+    JPSTORE_REFUSAL_TRANSACTION_LARGE = 65, /* a transaction copies over 33,554,432 bytes */
     JPSTORE_REFUSAL_ALREADY_A_STORE = 70,   /* (only programs in Rattle are told this) */
     JPSTORE_REFUSAL_SMALL = 71,             /* (only programs in Rattle are told this) */
     JPSTORE_REFUSAL_NOT_A_STORE = 72,       /* the file is no store */

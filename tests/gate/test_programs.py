@@ -475,12 +475,13 @@ def changes_of_a_batch_meet_one_failure(jpstore):
     jpstore.shows("serve", jpstore.file, "--batch", "8", given=given, output=DONE + '{"ok":true,"seq":2}\n{"names":["d","e"],"ok":true}\n')
 
 
-def a_transaction_over_its_documents_is_refused_alone(jpstore):
+def a_transaction_over_its_limit_is_refused_alone(jpstore):
     # The text of the document has 1,000,000 bytes: 33 of it are within the limit of 33,554,432, and 34 are not.
     create = CREATE.replace('{"a":1}', f'"{"x" * 999_998}"')
     patch = '{"cmd":"patch","name":"d","ops":[]}'
+    touch = '{"cmd":"schema","name":"d","schema":true}'
     lines = create + "".join(
-        f'{{"changes":[{",".join([patch] * count)}],"cmd":"transaction"}}\n{patch}\n' for count in (34, 33)
+        f'{{"changes":[{",".join([touch] * count)}],"cmd":"transaction"}}\n{patch}\n' for count in (34, 33)
     ) + '{"cmd":"rev","name":"d"}\n'
     large = '{"error":"transaction-large","number":65,"ok":false}\n'
     output = DONE + large + '{"ok":true,"seq":2}\n{"ok":true,"seq":35}\n{"ok":true,"seq":36}\n{"ok":true,"rev":36}\n'
@@ -649,7 +650,7 @@ TESTS = [
     input_that_cannot_be_read,
     a_device_that_fails_is_told_at_the_end,
     changes_of_a_batch_meet_one_failure,
-    a_transaction_over_its_documents_is_refused_alone,
+    a_transaction_over_its_limit_is_refused_alone,
     a_copy_is_stepped_by_itself_where_an_option_asks_for_it,
     each_reply_comes_before_more_input_is_awaited,
     words_that_are_no_call_end_with_2,

@@ -121,10 +121,10 @@ static void modes(const char *file)
     CHECK(access(file, F_OK) != 0);
 }
 
-/* A transaction that patches the document so many times, as a line. */
+/* A transaction that puts the document under a schema so many times, as a line. */
 static char *touches(int count)
 {
-    static const char touch[] = "{\"cmd\":\"patch\",\"name\":\"d\",\"ops\":[]},";
+    static const char touch[] = "{\"cmd\":\"schema\",\"name\":\"d\",\"schema\":true},";
     char *line = malloc(100 + (size_t)count * sizeof touch);
     strcpy(line, "{\"changes\":[");
     for (int at = 0; at < count; at++)

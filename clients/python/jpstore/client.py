@@ -169,10 +169,10 @@ class Store:
     def transaction(self, changes: Iterable[Command]) -> int:
         """Makes changes, all or none: those of `create`, `patch`, `set_schema` and `delete` of this package.
 
-        There are 1 to 1,024. The documents that they patch, or put under other schemas, have at most 33,554,432 bytes
-        of text together, each counted for each of these changes (65, `TooLarge`). They are judged in order, each after
-        those before it. Each has a number of its own, and that of the last is returned. If one is refused, nothing is
-        changed: the refusal is raised, and its `change` is the place of that change, counted from 0.
+        There are 1 to 1,024. What they copy, and the documents that they put under other schemas, have at most
+        33,554,432 bytes of text together (65, `TooLarge`). They are judged in order, each after those before it. Each
+        has a number of its own, and that of the last is returned. If one is refused, nothing is changed: the refusal is
+        raised, and its `change` is the place of that change, counted from 0.
         """
         return self._do(requests.transaction(list(changes)))
 

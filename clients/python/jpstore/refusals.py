@@ -141,9 +141,9 @@ _ROWS = [
             "the count of accepted changes is at its end (2^64-1)",
             "go on reading; for more changes `dump` it, and `load` the dump into a new store"),
     Refusal(65, "transaction-large",
-            "the documents that a transaction patches, or puts under other schemas, have over 33,554,432 bytes of "
-            "text, counted for each change",
-            "divide it, or join the patches of a document"),
+            "what a transaction copies, and the documents that it puts under other schemas, have over 33,554,432 bytes "
+            "of text",
+            "divide it"),
     Refusal(70, "already-a-store",
             "the device holds a store already; only programs in Rattle are told this, by `Store::format`",
             "format another device"),

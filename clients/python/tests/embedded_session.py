@@ -20,7 +20,7 @@ import traceback
 from forking import InProcess, calls_of, close_beside, try_call
 from jpstore import (
     Broken, Conflict, Ended, Invalid, JpstoreError, NotFound, Outdated, Refused, Store, TooLarge, Unsendable,
-    check_file, copy_file, create, delete, format_file, patch, transaction, upgrade_file,
+    check_file, copy_file, create, delete, format_file, patch, set_schema, transaction, upgrade_file,
 )
 from jpstore.embedded import Embedded, copy_embedded, embedded_version, format_embedded, upgrade_embedded
 from jpstore.wire import requests
@@ -161,7 +161,7 @@ def test_transactions(folder):
 
 def test_a_transaction_over_its_limit(folder):
     """It is refused alone. The document has 1,000,000 bytes, of which 33 are within 32 MiB."""
-    touch = patch("d", [])
+    touch = set_schema("d", True)
     for version in (2, 3):
         for how in ({}, {"batch": 8}):
             with Store(new_file(folder, "large", version), embedded=True, **how) as store:

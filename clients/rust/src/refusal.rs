@@ -137,7 +137,7 @@ pub enum Reason {
     Memory = 63,
     /// The count of changes is at its end.
     SeqEnd = 64,
-    /// The documents that a transaction patches, or puts under other schemas, have over 33,554,432 bytes together.
+    /// What a transaction copies, and the documents that it puts under other schemas, have over 33,554,432 bytes.
     TransactionLarge = 65,
     /// Only programs in Rattle are told this.
     AlreadyAStore = 70,

@@ -295,7 +295,7 @@ fn large_transactions() {
             let mut store = Options::new().batch(batch).open(&file.0).unwrap();
             let doc = format!("\"{}\"", "x".repeat(999_998));
             assert_eq!(store.create("d", &doc, "true"), Ok(1));
-            let touches = |count: usize| vec![Change::patch("d", "[]"); count];
+            let touches = |count: usize| vec![Change::set_schema("d", "true"); count];
             let beyond = store.transaction(&touches(34)).unwrap_err();
             assert_eq!(beyond.to_string(), "65 transaction-large");
             let group = [

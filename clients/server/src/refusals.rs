@@ -58,7 +58,7 @@ pub const REFUSALS: &[Refusal] = &[
     row(62, "broken", 503, "the device failed before; nothing is written any more, and questions are answered from the state after the last change that was answered as done", "look at the disk and its free space, end the program and open the store again (a hub's service does that)"),
     row(63, "memory", 503, "the program ran out of memory for this line or its batch; nothing was changed", "send the line again; a smaller document or query needs less"),
     row(64, "seq-end", 507, "the count of accepted changes is at its end (2^64-1)", "go on reading; for more changes `dump` it, and `load` the dump into a new store"),
-    row(65, "transaction-large", 413, "the documents that a transaction patches, or puts under other schemas, have over 33,554,432 bytes of text, counted for each change", "divide it, or join the patches of a document"),
+    row(65, "transaction-large", 413, "what a transaction copies, and the documents that it puts under other schemas, have over 33,554,432 bytes of text", "divide it"),
 ];
 
 /// The changes after a number are gone.

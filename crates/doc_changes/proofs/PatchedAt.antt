@@ -20,6 +20,7 @@ use Rattle.doc_changes.specs.Refusals.{first, plain, refused_if}
 use Rattle.doc_changes.specs.declared.refusal.Refusal.{Refusal}
 use Rattle.doc_changes.specs.Judged.{IsJudgedIn, IsPatched, RefusesIn}
 use Rattle.doc_changes.specs.Patched.{patched, made_by, made_or, on_made, or_refused}
+use Rattle.doc_changes.specs.Held.{held_at}
 use Rattle.doc_changes.specs.Patching.{MakesForGood, Patches, PatchesForGood, RefusesMade, RefusesPatch, StandsAt}
 use Rattle.doc_changes.specs.State.{Document, Good, IsStorable, find, changed}
 use Rattle.doc_changes.specs.Schema.{is_valid}
@@ -112,6 +113,7 @@ made_at k es i old w ops if_rev rev r stands value p =
         back = ap (changed (reversed_doc r old.revision) n) made.after ∙ led_back;
         there = record { document = made_of ops rev (named n old); found = there; can = can };
       };
+      held = p.held ∙ ap (held_at ops) (sym found);
     }
 
 -- its refusals are the patch's

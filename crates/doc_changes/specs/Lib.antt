@@ -9,5 +9,6 @@ pub mod Step
 pub mod Reading
 pub mod StateView
 pub mod Judged
+pub mod Held
 pub mod Undo
 pub mod Patching

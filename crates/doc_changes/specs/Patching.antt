@@ -8,10 +8,12 @@ use Rattle.doc_tree.specs.Sound.{IsSound}
 use Rattle.doc_tree.specs.TreeView.{view}
 use Rattle.doc_tree.specs.declared.tree.Tree.{Tree}
 use Rattle.doc_patch.specs.Measured.{Reverses}
+use Rattle.doc_patch.specs.Reading.{operations_of}
 use Rattle.doc_patch.specs.declared.document.Reversal.{Reversal}
 use Rattle.refusals.specs.declared.numbers.TheConstants.{MEMORY}
 use Rattle.doc_changes.specs.Refusals.{plain, first}
 use Rattle.doc_changes.specs.declared.refusal.Refusal.{Refusal}
+use Rattle.doc_changes.specs.Held.{held_by}
 use Rattle.doc_changes.specs.Patched.{patched, on_made}
 use Rattle.doc_changes.specs.Step.{invalid_refusal, name_refusal, revision_refusal}
 use Rattle.doc_changes.specs.declared.stored.Stored.{Stored}
@@ -38,10 +40,11 @@ pub record PatchesForGood (ops : Doc) (if_rev : Option ℕ) (rev : ℕ) (old new
   pub sound_ops : IsSound ops
   pub makes : MakesForGood (patched ops old.doc) rev old new
 
--- the same, and the reversal leads back
+-- the same, and the reversal leads back and says what was taken
 pub record Patches (ops : Doc) (if_rev : Option ℕ) (rev : ℕ) (old new : Stored) (r : Reversal) : Type 0 where
   pub made : PatchesForGood ops if_rev rev old new
   pub back : Reverses r new.doc old.doc
+  pub held : r.held ≡ held_by (operations_of ops) old.doc
 
 -- the refusal is the first of what came out of the old document, or memory was refused
 abbrev pub RefusesMade : Result Doc Refusal → Stored → Refusal → Type 0

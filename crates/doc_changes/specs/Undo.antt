@@ -6,6 +6,7 @@ use Rattle.doc_patch.specs.declared.document.Reversal.{Reversal}
 use Rattle.doc_tree.specs.declared.tree.Tree.{Tree}
 use Rattle.doc_changes.specs.State.{Document, changed, find}
 use Rattle.record_text.specs.Change.{Change}
+use Rattle.doc_changes.specs.Held.{held_in, held_of}
 use Rattle.doc_changes.specs.Judged.{IsJudgedIn}
 use Rattle.doc_changes.specs.Step.{documents_after}
 use Rattle.doc_changes.specs.declared.judged.Judged.{Judged}
@@ -58,3 +59,4 @@ pub record IsMade (old : List Document) (c : Change) (rev : ℕ) (u : Undo) (new
   pub is_judged : IsJudgedIn old c judged
   pub after : new ≡ documents_after old c rev
   pub undo : TakesBack u old new
+  pub held : held_of u ≡ held_in old c

@@ -3,6 +3,7 @@ ghost use Rattle.std.specs.List.{AllByRecursion};
 ghost use Rattle.std.specs.Prelude.{◌≡◌, ◌+◌, ◌<◌, ◌++◌, ◌∷◌, [], ℕ, List, is_some, map, true, None, string_bytes, IfErr, IfOk, OnErr};
 ghost use Rattle.indexmap.specs.IndexMap.{spare};
 ghost use Rattle.record_text.specs.Change.{change_of};
+ghost use Rattle.doc_changes.specs.Held.{held_of};
 ghost use Rattle.doc_changes.specs.Judged.{IsReady, RefusesIn};
 ghost use Rattle.doc_changes.specs.State.{AreDistinct, IsStorable, changed, find, without};
 ghost use Rattle.doc_changes.specs.Step.{documents_after};
@@ -126,6 +127,7 @@ fn add(documents: &mut IndexMap<String, Stored>, name: String, stored: Stored) -
     requires new { find (string_bytes name) (map document_of documents.old.entries) ≡ None }
     ensures after { map document_of documents.new.entries ≡ map document_of documents.old.entries ++ document_of (name, stored) ∷ [] }
     ensures undo { TakesBack result (map document_of documents.old.entries) (map document_of documents.new.entries) }
+    ensures held { held_of result ≡ 0 }
     ensures spare { spare documents.old < spare documents.new + 2 }
 {
     let _old = documents.insert(name, stored).unwrap();
@@ -142,6 +144,7 @@ fn change(
     requires found { is_some (find (string_bytes name) (map document_of documents.old.entries)) ≡ true }
     ensures after { map document_of documents.new.entries ≡ changed (with_rules rules revision) (string_bytes name) (map document_of documents.old.entries) }
     ensures undo { TakesBack result (map document_of documents.old.entries) (map document_of documents.new.entries) }
+    ensures held { held_of result ≡ 0 }
     ensures spare { spare documents.old < spare documents.new + 2 }
 {
     let index = documents.get_index_of(name.as_str()).unwrap();
@@ -169,6 +172,7 @@ fn remove(documents: &mut IndexMap<String, Stored>, name: &str) -> Undo
     requires found { is_some (find name.now (map document_of documents.old.entries)) ≡ true }
     ensures after { map document_of documents.new.entries ≡ without name.now (map document_of documents.old.entries) }
     ensures undo { TakesBack result (map document_of documents.old.entries) (map document_of documents.new.entries) }
+    ensures held { held_of result ≡ 0 }
     ensures spare { spare documents.old < spare documents.new + 2 }
 {
     let index = documents.get_index_of(name).unwrap();

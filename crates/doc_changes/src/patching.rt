@@ -10,6 +10,7 @@ ghost use Rattle.doc_schema.specs.Judge.{Judges};
 ghost use Rattle.doc_tree.specs.Doc.{Doc};
 ghost use Rattle.doc_tree.specs.Sound.{IsSound};
 ghost use Rattle.doc_tree.specs.TreeView.{view};
+ghost use Rattle.doc_changes.specs.Held.{held_by};
 ghost use Rattle.doc_changes.specs.Judged.{RefusesIn};
 ghost use Rattle.doc_changes.specs.Patched.{or_refused, patched};
 ghost use Rattle.doc_changes.specs.Patching.{MakesForGood, Patches, PatchesForGood, RefusesMade, RefusesPatch, StandsAt};
@@ -207,6 +208,7 @@ fn apply(alloc: Global, ops: &Tree, doc: &mut Document) -> Result<(Patch, Revers
         MatchResult result (λ _. made ≡ Ok doc.new) (λ r. (made ≡ Err r) ⊎ (r ≡ plain MEMORY)) }
     ensures changes { IfOk result (λ p. pure.patch (operations p.0) doc.old ≡ Ok doc.new) }
     ensures back { IfOk result (λ p. Reverses p.1 doc.new doc.old) }
+    ensures held { IfOk result (λ p. p.1.held ≡ held_by (operations_of (view ops.now)) doc.old) }
     ensures unchanged { OnErr result (doc.new ≡ doc.old) }
     ensures sound { IfOk result (λ _. IsSound (view ops.now)) }
 {

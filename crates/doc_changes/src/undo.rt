@@ -1,4 +1,8 @@
 //! The data that takes a change back that was made in memory.
+
+ghost use Rattle.std.specs.Prelude.{◌≡◌};
+ghost use Rattle.doc_changes.specs.Held.{held_of};
+
 use crate::stored::Stored;
 use doc_patch::Reversal;
 use doc_schema::Schema;
@@ -26,4 +30,19 @@ pub enum Undo {
         name: String,
         stored: Stored,
     },
+}
+
+impl Undo {
+    /// The bytes of text that memory holds for the change, beyond its document and what came with it: a patch's values
+    /// that it copied, and its document, if that was copied.
+    pub fn held(&self) -> u64
+        ensures { result ≡ held_of self.now }
+    {
+        match self {
+            Undo::Patched { reversal, .. } => reversal.held,
+            Undo::Added => 0,
+            Undo::Ruled { .. } => 0,
+            Undo::Removed { .. } => 0,
+        }
+    }
 }

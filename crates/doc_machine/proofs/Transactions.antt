@@ -1,16 +1,19 @@
 -- Changes one after another, and transactions.
-use Rattle.std.proofs.Common.{◌≡◌, ℕ, ◌+◌, List, [], ◌∷◌, ◌++◌, length, refl, sym, ◌∙◌, ap, subst, arith, take, inl, inr, Option, None, Some, drop, if◌then◌else◌, Bool, true, false, nat_eq, nat_lt, ◌||◌}
+use Rattle.std.proofs.Common.{◌≡◌, ℕ, ◌+◌, List, [], ◌∷◌, ◌++◌, length, refl, sym, ◌∙◌, ap, subst, arith, take, inl, inr, Option, None, Some, drop, if◌then◌else◌, Bool, true, false, min, nat_eq, nat_lt, ◌||◌}
 use Rattle.std.proofs.Math.Seq.{take-append_seam}
 use Rattle.std.specs.Option.{option_or}
+use Rattle.std.proofs.lemmas.Bool.Decides.{nat_tests}
 use Rattle.std.proofs.lemmas.List.{append_assoc}
-use Rattle.record_text.specs.Change.{Change}
+use Rattle.record_text.specs.Change.{Change, create, delete, patch, set_schema}
 use Rattle.record_text.specs.Frame.{IsFramed}
 use Rattle.refusals.specs.declared.numbers.TheConstants.{COMMAND, MEMORY, SEQ_END, TRANSACTION_LARGE}
+use Rattle.doc_patch.specs.Held.{capped}
+use Rattle.doc_changes.specs.Held.{held_in}
 use Rattle.doc_changes.specs.Refusals.{at_change, plain, refused_if}
 use Rattle.doc_changes.specs.declared.refusal.Refusal.{Refusal}
 use Rattle.doc_changes.specs.State.{State, Good}
 use Rattle.doc_changes.specs.Step.{IsOwn, Refuses, refusal_of, after}
-use Rattle.doc_machine.specs.Transaction.{AreAccepted, AreFramed, AreGood, AreMade, StopsAt, Transaction, after_all, befores, first_refused, is_countable, kept_by, kept_by_all, large_refusal, refusal_in, refused_at, refused_or, several, single}
+use Rattle.doc_machine.specs.Transaction.{AreAccepted, AreFramed, AreGood, AreMade, StopsAt, Transaction, after_all, befores, first_refused, is_countable, kept_by, kept_by_all, large_refusal, refusal_in, refused_at, refused_or, ruled_by, several, single}
 use Rattle.doc_machine.specs.Trial.{TrialView, first_or, state_at}
 use Rattle.doc_changes.proofs.Known.{own_refusal}
 
@@ -47,14 +50,42 @@ kept_push s (e ∷ cs) c = let rest = kept_push (after s e) cs c in omega (arith
 -- changes that are accepted leave the refusal to those behind them
 pub first_behind : (place kept : ℕ) (s : State) (c : Change) (cs : List Change) → large_refusal (kept + kept_by s c) ≡ None → refusal_of s c ≡ None
     → first_refused place kept s (c ∷ cs) ≡ first_refused (place + 1) (kept + kept_by s c) (after s c) cs
-first_behind place kept s c cs within accepted = λ i. option_or (within i) (refused_or place (accepted i) (first_refused (place + 1) (kept + kept_by s c) (after s c) cs))
+first_behind place kept s c cs within accepted = λ i. refused_or place (accepted i) (option_or (within i) (first_refused (place + 1) (kept + kept_by s c) (after s c) cs))
 
-pub refused_here : (place kept : ℕ) (s : State) (c : Change) (cs : List Change) (r : Refusal) → large_refusal (kept + kept_by s c) ≡ None → refusal_of s c ≡ Some r
-    → first_refused place kept s (c ∷ cs) ≡ Some (refused_at place r)
-refused_here place kept s c cs r within refuses = λ i. option_or (within i) (refused_or place (refuses i) (first_refused (place + 1) (kept + kept_by s c) (after s c) cs))
+pub refused_here : (place kept : ℕ) (s : State) (c : Change) (cs : List Change) (r : Refusal) → refusal_of s c ≡ Some r → first_refused place kept s (c ∷ cs) ≡ Some (refused_at place r)
+refused_here place kept s c cs r refuses = λ i. refused_or place (refuses i) (option_or (large_refusal (kept + kept_by s c)) (first_refused (place + 1) (kept + kept_by s c) (after s c) cs))
 
-pub large_here : (place kept : ℕ) (s : State) (c : Change) (cs : List Change) (r : Refusal) → large_refusal (kept + kept_by s c) ≡ Some r → first_refused place kept s (c ∷ cs) ≡ Some r
-large_here place kept s c cs r large = λ i. option_or (large i) (refused_or place (refusal_of s c) (first_refused (place + 1) (kept + kept_by s c) (after s c) cs))
+pub large_here : (place kept : ℕ) (s : State) (c : Change) (cs : List Change) (r : Refusal) → refusal_of s c ≡ None → large_refusal (kept + kept_by s c) ≡ Some r
+    → first_refused place kept s (c ∷ cs) ≡ Some r
+large_here place kept s c cs r accepted large = λ i. refused_or place (accepted i) (option_or (large i) (first_refused (place + 1) (kept + kept_by s c) (after s c) cs))
+
+-- ---- the numbers of the code
+
+kept_is : (s : State) (c : Change) → held_in s.documents c + ruled_by s c ≡ kept_by s c
+kept_is s (create name schema doc) = refl
+kept_is s (patch name ops if_rev) = omega arith
+kept_is s (set_schema name schema) = omega arith
+kept_is s (delete name) = refl
+
+sum_capped : (held ruled a b bytes : ℕ) → a ≡ held → b ≡ ruled → bytes ≡ min (a + b) 0xffff_ffff_ffff_ffff → bytes ≡ capped (held + ruled)
+sum_capped held ruled a b bytes is same sum = omega (arith, is, same, sum)
+
+-- those of a change, as the code adds them
+pub bytes_are : (s : State) (c : Change) (held ruled bytes : ℕ) → held ≡ held_in s.documents c → ruled ≡ ruled_by s c → bytes ≡ min (held + ruled) 0xffff_ffff_ffff_ffff → bytes ≡ capped (kept_by s c)
+bytes_are s c held ruled bytes is same sum = sum_capped (held_in s.documents c) (ruled_by s c) held ruled bytes is same sum ∙ ap capped (kept_is s c)
+
+large_same : (kept n bytes : ℕ) → bytes ≡ capped n → nat_lt 33_554_432 (kept + bytes) ≡ nat_lt 33_554_432 (kept + n)
+large_same kept n bytes is = grind (arith, nat_tests)
+
+pub large_is : (kept n bytes : ℕ) → bytes ≡ capped n → large_refusal (kept + bytes) ≡ large_refusal (kept + n)
+large_is kept n bytes is = ap (λ b. refused_if b TRANSACTION_LARGE) (large_same kept n bytes is)
+
+pub together_is : (kept n bytes : ℕ) → bytes ≡ capped n → large_refusal (kept + bytes) ≡ None → kept + bytes ≡ kept + n
+together_is kept n bytes is within = by (nat_lt 33_554_432 (kept + bytes)) refl within
+  where
+    by : (b : Bool) → nat_lt 33_554_432 (kept + bytes) ≡ b → refused_if b TRANSACTION_LARGE ≡ None → kept + bytes ≡ kept + n
+    by true large none = absurd (cc none)
+    by false small none = grind (arith, nat_tests)
 
 -- changes were made so far, and the next one comes
 module _ (old mid : TrialView) (made_first : List Change) (next : Change) (behind all : List Change) (place kept : ℕ) (parts : made_first ++ next ∷ behind ≡ all)
@@ -62,29 +93,24 @@ module _ (old mid : TrialView) (made_first : List Change) (next : Change) (behin
   left_all : first_refused 0 0 old.state all ≡ first_refused place kept mid.state (next ∷ behind)
   left_all = ap (first_refused 0 0 old.state) (sym parts) ∙ left
 
-  pub stops_large : (r : Refusal) → large_refusal (kept + kept_by mid.state next) ≡ Some r → StopsAt old all r mid
-  stops_large r large = record {
-    made_first = made_first;
-    next = next;
+  pub stops_large : (r : Refusal) (new : TrialView) → AreMade old (made_first ++ next ∷ []) new → refusal_of mid.state next ≡ None → large_refusal (kept + kept_by mid.state next) ≡ Some r → StopsAt old all r new
+  stops_large r new made_next accepted large = record {
+    made_first = made_first ++ next ∷ [];
     behind = behind;
-    parts = parts;
-    made = made;
-    why = inr (left_all ∙ large_here place kept mid.state next behind r large);
+    parts = append_assoc made_first (next ∷ []) behind ∙ parts;
+    made = made_next;
+    why = inr (left_all ∙ large_here place kept mid.state next behind r accepted large);
   }
 
-  within_all : large_refusal (kept + kept_by mid.state next) ≡ None → large_refusal (kept_by_all old.state (made_first ++ next ∷ [])) ≡ None
-  within_all within = ap large_refusal (kept_push old.state made_first next ∙ (λ i. sym keep i + kept_by (sym made.state i) next)) ∙ within
-
-  pub stops_refused : (r : Refusal) → large_refusal (kept + kept_by mid.state next) ≡ None → Refuses mid.state next r → StopsAt old all (refused_at place r) mid
+  pub stops_refused : (r : Refusal) → large_refusal kept ≡ None → Refuses mid.state next r → StopsAt old all (refused_at place r) mid
   stops_refused r within refuses = record {
     made_first = made_first;
-    next = next;
-    behind = behind;
+    behind = next ∷ behind;
     parts = parts;
     made = made;
     why = elim refuses [
-      | inl memory ↦ inl (ap (refused_at place) memory, within_all within)
-      | inr own ↦ inr (left_all ∙ refused_here place kept mid.state next behind r within own)
+      | inl memory ↦ inl (ap (refused_at place) memory, ap large_refusal (sym keep) ∙ within)
+      | inr own ↦ inr (left_all ∙ refused_here place kept mid.state next behind r own)
     ];
   }
 
@@ -96,11 +122,11 @@ all_accepted place kept s (c ∷ cs) none = by (large_refusal more) (refusal_of 
     more : ℕ
     more = kept + kept_by s c
 
-    by : (large o : Option Refusal) → refusal_of s c ≡ o → option_or large (refused_or place o (first_refused (place + 1) more (after s c) cs)) ≡ None
+    by : (large o : Option Refusal) → refusal_of s c ≡ o → refused_or place o (option_or large (first_refused (place + 1) more (after s c) cs)) ≡ None
         → (first_refused (place + 1) more (after s c) cs ≡ None → AreAccepted (after s c) cs) → (refusal_of s c ≡ None) × AreAccepted (after s c) cs
-    by (Some l) o is none rest = absurd (cc none)
+    by large (Some r) is none rest = absurd (cc none)
     by None None is none rest = (is, rest none)
-    by None (Some r) is none rest = absurd (cc none)
+    by (Some l) None is none rest = absurd (cc none)
 
 -- ---- each refusal is the machine's own
 
@@ -125,11 +151,11 @@ own_first place kept s (c ∷ cs) r is = by (large_refusal more) (refusal_of s c
     more : ℕ
     more = kept + kept_by s c
 
-    by : (large o : Option Refusal) → large_refusal more ≡ large → refusal_of s c ≡ o → option_or large (refused_or place o (first_refused (place + 1) more (after s c) cs)) ≡ Some r
+    by : (large o : Option Refusal) → large_refusal more ≡ large → refusal_of s c ≡ o → refused_or place o (option_or large (first_refused (place + 1) more (after s c) cs)) ≡ Some r
         → (first_refused (place + 1) more (after s c) cs ≡ Some r → IsOwn r) → IsOwn r
-    by (Some l) o large refuses is rest = own_large more r (large ∙ is)
+    by (Some l) None large none is rest = own_large more r (large ∙ is)
     by None None large none is rest = rest is
-    by None (Some q) large refuses is rest = let same : refused_at place q ≡ r = cc is in subst IsOwn same (own_at place q (own_refusal s c q refuses))
+    by large_too (Some q) large refuses is rest = let same : refused_at place q ≡ r = cc is in subst IsOwn same (own_at place q (own_refusal s c q refuses))
 
 pub own_command : IsOwn (plain COMMAND)
 own_command = ((λ e. omega (arith, e)), (λ e. omega (arith, e)), (λ e. omega (arith, e)))

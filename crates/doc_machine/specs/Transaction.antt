@@ -5,6 +5,7 @@ use Rattle.doc_tree.specs.Text.{text_of}
 use Rattle.record_text.specs.Change.{Change, change_of, create, delete, patch, set_schema}
 use Rattle.record_text.specs.Frame.{IsFramed}
 use Rattle.refusals.specs.declared.numbers.TheConstants.{COMMAND, MEMORY, SEQ_END, TRANSACTION_LARGE}
+use Rattle.doc_changes.specs.Held.{held_at}
 use Rattle.doc_changes.specs.Refusals.{at_change, plain, refused_if}
 use Rattle.doc_changes.specs.declared.refusal.Refusal.{Refusal}
 use Rattle.doc_changes.specs.State.{Document, State, Good, find}
@@ -40,19 +41,26 @@ abbrev pub AreFramed : List Change → Type 0
 AreFramed [] = ⊤
 AreFramed (c ∷ cs) = IsFramed c × AreFramed cs
 
--- ---- what changes keep
+-- ---- what changes take of memory
 
 -- the bytes of the compact text of a document, if there is one
 abbrev pub text_bytes : Option Document → ℕ
 text_bytes None = 0
 text_bytes (Some d) = length (text_of d.doc)
 
--- the bytes that a change keeps: those of the document that it patches, or puts under another schema, as it finds it
+-- the bytes that a change keeps: what a patch takes beyond its document and its own values, and the document that is put under another schema, since it is judged anew
 abbrev pub kept_by : State → Change → ℕ
 kept_by s (create name schema doc) = 0
-kept_by s (patch name ops if_rev) = text_bytes (find name s.documents)
+kept_by s (patch name ops if_rev) = held_at ops (find name s.documents)
 kept_by s (set_schema name schema) = text_bytes (find name s.documents)
 kept_by s (delete name) = 0
+
+-- those of the document that is put under another schema alone
+abbrev pub ruled_by : State → Change → ℕ
+ruled_by s (create name schema doc) = 0
+ruled_by s (patch name ops if_rev) = 0
+ruled_by s (set_schema name schema) = text_bytes (find name s.documents)
+ruled_by s (delete name) = 0
 
 -- the bytes that changes keep together, one after another
 abbrev pub kept_by_all : State → List Change → ℕ
@@ -93,11 +101,11 @@ abbrev pub refused_or : ℕ → Option Refusal → Option Refusal → Option Ref
 refused_or place None later = later
 refused_or place (Some r) later = Some (refused_at place r)
 
--- Why changes are refused: the first has the place `place`, and those before it keep `kept` bytes. Each is judged after those before it, first whether it and they keep too many, and then by itself. The first reason counts.
+-- Why changes are refused: the first has the place `place`, and those before it keep `kept` bytes. Each is judged after those before it, first by itself, and then whether it and they keep too many. The first reason counts.
 abbrev pub first_refused : ℕ → ℕ → State → List Change → Option Refusal
 first_refused place kept s [] = None
 first_refused place kept s (c ∷ cs) =
-    option_or (large_refusal (kept + kept_by s c)) (refused_or place (refusal_of s c) (first_refused (place + 1) (kept + kept_by s c) (after s c) cs))
+    refused_or place (refusal_of s c) (option_or (large_refusal (kept + kept_by s c)) (first_refused (place + 1) (kept + kept_by s c) (after s c) cs))
 
 -- why a state refuses a transaction, if it does
 abbrev pub refusal_in : State → Transaction → Option Refusal
@@ -127,12 +135,11 @@ pub record IsTransacted (old : TrialView) (t : Transaction) (seq : ℕ) (new : T
 abbrev pub RefusesTransaction : State → Transaction → Refusal → Type 0
 RefusesTransaction s t r = (r ≡ plain MEMORY) ⊎ (refusal_in s t ≡ Some r)
 
--- From old, the first of these changes were made, and the transaction is refused for the next one; or memory was
--- refused to that one, and then those made and it don't keep too many bytes.
+-- From old, the first of these changes were made, and the transaction is refused: they keep too many bytes, or the next
+-- one is refused; or memory was refused to that one, and then those made don't keep too many.
 pub record StopsAt (old : TrialView) (cs : List Change) (r : Refusal) (new : TrialView) : Type 0 where
   pub made_first : List Change
-  pub next : Change
   pub behind : List Change
-  pub parts : made_first ++ next ∷ behind ≡ cs
+  pub parts : made_first ++ behind ≡ cs
   pub made : AreMade old made_first new
-  pub why : ((r ≡ plain MEMORY) × (large_refusal (kept_by_all old.state (made_first ++ next ∷ [])) ≡ None)) ⊎ (first_refused 0 0 old.state cs ≡ Some r)
+  pub why : ((r ≡ plain MEMORY) × (large_refusal (kept_by_all old.state made_first) ≡ None)) ⊎ (first_refused 0 0 old.state cs ≡ Some r)

@@ -4,6 +4,6 @@ pub use doc_changes::limits::{
     PATCH_HEIGHT, PATCH_OPERATIONS, TRANSACTION_CHANGES,
 };
 
-/// Bytes of compact text at most of the documents that several changes of a transaction patch, or put under another
-/// schema: each counts once for each of these changes, as the change finds it.
+/// Bytes of compact text at most that several changes of a transaction keep: what the patches copy (`specs/Held.antt` of
+/// `doc_patch`), and each document that is put under another schema.
 pub const TRANSACTION_KEPT_BYTES: u64 = 33_554_432;

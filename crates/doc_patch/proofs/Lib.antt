@@ -8,3 +8,4 @@ pub mod Undoing
 mod Spellings
 mod Unread
 mod PlainTexts
+pub mod Counts

@@ -9,6 +9,7 @@ pub mod Keeping
 pub mod CodedDoc
 pub mod Measured
 pub mod Within
+pub mod Held
 pub mod Only
 pub mod Plain
 pub use Rattle.doc_edits.specs.Change

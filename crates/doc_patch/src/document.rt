@@ -2,6 +2,7 @@
 
 ghost use Rattle.std.specs.Prelude.{◌≡◌, Ok, IfOk, MatchResult, OnErr};
 ghost use Rattle.doc_patch.specs.Fault.{IsFaultOf};
+ghost use Rattle.doc_patch.specs.Held.{held};
 ghost use Rattle.doc_patch.specs.Meaning.{operations};
 ghost use Rattle.doc_patch.specs.Measured.{CanReverse, IsWithin, Reverses};
 ghost use Rattle.doc_patch.specs.Patch.{patch};
@@ -36,6 +37,8 @@ pub struct Reversal {
     pub(crate) undo: Undo,
     /// The bytes of the text before the patch.
     pub(crate) len: u64,
+    /// The bytes of text that memory holds for the patch, beyond the document and the patch's own values.
+    pub held: u64,
 }
 
 impl Model for Document {
@@ -89,6 +92,7 @@ impl Document {
         ensures made { let made = patch (operations changes.now) self.old in
             MatchResult result (λ _. made ≡ Ok self.new) (IsFaultOf made) }
         ensures back { IfOk result (λ r. Reverses r self.new self.old) }
+        ensures held { IfOk result (λ r. r.held ≡ held (operations changes.now) self.old) }
         ensures unchanged { OnErr result (self.new ≡ self.old) }
         ensures sound { IsSound self.new }
     {
@@ -100,9 +104,11 @@ impl Document {
         match changes.apply_each(alloc, &mut self.tree, &mut log, before) {
             Ok(after) => {
                 self.len = after.len;
+                let held = log.held(before.len);
                 Ok(Reversal {
                     undo: Undo { steps: log.steps },
                     len: before.len,
+                    held,
                 })
             }
             Err(fault) => {
@@ -140,7 +146,7 @@ impl Document {
         requires { CanReverse reversal self.old }
         ensures { Reverses reversal self.old self.new }
     {
-        let Reversal { undo, len } = reversal;
+        let Reversal { undo, len, .. } = reversal;
         undo.take_back(&mut self.tree);
         self.len = len;
     }

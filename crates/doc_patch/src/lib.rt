@@ -28,13 +28,14 @@
 //!   name, as a `Vec` does: an insertion at the front of 500,000 elements moves some 16 MB.
 //! - if it can be taken back: a copy of the place's names, and the value that goes is kept, not copied. With `remove` and
 //!   `move` also room for as many members or elements as the object or array has by then, which isn't touched; what goes
-//!   comes back into it without memory. If the values that are kept are longer than the document, or room is kept for more
-//!   than 500,000 members and elements, the whole document is copied once, and no more is kept.
+//!   comes back into it without memory. If the values that were copied are longer than the document, or room is kept for
+//!   more than 500,000 members and elements, the whole document is copied once, and no more is kept.
 #![tactic(auto)]
 
 mod document;
 pub mod examples;
 mod fault;
+mod held;
 pub mod laws;
 pub mod limits;
 mod log;

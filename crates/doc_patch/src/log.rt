@@ -1,19 +1,23 @@
 //! Operations that are applied in place, with what takes them back.
 
-ghost use Rattle.std.specs.Prelude.{◌≡◌, ◌<◌, [], IfOk, OnOk, false, true};
+ghost use Rattle.std.specs.Prelude.{◌≡◌, ◌<◌, ◌≤◌, ◌+◌, [], min, IfOk, OnOk, false, if◌then◌else◌, nat_lt, true};
 ghost use Rattle.std.specs.Option.{ForSome};
 ghost use Rattle.std.specs.Vec.{vec_capacity, vec_len};
 ghost use Rattle.doc_edits.specs.SizeChange.{IsKnown, IsMeasured};
 ghost use Rattle.doc_edits.specs.After.{LeavesMeasured};
+ghost use Rattle.doc_patch.specs.Held.{CountsOne};
 ghost use Rattle.doc_patch.specs.Keeping.{IsWhole, kept};
 ghost use Rattle.doc_edits.specs.Keeping.{TakesBack};
 ghost use Rattle.doc_edits.specs.Meaning.{meaning};
 ghost use Rattle.doc_edits.specs.Operation.{op};
 ghost use Rattle.doc_patch.specs.Undo.{steps_back};
+ghost use Rattle.doc_patch.specs.declared.limits.TheConstants.{DOCUMENT_BYTES};
 ghost use Rattle.doc_tree.specs.Doc.{Doc};
 ghost use Rattle.doc_tree.specs.Sound.{IsSound};
 ghost use Rattle.doc_tree.specs.TreeView.{view};
 
+use crate::held::{MeasuredCopy, copied, siblings};
+use crate::limits::DOCUMENT_BYTES;
 use doc_edits::limits::check_limits;
 use doc_edits::{
     After, Back, DocumentSize, Kept, KnownPlace, Operation, OperationFault, perform_kept, whole,
@@ -27,10 +31,10 @@ pub struct Log {
     pub steps: Vec<Back>,
     /// One of them holds the whole document, and nothing more need be kept.
     pub is_whole: bool,
-    /// The bytes of the texts of the values that they hold, without the whole document.
-    bytes: u64,
-    /// For how many members and elements they keep room.
-    room: u64,
+    /// The bytes of the values that the operations copied.
+    pub copied: u64,
+    /// How many members and elements there were beside those that the operations took: for as many a step keeps room.
+    pub siblings: u64,
 }
 
 // For how many members and elements room is kept: 28 MB of addresses, which nothing touches.
@@ -41,12 +45,14 @@ impl Log {
     pub fn new(alloc: Global) -> Log
         ensures empty { kept result ≡ [] }
         ensures whole { IsWhole result }
+        ensures copied { result.copied ≡ 0 }
+        ensures siblings { result.siblings ≡ 0 }
     {
         Log {
             steps: Vec::new(alloc),
             is_whole: false,
-            bytes: 0,
-            room: 0,
+            copied: 0,
+            siblings: 0,
         }
     }
 
@@ -57,14 +63,15 @@ impl Log {
         alloc: Global,
         tree: &mut Tree,
         operation: &'a Operation,
-        before: Option<DocumentSize>,
+        before: DocumentSize,
         known: Option<KnownPlace<'a>>,
     ) -> Result<After<'a>, OperationFault>
-        requires measured { ForSome before (λ m. IsMeasured m (view tree.old)) }
+        requires measured { IsMeasured before (view tree.old) }
         requires known { ForSome known (λ k. IsKnown k (view tree.old)) }
         requires sound { IsSound (view tree.old) }
         requires whole { IsWhole self.old }
         ensures made { LeavesMeasured (op (meaning operation.now) (view tree.old)) (view tree.new) result }
+        ensures counted { IfOk result (λ _. CountsOne self.old (meaning operation.now) (view tree.old) self.new) }
         ensures sound { IfOk result (λ _. IsSound (view tree.new)) }
         ensures back { steps_back (kept self.new) (view tree.new) ≡ steps_back (kept self.old) (view tree.old) }
         ensures whole { IsWhole self.new }
@@ -72,23 +79,20 @@ impl Log {
         if self.holds_more_than(before) {
             self.keep_whole(alloc, tree)?;
         }
+        let MeasuredCopy { len, known } = copied(tree, operation, known);
+        self.copied = self.copied.saturating_add(len);
+        self.siblings = self.siblings.saturating_add(siblings(tree, operation));
         if self.is_whole {
-            operation.apply(alloc, tree, before, known)
+            operation.apply(alloc, tree, Some(before), known)
         } else {
             self.apply_kept(alloc, tree, operation, before, known)
         }
     }
 
-    // Whether the values that are held are longer than the document, or the rooms more than `MOST_ROOM`: then the whole of
-    // it is less to keep than more of them, and one patch keeps no more than three documents and these rooms.
-    fn holds_more_than(&self, document: Option<DocumentSize>) -> bool {
-        if self.room > MOST_ROOM {
-            return true;
-        }
-        match document {
-            Some(measure) => measure.len < self.bytes,
-            None => false,
-        }
+    // Whether the values that were copied are longer than the document, or the rooms more than `MOST_ROOM`: then the whole
+    // of it is less to keep than more of them. The other values that steps hold were there before, or came with the patch.
+    fn holds_more_than(&self, document: DocumentSize) -> bool {
+        self.siblings > MOST_ROOM || self.copied > document.len
     }
 
     // Keeps the whole document, unless it is kept already.
@@ -97,6 +101,8 @@ impl Log {
         ensures back { steps_back (kept self.new) (view tree.now) ≡ steps_back (kept self.old) (view tree.now) }
         ensures whole { IsWhole self.new }
         ensures kept { OnOk result (self.new.is_whole ≡ true) }
+        ensures copied { self.new.copied ≡ self.old.copied }
+        ensures siblings { self.new.siblings ≡ self.old.siblings }
     {
         if !self.is_whole {
             let step = whole(alloc, tree)?;
@@ -112,10 +118,10 @@ impl Log {
         alloc: Global,
         tree: &mut Tree,
         operation: &'a Operation,
-        before: Option<DocumentSize>,
+        before: DocumentSize,
         known: Option<KnownPlace<'a>>,
     ) -> Result<After<'a>, OperationFault>
-        requires measured { ForSome before (λ m. IsMeasured m (view tree.old)) }
+        requires measured { IsMeasured before (view tree.old) }
         requires known { ForSome known (λ k. IsKnown k (view tree.old)) }
         requires sound { IsSound (view tree.old) }
         requires whole { self.old.is_whole ≡ false }
@@ -123,21 +129,27 @@ impl Log {
         ensures sound { IsSound (view tree.old) → IfOk result (λ _. IsSound (view tree.new)) }
         ensures back { steps_back (kept self.new) (view tree.new) ≡ steps_back (kept self.old) (view tree.old) }
         ensures whole { self.new.is_whole ≡ false }
+        ensures copied { self.new.copied ≡ self.old.copied }
+        ensures siblings { self.new.siblings ≡ self.old.siblings }
     {
         self.steps.reserve(1)?;
-        let most = match before {
-            Some(before) => before.most,
-            None => u64::MAX,
-        };
         let Kept {
             growth,
             known,
             back,
-        } = perform_kept(alloc, tree, operation, most, known)?;
-        self.bytes = self.bytes.saturating_add(growth.lost);
+        } = perform_kept(alloc, tree, operation, before.most, known)?;
         self.keep(back);
-        let measure = check_limits(tree, before, growth)?;
+        let measure = check_limits(tree, Some(before), growth)?;
         Ok(After { measure, known })
+    }
+
+    /// The bytes of text that memory holds for a patch whose document had a text of that length.
+    pub fn held(&self, len: u64) -> u64
+        requires { len ≤ DOCUMENT_BYTES }
+        ensures { result ≡ min self.now.copied 1_048_576 + (if nat_lt 500_000 self.now.siblings then len else 0) }
+    {
+        let whole = if self.siblings > MOST_ROOM { len } else { 0 };
+        self.copied.min(DOCUMENT_BYTES) + whole
     }
 
     // Keeps one more step, if there is one.
@@ -146,9 +158,10 @@ impl Log {
         ensures back { (d e : Doc) → TakesBack back d e
             → steps_back (kept self.new) e ≡ steps_back (kept self.old) d }
         ensures whole { self.new.is_whole ≡ self.old.is_whole }
+        ensures copied { self.new.copied ≡ self.old.copied }
+        ensures siblings { self.new.siblings ≡ self.old.siblings }
     {
         if let Some(step) = back {
-            self.room = self.room.saturating_add(step.room());
             self.steps.push(step).unwrap();
         }
     }

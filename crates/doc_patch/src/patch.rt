@@ -4,6 +4,7 @@ ghost use Rattle.std.specs.Prelude.{◌≡◌, Ok, IfOk, MatchResult, is_some, t
 ghost use Rattle.std.specs.Option.{ForSome};
 ghost use Rattle.doc_patch.specs.Fault.{IsFaultOf};
 ghost use Rattle.doc_edits.specs.SizeChange.{IsMeasured};
+ghost use Rattle.doc_patch.specs.Held.{Counts};
 ghost use Rattle.doc_patch.specs.Keeping.{IsWhole, kept};
 ghost use Rattle.doc_patch.specs.Meaning.{operations};
 ghost use Rattle.doc_patch.specs.Patch.{patch};
@@ -100,6 +101,7 @@ impl Patch {
         requires whole { IsWhole log.old }
         ensures made { let made = patch (operations self.now) (view tree.old) in
             MatchResult result (λ _. made ≡ Ok (view tree.new)) (IsFaultOf made) }
+        ensures counted { IfOk result (λ _. Counts log.old (operations self.now) (view tree.old) log.new) }
         ensures measured { IfOk result (λ after. IsMeasured after (view tree.new)) }
         ensures back { steps_back (kept log.new) (view tree.new) ≡ steps_back (kept log.old) (view tree.old) }
         ensures sound { IfOk result (λ _. IsSound (view tree.new)) }
@@ -107,7 +109,7 @@ impl Patch {
         let mut measure = before;
         let mut known = None;
         for (index, operation) in self.operations.iter().enumerate() {
-            match log.apply(alloc, tree, operation, Some(measure), known) {
+            match log.apply(alloc, tree, operation, measure, known) {
                 Ok(after) => {
                     measure = after.measure;
                     known = after.known;

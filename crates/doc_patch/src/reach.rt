@@ -65,8 +65,8 @@ fn common<'p>(first: &'p [String], second: &'p [String]) -> &'p [String]
     &first[..len]
 }
 
-// All tokens but the last.
-fn holder(place: &[String]) -> &[String]
+/// All tokens but the last.
+pub(crate) fn holder(place: &[String]) -> &[String]
     ensures { tokens_of result.now ≡ holder (tokens_of place.now) }
 {
     &place[..place.len().saturating_sub(1)]

@@ -12,6 +12,7 @@ pub use Rattle.doc_pointer.specs.Fault.{IsNoPointer}
 -- JSON Patch (RFC 6902)
 pub use Rattle.doc_patch.specs.Reading.{operations_of}
 pub use Rattle.doc_patch.specs.Patch.{patch}
+pub use Rattle.doc_patch.specs.Held.{held}
 -- JSON Schema, draft 2020-12
 pub use Rattle.doc_schema.specs.Faults.{IsFaultless, first_fault}
 pub use Rattle.doc_schema.specs.Judge.{Judges, enough, judge}

@@ -1,12 +1,13 @@
 """The lines of an entry that a node refuses before the store judges them, for the sake of all other nodes.
 
-A store refuses a change if its own file has no room (60), or a transaction that changes too many bytes of documents
-(65). Files differ, and a transaction has the lines of many clients. So the same line could be accepted on one node and
+A store refuses a change if its own file has no room (60), or a transaction that copies too many bytes (65). Files
+differ, and a transaction has the lines of many clients. So the same line could be accepted on one node and
 refused on another. A node reckons instead, by the documents before the entry and its lines alone, and every node
 reckons the same:
 
 - Room. The documents' snapshot before the entry, and what its lines may add at most, must fit the room agreed on.
-- Weight. The texts of the documents that a transaction patches must be under what the program takes.
+- Weight. What the lines may copy, and the documents that they put under other schemas, must be under what the program
+  takes.
 
 The lengths are measured only if bounds that are easily kept don't decide. That changes no verdict.
 """
@@ -20,7 +21,7 @@ from .store import ReplicaStore
 
 __all__ = ["LEAST_CAPACITY", "Reckoning", "Room", "Verdict", "room_of"]
 
-#: The refusals: no room, and too many bytes of documents.
+#: The refusals: no room, and too many bytes that are copied.
 FULL, HEAVY = 60, 65
 
 #: The least capacity that may be agreed on, in bytes.
@@ -30,8 +31,11 @@ LEAST_CAPACITY = 65_536
 _MOST_CHANGES = length_of_frames(limits.MOST_LINE_BYTES, limits.MOST_CHANGES)
 _NOTES = 16_384
 
-# The most bytes of the documents that the lines of a transaction patch: the note gets some.
+# The most bytes that the lines of a transaction may copy: the note gets some.
 _MOST_WEIGHT = limits.MOST_TRANSACTION_BYTES - limits.MOST_DOCUMENT_BYTES
+
+# A patch counts its document if it takes values from among more members and elements than these.
+_MOST_SIBLINGS = 500_000
 
 # How many documents' lengths are kept at most.
 _MOST_KEPT = 4_096
@@ -114,10 +118,15 @@ class Reckoning:
         return Verdict({**out, **heavy}, fits and left <= _MOST_WEIGHT)
 
     def _weight(self, change: Change, lengths: Dict[str, int]) -> int:
-        """The bytes that a change keeps of its document, at most; the lengths after it are noted."""
-        before = lengths.get(change.name, self._lengths.get(change.name, limits.MOST_DOCUMENT_BYTES))
-        lengths[change.name] = min(before + change.growth, limits.MOST_DOCUMENT_BYTES)
-        return before if change.word in ("patch", "schema") else 0
+        """The bytes that a change counts for 65, at most; the lengths after it are noted."""
+        most = limits.MOST_DOCUMENT_BYTES
+        before = lengths.get(change.name, self._lengths.get(change.name, most))
+        after = lengths[change.name] = min(before + change.growth, most)
+        if change.word == "schema":
+            return before
+        # A copy doubles the document at most. An object or array has fewer members or elements than half its bytes.
+        copied = min((before + change.length) * ((1 << min(change.copies, 20)) - 1), most)
+        return copied + (before if change.takes * after > 2 * _MOST_SIBLINGS else 0)
 
     async def measure(self, need: Need, store: ReplicaStore) -> None:
         """Measures what a verdict needs, at the place of the log where the store is."""

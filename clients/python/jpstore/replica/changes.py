@@ -20,6 +20,11 @@ class Change(NamedTuple):
     word: str
     name: str
     growth: int
+    #: The same without what a patch copies.
+    length: int
+    #: How many operations of a patch copy a value, and how many take one from its place.
+    copies: int
+    takes: int
 
 
 class Line(NamedTuple):
@@ -53,16 +58,16 @@ def line_in(text: bytes) -> Line:
 
 def _change(command: Dict[str, Any], length: int) -> Change:
     word = command["cmd"]
-    growth = 0 if word == "delete" else length_of_frames(length, 1)
-    if word == "patch" and _copies(command["ops"]):
-        # It may be as long as a document can be after that.
-        growth += MOST_DOCUMENT_BYTES
-    return Change(word, command["name"], growth)
+    own = 0 if word == "delete" else length_of_frames(length, 1)
+    operations = _operations(command["ops"]) if word == "patch" else []
+    copies = operations.count("copy")
+    # With a copy it may be as long as a document can be after that.
+    growth = own + MOST_DOCUMENT_BYTES if copies else own
+    return Change(word, command["name"], growth, own, copies, operations.count("remove") + operations.count("move"))
 
 
-def _copies(operations: Any) -> bool:
-    return isinstance(operations, list) and any(isinstance(each, dict) and each.get("op") == "copy"
-                                                for each in operations)
+def _operations(spelled: Any) -> List[Any]:
+    return [each.get("op") for each in spelled if isinstance(each, dict)] if isinstance(spelled, list) else []
 
 
 def places_in(lines: Sequence[Line]) -> List[int]:

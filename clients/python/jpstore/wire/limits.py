@@ -20,7 +20,7 @@ MOST_OPERATIONS = 4096
 #: The most changes of a transaction.
 MOST_CHANGES = 1024
 
-#: The most bytes of the documents that a transaction patches or puts under other schemas, each counted for each change.
+#: The most bytes that a transaction copies, with the documents that it puts under other schemas.
 MOST_TRANSACTION_BYTES = 1 << 25
 
 #: The most changes that the program makes in one commit.

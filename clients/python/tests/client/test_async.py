@@ -10,7 +10,7 @@ import signal
 import pytest
 from jpstore import (
     AccessError, AsyncStore, Conflict, Ended, Invalid, JpstoreError, Node, NotFound, Outdated, Store, TimedOut,
-    TooLarge, Unsendable, create, patch,
+    TooLarge, Unsendable, create, patch, set_schema,
 )
 from serving import FakeHub, RealHub
 from support import GROUPING, PATIENCE, SILENCE, Place, raised
@@ -96,7 +96,7 @@ def test_a_transaction_over_its_limit_is_refused_alone(place, over, version):
     async def run(opened):
         async with opened as store:
             await store.create("d", "x" * 999_998)
-            touch = patch("d", [])
+            touch = set_schema("d", True)
             calls = [store.patch("d", []), store.transaction([touch] * 34), store.create("e", 1),
                      store.transaction([touch] * 33), store.transaction([touch] * 34), store.get("e")]
             found = await asyncio.gather(*calls, return_exceptions=True)

@@ -103,20 +103,38 @@ def test_a_transaction_has_1024_changes_at_most(place):
 
 @pytest.mark.parametrize("version", [2, 3])
 @pytest.mark.parametrize("how", [{}, {"batch": 64}])
-def test_one_that_changes_too_many_bytes_is_refused_alone(place, how, version):
+def test_one_that_keeps_too_many_bytes_is_refused_alone(place, how, version):
     # The document has 1,000,000 bytes: 33 of them are within 32 MiB, and 34 are not.
-    touch = patch("d", [])
+    touch = set_schema("d", True)
     place.format(5000, version=version)
     with place.store(**how) as store:
         store.create("d", "x" * 999_998)
         refused = raised(TooLarge, store.transaction, [touch] * 34)
         assert (refused.number, refused.name, refused.change) == (65, "transaction-large", None)
-        assert str(refused).startswith("transaction of 34 changes: 65 transaction-large: the documents ")
+        assert str(refused).startswith("transaction of 34 changes: 65 transaction-large: what a transaction ")
         assert raised(NotFound, store.transaction, [touch] * 33 + [delete("z"), touch]).change == 33
         lines = [touch, transaction([touch] * 34), touch, transaction([touch] * 33), create("e", 1)]
         outcomes = store.group(lines, check=False)
         assert (outcomes[1].number, outcomes[0], *outcomes[2:]) == (65, 2, 3, 36, 37)
         assert (store.rev("d"), store.names()) == (36, ["d", "e"])
+
+
+@pytest.mark.parametrize("how", [{}, {"batch": 64}])
+def test_what_patches_copy_counts_and_not_their_documents(place, how):
+    # The member has 500,000 bytes: 67 of them are within 32 MiB, and 68 are not.
+    twice = patch("d", [{"op": "copy", "from": "/a", "path": "/b"}])
+    longer = patch("d", [{"op": "replace", "path": "/c", "value": 1}])
+    taken = patch("d", [{"op": "remove", "path": "/b"}, {"op": "add", "path": "/b", "value": 0}])
+    place.format(5000)
+    with place.store(**how) as store:
+        store.create("d", {"a": "x" * 499_998, "b": "y" * 499_998, "c": 0})
+        assert raised(TooLarge, store.transaction, [twice] * 68).change is None
+        assert store.transaction([longer] * 400 + [taken] + [twice] * 67) == 469
+        assert store.get("d", "/b") == "x" * 499_998
+        # A patch counts no more than a document may have: 32 of these copy 96,000,000 bytes, and count 33,554,432.
+        often = patch("d", [{"op": "copy", "from": "/a", "path": "/b"}] * 6)
+        assert store.transaction([often] * 32) == 501
+        assert raised(TooLarge, store.transaction, [often] * 32 + [twice]).number == 65
 
 
 def test_a_program_that_groups_changes_is_never_waited_for_in_vain(place):

@@ -264,7 +264,7 @@ def test_a_transaction_that_is_refused_makes_none(gateway):
     full = changes_of(create("u-c", "x" * 500000), create("u-d", "x" * 400000), delete("u-d"))
     assert gateway.ask("POST", "/transactions", full).status == 200
     # 68 times the 500,002 bytes of the document are over 32 MiB.
-    large = changes_of(*[patched("u-c", [])] * 68)
+    large = changes_of(*[set_schema("u-c", True)] * 68)
     assert "change" not in is_problem(gateway.ask("POST", "/transactions", large), 413, 65)
     full = changes_of(*[patched("u-c", [{"op": "replace", "path": "", "value": "y" * 500000}])] * 2)
     assert "change" not in is_problem(gateway.ask("POST", "/transactions", full), 507, 60)
@@ -279,7 +279,7 @@ def test_a_transaction_over_its_limit_is_too_large(place, version):
     place.format(5000, version=version)
     with Gateway(place) as running:
         assert running.put("/documents/d", "x" * 999_998).json() == {"seq": 1}
-        touch = patched("d", [])
+        touch = set_schema("d", True)
         told = is_problem(running.ask("POST", "/transactions", changes_of(*[touch] * 34)), 413, 65)
         assert (told["name"], "change" in told) == ("transaction-large", False)
         assert running.get(told["type"]).json()["name"] == "transaction-large"

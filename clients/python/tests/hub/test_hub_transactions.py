@@ -165,7 +165,7 @@ def test_one_that_changes_too_many_bytes_refuses_no_line_of_another(place, versi
     def press():
         with hub.connect() as store:
             while not stop.is_set():
-                refused.append(raised(TooLarge, store.transaction, [patch("large", [])] * 34).number)
+                refused.append(raised(TooLarge, store.transaction, [set_schema("large", True)] * 34).number)
 
     def write(name):
         with hub.connect() as store:

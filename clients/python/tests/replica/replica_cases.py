@@ -454,8 +454,7 @@ def heavy_entries(folder, program):
     with cluster(folder, program, (24_000, 24_000, 30_000), 6_000_000) as nodes:
         text = "x" * 1_000_000
         assert all(reply["ok"] for reply in nodes.ask("a", *[create(f"n{number}", [text, 0]) for number in range(3)]))
-        touch = [{"cmd": "patch", "name": f"n{number % 3}", "ops": [{"op": "replace", "path": "/1", "value": number}]}
-                 for number in range(60)]
+        touch = [{"cmd": "schema", "name": f"n{number % 3}", "schema": True} for number in range(60)]
         replies = nodes.ask("b", *touch, several(*touch), several(*touch[:20]))
         assert all(reply["ok"] for reply in replies[:60]) and replies[61]["ok"], replies
         same(replies[60], refused(65))

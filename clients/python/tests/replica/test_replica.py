@@ -137,6 +137,43 @@ def test_a_bound_that_does_not_decide_is_measured():
     assert raised(Need, reckoning.verdict, [line]).total
 
 
+class Measured:
+    """A store whose documents have 1,000 bytes each."""
+
+    async def snapshot_length(self):
+        return 0
+
+    async def lengths(self, names):
+        return {name: 1000 for name in names}
+
+
+def verdict_of(*commands):
+    lines = [line_in(read_line(json.dumps(each).encode() + b"\n").text) for each in commands]
+    reckoning = Reckoning(1 << 31)
+    while True:
+        try:
+            return reckoning.verdict(lines)
+        except Need as need:
+            asyncio.run(reckoning.measure(need, Measured()))
+
+
+def test_lines_weigh_what_they_may_copy():
+    def patch(name, *operations):
+        return {"cmd": "patch", "name": name, "ops": operations}
+
+    def together(*changes):
+        return {"changes": changes, "cmd": "transaction"}
+    copy, take = {"op": "copy", "from": "/a", "path": "/b"}, {"op": "remove", "path": "/0"}
+    # Copies of 1,000 bytes at most, and elements that go from lists of fewer than 500.
+    assert verdict_of(together(*[patch(f"d{number}", copy) for number in range(1000)])) == ({}, True)
+    assert verdict_of(together(*[patch(f"d{number}", *[take] * 30) for number in range(500)])) == ({}, True)
+    # Each may be doubled up to 1 MiB: 31 of them weigh 31 MiB, and 32 do not fit.
+    often = [patch(f"d{number}", *[copy] * 20) for number in range(32)]
+    assert verdict_of(*often[:31]) == ({}, True)
+    assert verdict_of(*often) == ({}, False)
+    assert verdict_of(together(*often), patch("e")) == ({0: 65}, True)
+
+
 def test_a_node_is_outvoted_if_as_many_others_agree():
     def told(*digests):
         return {name: {"n": 7, "digest": digest} for name, digest in zip("abc", digests)}

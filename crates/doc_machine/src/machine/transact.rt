@@ -1,13 +1,15 @@
 //! Transactions on trial.
+ghost use Rattle.doc_changes.specs.Held.{held_in};
 ghost use Rattle.doc_changes.specs.declared.limits.TheConstants.{TRANSACTION_CHANGES};
 ghost use Rattle.std.specs.Prelude.{◌≡◌, ◌≤◌, ◌+◌, [], ◌∷◌, length, IfOk, IfErr, MatchResult, OnErr, OnOk, None, Some, map};
 ghost use Rattle.record_text.specs.Change.{change_of};
 ghost use Rattle.doc_changes.specs.State.{Good, find};
 ghost use Rattle.doc_changes.specs.Step.{IsOwn, Refuses, refusal_of};
-ghost use Rattle.doc_machine.specs.Transaction.{AreMade, IsTransacted, RefusesTransaction, StopsAt, first_refused, kept_by, large_refusal, refused_at, several, text_bytes, transaction_of};
+ghost use Rattle.doc_machine.specs.Transaction.{AreMade, IsTransacted, RefusesTransaction, StopsAt, first_refused, large_refusal, refused_at, ruled_by, several, text_bytes, transaction_of};
 
 use crate::limits::{LAST_SEQ, TRANSACTION_CHANGES, TRANSACTION_KEPT_BYTES};
 use crate::machine::Trial;
+use crate::machine::trial::Accepted;
 use crate::transaction::Transaction;
 use doc_changes::Refusal;
 use record_text::Command;
@@ -18,9 +20,8 @@ impl Trial {
     ///
     /// A single change is refused as `judge` answers. Several are refused with `COMMAND` if they are none or over
     /// `TRANSACTION_CHANGES`; else by the first of these reasons, change after change, each judged after those before
-    /// it: `TRANSACTION_LARGE` if the documents that are patched, or put under another schema, have more than
-    /// `TRANSACTION_KEPT_BYTES` of text together up to this change, each counted with each change; and then the
-    /// change's own refusal, with its place beside it, but `SEQ_END` with none. `MEMORY` may come in place of any
+    /// it: the change's own refusal, with its place beside it, but `SEQ_END` with none; and then `TRANSACTION_LARGE` if
+    /// the changes up to this one keep more than `TRANSACTION_KEPT_BYTES` together. `MEMORY` may come in place of any
     /// answer.
     pub fn transact(&mut self, transaction: Transaction) -> Result<u64, Refusal>
         ensures made { IfOk result (λ seq. IsTransacted self.old (transaction_of transaction) seq self.new) }
@@ -30,16 +31,20 @@ impl Trial {
         ensures good { Good self.new.state }
     {
         match transaction {
-            Transaction::Single(command) => self.step(command),
+            Transaction::Single(command) => match self.step(command) {
+                Ok(accepted) => Ok(accepted.seq),
+                Err(refusal) => Err(refusal),
+            },
             Transaction::Several(commands) => self.step_all(commands),
         }
     }
 
     // Judges a change and makes it.
-    fn step(&mut self, command: Command) -> Result<u64, Refusal>
+    fn step(&mut self, command: Command) -> Result<Accepted, Refusal>
         ensures accepted { OnOk result (refusal_of self.old.state (change_of command) ≡ None) }
         ensures made { OnOk result (AreMade self.old (change_of command ∷ []) self.new) }
-        ensures seq { IfOk result (λ seq. seq ≡ self.new.state.seq) }
+        ensures seq { IfOk result (λ accepted. accepted.seq ≡ self.new.state.seq) }
+        ensures held { IfOk result (λ accepted. accepted.held ≡ held_in self.old.state.documents (change_of command)) }
         ensures refused { IfErr result (Refuses self.old.state (change_of command)) }
         ensures unchanged { OnErr result (self.new ≡ self.old) }
         ensures own { IfErr result IsOwn }
@@ -50,9 +55,9 @@ impl Trial {
             return Err(self.look().refuse_at_end(&command));
         }
         let ready = self.look().prepare(&command)?;
-        let seq = self.change(command, ready)?;
+        let accepted = self.change(command, ready)?;
         self.know();
-        Ok(seq)
+        Ok(accepted)
     }
 
     // Makes all of these changes, or none.
@@ -89,37 +94,25 @@ impl Trial {
         let mut place = 0;
         let mut kept = 0;
         for command in commands {
-            let together = self.kept_with(&command, kept)?;
-            if let Err(refusal) = self.step(command) {
-                return Err(at(place, refusal));
-            }
+            let ruled = self.bytes_ruled(&command);
+            let accepted = match self.step(command) {
+                Ok(accepted) => accepted,
+                Err(refusal) => return Err(at(place, refusal)),
+            };
+            let together = kept_with(kept, accepted.held.saturating_add(ruled))?;
             kept = together;
             place += 1;
         }
         Ok(())
     }
 
-    // The bytes that a change keeps together with the `kept` bytes of the changes before it, or a refusal if they are
-    // too many.
-    fn kept_with(&self, command: &Command, kept: u64) -> Result<u64, Refusal>
-        ensures counted { let together = kept + kept_by self.now.state (change_of command.now) in
-            MatchResult result (λ more. (more ≡ together) × (large_refusal together ≡ None)) (λ r. large_refusal together ≡ Some r) }
-        ensures own { IfErr result IsOwn }
-    {
-        match kept.checked_add(self.bytes_kept(command)) {
-            Some(more) if more <= TRANSACTION_KEPT_BYTES => Ok(more),
-            _ => Err(Refusal::plain(TRANSACTION_LARGE)),
-        }
-    }
-
-    // The bytes of the text of the document that a change replaces, or judges again.
-    fn bytes_kept(&self, command: &Command) -> u64
-        ensures { result ≡ kept_by self.now.state (change_of command.now) }
+    // The bytes of the text of the document that a change puts under another schema.
+    fn bytes_ruled(&self, command: &Command) -> u64
+        ensures { result ≡ ruled_by self.now.state (change_of command.now) }
     {
         match command {
-            Command::Patch { name, .. } => self.bytes_of(name.as_str()),
             Command::Schema { name, .. } => self.bytes_of(name.as_str()),
-            Command::Create { .. } | Command::Delete { .. } => 0,
+            Command::Create { .. } | Command::Patch { .. } | Command::Delete { .. } => 0,
         }
     }
 
@@ -131,6 +124,19 @@ impl Trial {
             Some(stored) => stored.doc.len(),
             None => 0,
         }
+    }
+}
+
+// The bytes that a change keeps together with the `kept` bytes of the changes before it, or a refusal if they are too
+// many.
+fn kept_with(kept: u64, bytes: u64) -> Result<u64, Refusal>
+    ensures counted { let together = kept + bytes in
+        MatchResult result (λ more. (more ≡ together) × (large_refusal together ≡ None)) (λ r. large_refusal together ≡ Some r) }
+    ensures own { IfErr result IsOwn }
+{
+    match kept.checked_add(bytes) {
+        Some(more) if more <= TRANSACTION_KEPT_BYTES => Ok(more),
+        _ => Err(Refusal::plain(TRANSACTION_LARGE)),
     }
 }
 

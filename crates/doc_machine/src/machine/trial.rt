@@ -1,6 +1,7 @@
 //! Changes that are made in memory alone, and can be taken back without memory.
 ghost use Rattle.std.specs.Prelude.{◌≡◌, ◌+◌, ◌<◌, ◌++◌, ◌∷◌, [], length, take, None, IfOk, IfErr, OnOk, OnErr};
 ghost use Rattle.record_text.specs.Change.{change_of};
+ghost use Rattle.doc_changes.specs.Held.{held_in};
 ghost use Rattle.doc_changes.specs.Judged.{IsJudged, IsReady};
 ghost use Rattle.doc_changes.specs.State.{Good};
 ghost use Rattle.doc_changes.specs.Step.{IsOwn, Refuses, after, refusal_of};
@@ -24,6 +25,15 @@ pub struct Trial {
     documents: IndexMap<String, Stored>,
     seq: u64,
     log: Vec<Undo>,
+}
+
+/// A change that was made.
+#[derive(Clone, Copy, Drop)]
+pub struct Accepted {
+    /// The new number of accepted changes.
+    pub seq: u64,
+    /// The bytes of text that memory holds for it, beyond its document and what came with it.
+    pub held: u64,
 }
 
 impl Model for Trial {
@@ -109,18 +119,19 @@ impl Trial {
     {
         self.know();
         match self.change(command, judged) {
-            Ok(seq) => Ok(seq),
+            Ok(accepted) => Ok(accepted.seq),
             Err(_) => Err(AllocError),
         }
     }
 
     // Makes a change, of which all but a patch was judged. An `Err` changes nothing.
-    pub(crate) fn change(&mut self, command: Command, judged: Judged) -> Result<u64, Refusal>
+    pub(crate) fn change(&mut self, command: Command, judged: Judged) -> Result<Accepted, Refusal>
         requires ready { IsReady self.old.state.documents (change_of command) judged }
         requires counted { self.old.state.seq < LAST_SEQ }
         ensures accepted { OnOk result (refusal_of self.old.state (change_of command) ≡ None) }
         ensures made { OnOk result (AreMade self.old (change_of command ∷ []) self.new) }
-        ensures seq { IfOk result (λ seq. seq ≡ self.new.state.seq) }
+        ensures seq { IfOk result (λ accepted. accepted.seq ≡ self.new.state.seq) }
+        ensures held { IfOk result (λ accepted. accepted.held ≡ held_in self.old.state.documents (change_of command)) }
         ensures refused { IfErr result (Refuses self.old.state (change_of command)) }
         ensures unchanged { OnErr result (self.new ≡ self.old) }
         ensures own { IfErr result IsOwn }
@@ -132,9 +143,10 @@ impl Trial {
         self.log.reserve(1)?;
         let seq = self.seq + 1;
         let undo = make(self.alloc, &mut self.documents, command, judged, seq)?;
+        let held = undo.held();
         self.log.push(undo).unwrap();
         self.seq = seq;
-        Ok(seq)
+        Ok(Accepted { seq, held })
     }
 
     /// Takes the newest change back. It takes no memory.

@@ -3,6 +3,7 @@ use Rattle.doc_tree.specs.Doc.{Doc}
 use Rattle.doc_tree.specs.TreeView.{view}
 use Rattle.record_text.specs.Change.{change_of}
 use Rattle.record_text.specs.declared.command.Command.{Command}
+use Rattle.doc_changes.specs.Held.{held_in}
 use Rattle.doc_changes.specs.Judged.{IsJudgedIn, IsReady, RefusesIn}
 use Rattle.doc_changes.specs.State.{Document, changed, without}
 use Rattle.doc_changes.specs.Step.{documents_after}
@@ -39,6 +40,7 @@ returns-in-Create-clause-made c =
           ∙ ap (λ (x : Doc). ds ++ record d { doc = x } ∷ []) doc
           ∙ ap (λ (m : Command). documents_after ds (change_of m) c.args.revision) (sym c.in-Create.is);
       undo = c.add.ensures.undo;
+      held = c.add.ensures.held ∙ ap (λ (m : Command). held_in ds (change_of m)) (sym c.in-Create.is);
     }
 
 pub returns-in-Patch-clause-made : goal.returns-in-Patch-clause-made
@@ -65,6 +67,7 @@ returns-in-Schema-clause-made c =
           ∙ ap (λ (x : Doc). changed (λ d. record { name = d.name; schema = x; doc = d.doc; revision = c.args.revision }) name ds) same
           ∙ ap (λ (m : Command). documents_after ds (change_of m) c.args.revision) (sym c.in-Schema.is);
       undo = c.change.ensures.undo;
+      held = c.change.ensures.held ∙ ap (λ (m : Command). held_in ds (change_of m)) (sym c.in-Schema.is);
     }
 
 pub returns-clause-made : goal.returns-clause-made
@@ -77,4 +80,5 @@ returns-clause-made c =
       after = c.remove.ensures.after ∙ ap (λ (n : List ℕ). without n ds) c.as_str.ensures.value
           ∙ ap (λ (m : Command). documents_after ds (change_of m) c.args.revision) (sym c.in-Delete.is);
       undo = c.remove.ensures.undo;
+      held = c.remove.ensures.held ∙ ap (λ (m : Command). held_in ds (change_of m)) (sym c.in-Delete.is);
     }

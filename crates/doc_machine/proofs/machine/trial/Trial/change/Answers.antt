@@ -2,6 +2,7 @@ use Rattle.std.proofs.Common.{◌≡◌, ◌+◌, ◌-◌, ◌<◌, sym, ◌∙�
 use Rattle.std.specs.List.{AllByRecursion}
 use Rattle.record_text.specs.Change.{change_of}
 use Rattle.doc_changes.specs.declared.limits.TheConstants.{LAST_SEQ}
+use Rattle.doc_changes.specs.Held.{held_in}
 use Rattle.doc_changes.specs.Judged.{IsJudged}
 use Rattle.doc_changes.specs.State.{State, Document, Good, IsStorable}
 use Rattle.doc_changes.specs.Step.{IsOwn, after}
@@ -79,3 +80,6 @@ returns-clause-made c =
 
 pub returns-clause-good : goal.returns-clause-good
 returns-clause-good c = good_now c
+
+pub returns-clause-held : goal.returns-clause-held
+returns-clause-held c = c.held-held.ensures ∙ (made c).held ∙ ap (λ (v : TrialView). held_in v.state.documents (change_of c.args.command)) c.self.view_is
