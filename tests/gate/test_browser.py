@@ -79,7 +79,7 @@ class Page:
     def token_file(self):
         """A file with the token."""
         path = os.path.join(self._folder.name, "token")
-        with open(path, "w", encoding="ascii") as opened:
+        with open(path, "w", encoding="ascii", opener=lambda name, flags: os.open(name, flags, 0o600)) as opened:
             opened.write(TOKEN + "\n")
         return path
 

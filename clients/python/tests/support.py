@@ -68,6 +68,11 @@ class Place:
             opened.write(text)
         return self.path(name)
 
+    def secret(self, name: str, text: str) -> str:
+        """A file with this text, which no other user may read."""
+        os.chmod(self.text(name, ""), 0o600)
+        return self.text(name, text)
+
     def script(self, name: str, text: str) -> str:
         """A program that the shell runs."""
         path = self.text(name, "#!/bin/sh\n" + text + "\n")

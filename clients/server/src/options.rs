@@ -1,6 +1,7 @@
 //! The command line.
 
 use crate::error::Error;
+use crate::http::guard::origin_of;
 use std::ffi::{OsStr, OsString};
 use std::os::unix::ffi::OsStrExt;
 use std::path::PathBuf;
@@ -26,6 +27,12 @@ SIGINT. STORE may also be the socket of a running server, which is then served o
   --python PATH        the Python, with the package jpstore, that tells why a document is not valid (python3)
   --version, --help    shows the version, or this
 ";
+
+/// The most bytes of the path of a Unix socket (unix(7)).
+const MOST_SOCKET: usize = 107;
+
+/// In less time nobody is answered.
+const LEAST_PATIENCE: Duration = Duration::from_millis(100);
 
 /// The options.
 #[derive(Debug)]
@@ -81,7 +88,14 @@ impl Options {
     }
 
     fn set(&mut self, option: &str, value: OsString) -> Result<(), Error> {
+        if value.is_empty() {
+            return Err(wrong(option, ""));
+        }
         match option {
+            "--socket" if value.len() > MOST_SOCKET => {
+                let told = format!("the path of a socket has at most {MOST_SOCKET} bytes, and this has {}", value.len());
+                return Err(Error::new(told + ": choose a shorter one"));
+            }
             "--socket" => self.socket = Some(value.into()),
             "--token-file" => self.token_file = Some(value.into()),
             "--program" => self.program = Some(value.into()),
@@ -98,9 +112,9 @@ impl Options {
         let wrong = || wrong(option, value);
         match option {
             "--listen" => self.listen = Some(value.to_owned()),
-            "--origin" => self.origins.push(value.to_owned()),
+            "--origin" => self.origins.push(origin_of(value).ok_or_else(|| no_origin(value))?),
             "--wait" => self.wait = seconds(value).ok_or_else(wrong)?,
-            "--patience" => self.patience = seconds(value).ok_or_else(wrong)?,
+            "--patience" => self.patience = seconds(value).filter(|most| *most >= LEAST_PATIENCE).ok_or_else(wrong)?,
             "--pump" => {
                 self.pump = value.parse().ok().filter(|count| *count <= 1_000_000).ok_or_else(wrong)?;
             }
@@ -123,6 +137,12 @@ fn parts_of(option: &[u8]) -> (String, Option<OsString>) {
 fn seconds(text: &str) -> Option<Duration> {
     let number: f64 = text.parse().ok()?;
     (0.0..=1e9).contains(&number).then(|| Duration::from_secs_f64(number))
+}
+
+fn no_origin(value: &str) -> Error {
+    let form = "give it as a browser sends it, such as https://example.org: a scheme and a host, with a port if that is not \
+                the scheme's own, and no path";
+    Error::new(format!("`{value}` is no origin: {form}"))
 }
 
 fn wrong(option: &str, value: &str) -> Error {
@@ -152,6 +172,7 @@ pub fn read(words: impl IntoIterator<Item = OsString>) -> Result<Asked, Error> {
             }
         }
     }
+    let store = store.filter(|store| !store.as_os_str().is_empty());
     options.store = store.ok_or_else(|| Error::new("which store? See `jpstored --help`"))?;
     if options.listen.is_none() && options.socket.is_none() {
         options.listen = Some("127.0.0.1:8080".to_owned());
@@ -176,11 +197,12 @@ mod tests {
     #[test]
     fn options_are_read_in_any_place() {
         let found =
-            options(&["--socket=s", "store", "--origin", "a", "--origin", "b", "--wait", "0.5", "--no-cache"]).unwrap();
+            options(&["--socket=s", "store", "--origin", "http://a", "--origin", "http://b:1", "--wait", "0.5", "--no-cache"])
+                .unwrap();
         assert_eq!((found.store, found.socket, found.listen), ("store".into(), Some("s".into()), None));
         assert_eq!(
             (found.origins, found.wait, found.cache),
-            (vec!["a".to_owned(), "b".to_owned()], Duration::from_millis(500), 0)
+            (vec!["http://a".to_owned(), "http://b:1".to_owned()], Duration::from_millis(500), 0)
         );
         assert_eq!(options(&["store"]).unwrap().listen.as_deref(), Some("127.0.0.1:8080"));
         assert_eq!(options(&["--", "--store"]).unwrap().store, PathBuf::from("--store"));
@@ -188,11 +210,28 @@ mod tests {
 
     #[test]
     fn what_is_wrong_is_told() {
-        for words in
-            [&[][..], &["a", "b"], &["a", "--wait", "x"], &["a", "--pump"], &["a", "--none", "1"], &["a", "--wait=-1"]]
-        {
+        let long = "s".repeat(108);
+        for words in [
+            &[][..],
+            &[""],
+            &["a", "b"],
+            &["a", "--wait", "x"],
+            &["a", "--pump"],
+            &["a", "--pump", "1000001"],
+            &["a", "--none", "1"],
+            &["a", "--wait=-1"],
+            &["a", "--wait=nan"],
+            &["a", "--patience=0"],
+            &["a", "--cache=-1"],
+            &["a", "--cache=18446744073709551616"],
+            &["a", "--socket="],
+            &["a", "--program="],
+            &["a", "--socket", &long],
+            &["a", "--origin", "evil"],
+        ] {
             assert!(options(words).is_err(), "{words:?}");
         }
+        assert!(options(&["a", "--socket", &long[1..]]).is_ok());
         assert!(options(&["--version"]).unwrap_err().starts_with("jpstored "));
     }
 }

@@ -58,7 +58,7 @@ struct Web {
 }
 
 async fn serve(options: Options, workers: Workers) -> Result<(), Error> {
-    let signals = signals()?;
+    let mut signals = signals()?;
     let is_other = std::fs::metadata(&options.store).map_or(false, |found| found.file_type().is_socket());
     let web = web(&options, &workers)?;
     if is_other {
@@ -66,10 +66,14 @@ async fn serve(options: Options, workers: Workers) -> Result<(), Error> {
     }
     if let Some(path) = &options.socket {
         // Before the store is opened, which may take a while.
-        listening::check_free(path)?;
+        listening::check_free(path).await?;
     }
     let path = program::find(options.program.as_deref())?;
-    let program = program::start(&path, &options.store, options.wait).await?;
+    let program = tokio::select! {
+        program = program::start(&path, &options.store, options.wait) => program?,
+        // It serves nobody yet, and the program can be killed at any time.
+        _ = signals.changed() => return Ok(()),
+    };
     program::remove_leftovers(&options.store);
     let (history, recorder) = match file::open(&options.store) {
         Ok(opened) => opened,
@@ -81,7 +85,7 @@ async fn serve(options: Options, workers: Workers) -> Result<(), Error> {
     let (engine, store) = Engine::begin(program, history, recorder, Cache::new(options.cache), options.pump).await?;
     let (end, ending) = ending();
     // Both doors are open before either is announced.
-    let _listening = welcome(&options, &workers, store.clone(), ending.clone())?;
+    let _listening = welcome(&options, &workers, store.clone(), ending.clone()).await?;
     let app = web.map(|web| welcome_web(&options, &workers, web, Which::Own(store), &ending));
     drop(ending);
     if let Some(path) = &options.socket {
@@ -145,18 +149,18 @@ fn welcome_web(options: &Options, workers: &Workers, web: Web, which: Which, end
     app
 }
 
-fn welcome(
+async fn welcome(
     options: &Options,
     workers: &Workers,
     store: Handle,
     ending: Ending,
 ) -> Result<Option<listening::Listening>, Error> {
-    let _entered = workers.enter();
     let path = match &options.socket {
         Some(path) => path,
         None => return Ok(None),
     };
-    let (listening, listener) = listening::Listening::at(path)?;
+    let (listening, listener) = listening::Listening::at(path).await?;
+    let _entered = workers.enter();
     let listener = tokio::net::UnixListener::from_std(listener).map_err(|error| Error::of_path(path, error))?;
     workers.spawn(hub::serve(listener, store, places(doors(options)), ending));
     Ok(Some(listening))

@@ -1,5 +1,6 @@
 //! What is said on the standard streams. The server serves on if they take nothing, such as a log on a full disk.
 
+use crate::error::{system_words, Error};
 use std::io::{self, Write};
 use std::os::unix::ffi::OsStrExt;
 use std::os::unix::io::AsRawFd;
@@ -20,6 +21,13 @@ pub fn announce(text: &str) {
     if let Err(error) = writeln!(output, "{text}").and_then(|()| output.flush()) {
         complain(&format!("standard output cannot be written: {error}"));
     }
+}
+
+/// Shows a text on standard output, for which alone the server was started.
+pub fn show(text: &str) -> Result<(), Error> {
+    let mut output = io::stdout();
+    let shown = output.write_all(text.as_bytes()).and_then(|()| output.flush());
+    shown.map_err(|error| Error::new(format!("standard output cannot be written: {}", system_words(&error))))
 }
 
 /// Says on standard error what went wrong.

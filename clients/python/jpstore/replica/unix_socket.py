@@ -60,7 +60,7 @@ def check_free(path: str) -> Optional[Tuple[int, int]]:
             pass
         except OSError as error:
             raise JpstoreError(f"{path} is a socket that cannot be looked at: {error.strerror}") from None
-    raise JpstoreError(f"another program listens at {path}")
+    raise JpstoreError(f"another program listens at {path}: connect to it, end it, or choose another path")
 
 
 def _place_of(path: str) -> Optional[Tuple[int, int]]:

@@ -53,7 +53,7 @@ def request(method, path, body=b"", **fields):
 
 def test_a_token(place):
     place.format()
-    file = place.text("token", TOKEN + "\n")
+    file = place.secret("token", TOKEN + "\n")
     with Gateway(place, "--token-file", file) as gateway:
         for fields in ({}, {"Authorization": "Bearer wrong"}, {"Authorization": f"Basic {TOKEN}"},
                        {"Authorization": f"Bearer {TOKEN}x"}, {"Authorization": TOKEN},
@@ -75,7 +75,7 @@ def test_another_address_needs_a_token(place):
     place.format()
     ended = place.run("http", place.file, "--listen", "0.0.0.0:0", status=1)
     assert b"needs a token (--token-file)" in ended.stderr
-    short = place.text("short", "abc")
+    short = place.secret("short", "abc")
     assert b"16 or more" in place.run("http", place.file, "--token-file", short, status=1).stderr
     for listen in ("8080", "127.0.0.1", "127.0.0.1:99999", ":80", "::1:80"):
         assert b"is not HOST:PORT" in place.run("http", place.file, "--listen", listen, status=1).stderr
@@ -99,7 +99,7 @@ def test_pages_of_other_origins(place, gateway):
 def test_an_origin_that_is_let_in(place):
     place.format()
     asked = "https://example.org"
-    with Gateway(place, "--origin", asked, "--token-file", place.text("token", TOKEN)) as gateway:
+    with Gateway(place, "--origin", asked, "--token-file", place.secret("token", TOKEN)) as gateway:
         answer = gateway.ask("OPTIONS", "/documents/a", Origin=asked, Access_Control_Request_Method="PUT",
                              Access_Control_Request_Headers="authorization,if-match")
         assert (answer.status, answer.headers["Access-Control-Allow-Origin"]) == (204, asked)

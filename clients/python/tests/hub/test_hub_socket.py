@@ -69,13 +69,14 @@ def test_a_socket_at_which_another_program_listens_is_left_to_it(place):
     place.format()
     with bound(place.path("other")) as other:
         other.listen()
-        assert refused(place, "other") == "another program listens at other\n"
+        what_to_do = ": connect to it, end it, or choose another path\n"
+        assert refused(place, "other") == "another program listens at other" + what_to_do
         with socket.socket(socket.AF_UNIX) as client:
             client.connect(place.path("other"))
     place.format(file=place.path("second"))
     with Hub(place) as hub, hub.connect() as store:
         said = place.run("hub", "second", "--socket", "socket", status=1).stderr.decode()
-        assert (said, store.names()) == ("another program listens at socket\n", [])
+        assert (said, store.names()) == ("another program listens at socket" + what_to_do, [])
 
 
 def test_a_socket_of_another_kind_is_left_as_it_is(place):
@@ -99,7 +100,8 @@ def test_a_stale_socket_is_replaced(place):
 def test_a_path_where_no_socket_can_be_is_told(place):
     place.format()
     assert refused(place, "no/socket").startswith("no socket can be made at no/socket: No such file or directory")
-    assert refused(place, "x" * 200).startswith("no socket can be made at xxx")
+    said = place.run("hub", "store", "--socket", "x" * 108, status=2).stderr
+    assert said == b"the path of a socket has at most 107 bytes, and this has 108: choose a shorter one\n"
     assert sorted(name for name in os.listdir(place.folder) if name != "store.changes") == ["store"]
 
 

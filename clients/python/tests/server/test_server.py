@@ -163,7 +163,7 @@ def test_a_request_has_a_host(place):
 
 def test_with_a_token_any_host_is_asked(place):
     place.format()
-    with Server(place, "--token-file", place.text("token", "correct-horse-battery-staple")) as server:
+    with Server(place, "--token-file", place.secret("token", "correct-horse-battery-staple")) as server:
         for sent, status in ((b"GET / HTTP/1.1\r\n\r\n", b"400"), (b"GET / HTTP/1.0\r\n\r\n", b"200"),
                              (b"GET / HTTP/1.1\r\nHost: other.example\r\n\r\n", b"200"),
                              (b"GET /x HTTP/1.1\r\nOrigin: http://localhost\r\n\r\n", b"400")):
@@ -217,13 +217,73 @@ def test_both_doors_lead_to_one_store(place):
 
 
 def test_wrong_words_are_told(place, server):
-    rows = [(["--help"], 0, b""), (["--version"], 0, b""), ([], 2, b"which store?"),
+    rows = [(["--help"], 0, b""), (["--version"], 0, b""), ([], 2, b"which store?"), ([""], 2, b"which store?"),
             (["a", "--none", "1"], 2, b"--none is no option"), (["a", "b"], 2, b"one word too many"),
             ([place.path("none"), "--socket", place.path("s"), "--program", place.program], 1, b"jpstore: file")]
     for words, status, told in rows:
+        check_refused(server, words, status, told)
+
+
+def check_refused(server, words, status, told):
+    """The server ends with this status at once, and says these words."""
+    ended = subprocess.run([server, *words], stdout=subprocess.PIPE, stderr=subprocess.PIPE, timeout=PATIENCE,
+                           check=False)
+    assert (ended.returncode, told in ended.stderr) == (status, True), (words, ended)
+
+
+VALUES = {
+    "--origin": ["evil", "null", "*", "https://example.org/", "https://example.org/page", "https://", "http://a b"],
+    "--patience": ["0", "-1", "x", "nan", "1e99", "0.05"],
+    "--wait": ["-1", "x", "inf"],
+    "--cache": ["-1", "1e6", "18446744073709551616", "64MiB"],
+    "--pump": ["-1", "1000001", "x"],
+    "--listen": ["8080", "127.0.0.1", "127.0.0.1:65536", "127.0.0.1:-1", ":80", "::1:80", "[::1:80"],
+    "--socket": ["s" * 108],
+    "--token-file": ["no-such-file", "."],
+    "--program": ["no-such-program", "/"],
+}
+
+
+@pytest.mark.parametrize("option", VALUES)
+def test_a_value_that_an_option_cannot_have_is_told(place, server, option):
+    place.format()
+    for value in ["", *VALUES[option]]:
+        words = [place.file, "--listen", "127.0.0.1:0", "--program", place.program, f"{option}={value}"]
+        shown = value.encode() if value and option != "--socket" else option.encode()
+        if option == "--socket":
+            shown = b"a socket has at most 107 bytes, and this has 108" if value else b"--socket"
         ended = subprocess.run([server, *words], stdout=subprocess.PIPE, stderr=subprocess.PIPE, timeout=PATIENCE,
                                check=False)
-        assert (ended.returncode, told in ended.stderr) == (status, True), (words, ended)
+        assert (ended.returncode in (1, 2), ended.stderr.count(b"\n"), shown in ended.stderr) == (True, 1, True), ended
+
+
+def test_a_token_is_read_by_its_owner_alone(place, server):
+    place.format()
+    path = place.secret("token", "correct-horse-battery-staple")
+    words = [place.file, "--listen", "127.0.0.1:0", "--program", place.program, "--token-file", path]
+    for rights in (0o604, 0o644, 0o602, 0o666):
+        os.chmod(path, rights)
+        check_refused(server, words, 1, f"other users can read or write this token: `chmod o= {path}`".encode())
+    for text in ("", "\n", "short", "with a blank in its midst"):
+        check_refused(server, [*words[:-1], place.secret("other", text)], 1, b"16 or more visible ASCII characters")
+    os.chmod(path, 0o640)
+    with Server(place, "--token-file", path) as running:
+        assert running.get("/documents").status == 401
+
+
+def test_an_origin_is_the_same_in_capitals_and_with_its_port(place):
+    place.format()
+    with Server(place, "--origin", "HTTPS://Example.org:443") as server:
+        assert server.get("/documents", Origin="https://example.org").status == 200
+        assert server.get("/documents", Origin="https://example.org:444").status == 403
+
+
+def test_a_port_that_another_program_has_is_told(place, server):
+    place.format()
+    with socket.create_server(("127.0.0.1", 0)) as other:
+        at = f"127.0.0.1:{other.getsockname()[1]}"
+        told = f"another program listens at {at}: end it, or choose another port".encode()
+        check_refused(server, [place.file, "--listen", at, "--program", place.program], 1, told)
 
 
 def test_a_hub_without_http_listens_nowhere_else(place):

@@ -228,7 +228,7 @@ impl History {
         kept.names = all;
     }
 
-    /// The next changes after a number: about `most` bytes, but one if there is one.
+    /// The next changes after a number: at most so many bytes, but one if there is one.
     pub fn after(&self, seq: u64, most: usize) -> Result<Vec<Event>, Gone> {
         let kept = self.kept();
         if seq < kept.base || seq > kept.last() {
@@ -236,11 +236,11 @@ impl History {
         }
         let (mut some, mut size) = (Vec::new(), 0);
         for event in kept.events.range((seq - kept.base) as usize..) {
-            some.push(event.clone());
-            size += event.size();
-            if size >= most {
+            size = event.size().saturating_add(size);
+            if size > most && !some.is_empty() {
                 break;
             }
+            some.push(event.clone());
         }
         Ok(some)
     }

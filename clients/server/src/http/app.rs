@@ -6,6 +6,7 @@ use super::guard::Guard;
 use super::reasons::Reasons;
 use crate::program::room::Room;
 use crate::store::Store;
+use std::sync::Arc;
 use std::time::Duration;
 use tokio::sync::Semaphore;
 
@@ -15,6 +16,9 @@ const BODIES: usize = 1 << 25;
 /// The most queries that are asked at once: a reply to one may have 16 MiB. The most bodies that are taken apart at once.
 const MOST_QUERIES: usize = 8;
 const MOST_TREES: usize = 8;
+
+/// The most clients that read all documents at once: each may have a file of them.
+const MOST_EXPORTS: usize = 16;
 
 /// The most clients that follow the changes.
 const MOST_FOLLOWERS: usize = 1000;
@@ -37,6 +41,8 @@ pub struct App {
     pub queries: Semaphore,
     /// The bodies that are taken apart.
     pub trees: Semaphore,
+    /// The clients that read all documents.
+    pub exports: Arc<Semaphore>,
     /// The followers that there may be.
     pub followers: Room,
     /// How long a client may take for a request; for a piece of an answer half of it.
@@ -55,6 +61,7 @@ impl App {
             bodies: Room::new(BODIES),
             queries: Semaphore::new(MOST_QUERIES),
             trees: Semaphore::new(MOST_TREES),
+            exports: Arc::new(Semaphore::new(MOST_EXPORTS)),
             followers: Room::new(MOST_FOLLOWERS),
             patience,
         }

@@ -127,11 +127,18 @@ impl Connection {
     /// The next head; none if the client has ended, was idle for too long, or the server ends.
     async fn head(&mut self) -> io::Result<Option<Result<Head, head::Malformed>>> {
         let deadline = Instant::now() + self.app.patience;
+        let (mut taken, mut size) = (self.app.bodies.begin(), READ);
         loop {
             match head::take(&mut self.buffer, &mut self.looked) {
                 Ok(Some(head)) => return Ok(Some(Ok(head))),
                 Ok(None) => (),
                 Err(malformed) => return Ok(Some(Err(malformed))),
+            }
+            if self.buffer.len() > size {
+                if !taken.more(self.buffer.len() - size) {
+                    return Ok(Some(Err(head::NO_ROOM)));
+                }
+                size = self.buffer.len();
             }
             if self.buffer.is_empty() && self.buffer.capacity() > PIECE {
                 self.buffer = BytesMut::new();
@@ -158,7 +165,8 @@ impl Connection {
         let mut response = self.response(head, &app).await;
         response.fields.extend(allowance);
         app.facts.count(&method, response.status);
-        let must_close = !self.body.is_done() && !self.body.may_be_dropped();
+        // A stream of which an old client can't see the end, or a body that can't be passed over.
+        let must_close = (response.is_stream() && !is_1_1) || (!self.body.is_done() && !self.body.may_be_dropped());
         let closes = !keeps || must_close || self.ending.has_begun() || response.status == 408;
         self.send(response, method == "HEAD", is_1_1, closes).await?;
         if closes {
@@ -185,9 +193,8 @@ impl Connection {
 
     /// Sends an answer.
     async fn send(&mut self, response: Response, is_head: bool, is_1_1: bool, closes: bool) -> io::Result<()> {
-        let is_stream = matches!(response.body, Body::Events(_) | Body::Lines(_));
         let mut head = self.head_of(&response);
-        if closes || (is_stream && !is_1_1) {
+        if closes {
             add_field(&mut head, "Connection", "close");
         } else if !is_1_1 {
             add_field(&mut head, "Connection", "keep-alive");
@@ -274,7 +281,14 @@ impl Connection {
             return self.write(piece).await;
         }
         let mut chunk = format!("{:x}\r\n", piece.len()).into_bytes();
-        chunk.extend_from_slice(piece);
+        if piece.len() <= PIECE {
+            chunk.extend_from_slice(piece);
+        } else {
+            // It isn't copied: many followers may be sent the same one.
+            self.write(&chunk).await?;
+            self.write(piece).await?;
+            chunk.clear();
+        }
         chunk.extend_from_slice(b"\r\n");
         self.write(&chunk).await
     }

@@ -4,7 +4,7 @@ use super::conditions::{exists, tag_of, Condition};
 use super::connection::Request;
 use super::lines::DocumentLines;
 use super::making::{changed, done, make, or_problem, Refused};
-use super::merge::operations_of;
+use super::merge::{operations_of, replacement_of};
 use super::notices::notices_in;
 use super::problem::Problem;
 use super::response::{Body, Response};
@@ -12,6 +12,7 @@ use super::target::parameters;
 use crate::json::canonical::{canonical, value_of};
 use crate::json::{compact, quoted, Compact, Fault};
 use crate::lines::replies::{self, names_in, text_in, told_names};
+use crate::lines::MOST_LINE;
 use crate::program::room::Taken;
 use crate::store::{too_busy, ATTEMPTS};
 use bytes::Bytes;
@@ -25,6 +26,9 @@ const ACCEPT_PATCH: &str = "application/json-patch+json, application/merge-patch
 const MOST_LEVELS: usize = 64;
 const MOST_LEVELS_OF_A_LINE: usize = 127;
 
+/// What the line of a change has at most beside its document or its operations.
+const MOST_BESIDE: usize = 256;
+
 /// Up to this size a document is sent without room being taken for it.
 const SHORT: usize = 1 << 16;
 
@@ -34,7 +38,7 @@ pub async fn names(request: &Request<'_>) -> Result<Response, Problem> {
     let (prefix, store) = (prefix.unwrap_or_default(), &request.app.store);
     let accepted = request.head.list("accept").unwrap_or_default().to_ascii_lowercase();
     if accepted.contains("application/x-ndjson") {
-        let (seq, lines) = DocumentLines::begin(store, &prefix).await?;
+        let (seq, lines) = DocumentLines::begin(&request.app, &prefix).await?;
         let mut response = Response::empty(200).with("Vary", "Accept").with("Jpstore-Seq", seq.to_string());
         response.kind = "application/x-ndjson";
         response.body = Body::Lines(Box::new(lines));
@@ -218,7 +222,7 @@ fn check_levels(name: &str, doc: &Compact) -> Result<(), Problem> {
     let is_name = (1..=64).contains(&name.len())
         && name.bytes().all(|byte| byte.is_ascii_alphanumeric() || b"-_.".contains(&byte));
     // Else it is refused for its name, or for its length.
-    if doc.levels > MOST_LEVELS && is_name && doc.text.len() < crate::lines::MOST_LINE - 256 {
+    if doc.levels > MOST_LEVELS && is_name && doc.text.len() < MOST_LINE - MOST_BESIDE {
         return Err(Problem::refused(13, "make the document flatter: it may nest at most 64 levels"));
     }
     Ok(())
@@ -309,7 +313,12 @@ async fn merging(request: &Request<'_>, name: &str, patch: &Compact) -> Result<V
     let document = request.app.store.document(name).await?;
     let _turn = request.app.trees.acquire().await;
     match (value_of(&document.text), value_of(&patch.text)) {
-        (Some(doc), Some(patch)) => Ok(canonical(&operations_of(&doc, &patch))),
+        (Some(doc), Some(patch)) => {
+            let operations = canonical(&operations_of(&doc, &patch));
+            // Operations may be longer than what they make, by their places.
+            let is_short = operations.len() < MOST_LINE - MOST_BESIDE;
+            Ok(if is_short { operations } else { canonical(&replacement_of(&doc, &patch)) })
+        }
         _ => Err(Problem::refused(11, "the patch nests deeper than 127 levels")),
     }
 }

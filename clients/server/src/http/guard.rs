@@ -5,12 +5,19 @@ use super::head::Head;
 use super::problem::Problem;
 use super::target::is_host;
 use crate::error::Error;
+use std::fs::File;
+use std::io::Read;
+use std::os::unix::fs::PermissionsExt;
 use std::path::Path;
 
 /// What is shown without a token: it has nothing of the store.
 const OPEN: [&str; 5] = ["/", "/page.css", "/page.js", "/healthz", "/openapi.json"];
 
 const LEAST_TOKEN: usize = 16;
+
+/// The rights of those who are neither the owner of a file nor of its group.
+const OTHERS: u32 = 0o006;
+
 const METHODS: &str = "GET, HEAD, PUT, PATCH, DELETE, POST";
 const FIELDS: &str = "Authorization, Content-Type, If-Match, If-None-Match, Last-Event-ID, Link";
 const SHOWN: &str = "ETag, Link, Location, Retry-After, Accept-Patch, Jpstore-Seq";
@@ -106,6 +113,22 @@ fn host_of(head: &Head, of_target: Option<&str>) -> Result<String, Problem> {
     Ok(of_target.map_or(host, str::to_owned))
 }
 
+/// An origin as browsers send it: the scheme and the host in small letters, and the port unless it is the scheme's own; none
+/// if the text is no origin (RFC 6454, section 6.1).
+pub fn origin_of(text: &str) -> Option<String> {
+    let made = text.to_ascii_lowercase();
+    let (scheme, host) = made.split_once("://")?;
+    let is_letter = |byte: u8| byte.is_ascii_alphanumeric() || b"+-.".contains(&byte);
+    let is_scheme = scheme.starts_with(|letter: char| letter.is_ascii_lowercase()) && scheme.bytes().all(is_letter);
+    let own_port = match scheme {
+        "http" => ":80",
+        "https" => ":443",
+        _ => ":",
+    };
+    let name = host.strip_suffix(own_port).unwrap_or(host);
+    (is_scheme && is_host(name) && !name.ends_with(':')).then(|| format!("{scheme}://{name}"))
+}
+
 /// Whether an origin is that of this server.
 fn is_own(origin: &str, host: &str) -> bool {
     let after = origin.split_once("://").map(|(_, rest)| rest);
@@ -130,9 +153,17 @@ fn is_same(given: &[u8], known: &[u8]) -> bool {
     given.len() == known.len() && differs == 0
 }
 
-/// The token in a file: a line of 16 or more visible characters.
+/// The token in a file that others can't read: a line of 16 or more visible characters.
 pub fn token_in(path: &Path) -> Result<Vec<u8>, Error> {
-    let text = std::fs::read(path).map_err(|error| Error::of_path(path, error))?;
+    let told = |error| Error::of_path(path, error);
+    let mut file = File::open(path).map_err(told)?;
+    let found = file.metadata().map_err(told)?;
+    if found.is_file() && found.permissions().mode() & OTHERS != 0 {
+        let path = path.display();
+        return Err(Error::new(format!("{path}: other users can read or write this token: `chmod o= {path}`")));
+    }
+    let mut text = Vec::new();
+    file.read_to_end(&mut text).map_err(told)?;
     let begin = text.iter().position(|byte| !byte.is_ascii_whitespace()).unwrap_or(text.len());
     let end = text.iter().rposition(|byte| !byte.is_ascii_whitespace()).map_or(begin, |place| place + 1);
     let token = &text[begin..end];
@@ -146,7 +177,7 @@ pub fn token_in(path: &Path) -> Result<Vec<u8>, Error> {
 
 #[cfg(test)]
 mod tests {
-    use super::{is_own, is_same, Guard};
+    use super::{is_own, is_same, origin_of, Guard};
 
     #[test]
     fn names_of_this_machine_are_known() {
@@ -156,6 +187,23 @@ mod tests {
         }
         for host in ["example.org", "", "localhost.example.org", "127.0.0.1.x", "[::3]"] {
             assert!(!guard.knows(host), "{host}");
+        }
+    }
+
+    #[test]
+    fn an_origin_has_a_scheme_and_a_host() {
+        for (text, told) in [
+            ("https://Example.org", "https://example.org"),
+            ("https://example.org:443", "https://example.org"),
+            ("http://[::1]:8081", "http://[::1]:8081"),
+            ("http://localhost:443", "http://localhost:443"),
+            ("moz-extension://0a1b", "moz-extension://0a1b"),
+        ] {
+            assert_eq!(origin_of(text).as_deref(), Some(told));
+        }
+        let none = ["evil", "null", "*", "https://", "https://example.org/", "https://a b", "://a", "http://a:", "http://a:b"];
+        for text in none {
+            assert_eq!(origin_of(text), None, "{text}");
         }
     }
 

@@ -46,6 +46,10 @@ pub struct Malformed {
     pub told: &'static str,
 }
 
+/// What is said of a long head, if too many bytes of requests are in memory.
+pub const NO_ROOM: Malformed =
+    Malformed { status: 503, told: "too many bytes of requests are on their way: send the request again" };
+
 const fn malformed<T>(told: &'static str) -> Result<T, Malformed> {
     Err(Malformed { status: 400, told })
 }

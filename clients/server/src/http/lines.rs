@@ -1,18 +1,25 @@
 //! All documents of one moment as lines of JSON.
 
+use super::app::App;
 use super::problem::Problem;
 use crate::other::LineStream;
 use crate::program::Spool;
-use crate::store::{Store, Which};
+use crate::store::Which;
 use bytes::{Bytes, BytesMut};
 use serde_json::value::RawValue;
 use serde_json::Value;
 use std::collections::BTreeMap;
 use std::io;
+use std::time::Duration;
 use tokio::io::AsyncWriteExt;
+use tokio::sync::OwnedSemaphorePermit;
+use tokio::time::timeout;
 
 /// How many bytes are gathered before they are written.
 const PIECE: usize = 1 << 16;
+
+/// How long a client waits until others have read.
+const TURN: Duration = Duration::from_secs(5);
 
 const EXPORT: &[u8] = b"{\"cmd\":\"export\"}\n";
 
@@ -27,14 +34,18 @@ enum Source {
 pub struct DocumentLines {
     source: Source,
     is_done: bool,
+    _turn: OwnedSemaphorePermit,
 }
 
 impl DocumentLines {
     /// The lines of the documents whose names begin with the prefix, and the number of the last change in them.
-    pub async fn begin(store: &Store, prefix: &str) -> Result<(u64, DocumentLines), Problem> {
+    pub async fn begin(app: &App, prefix: &str) -> Result<(u64, DocumentLines), Problem> {
+        let turn = timeout(TURN, app.exports.clone().acquire_owned()).await.ok().and_then(Result::ok);
+        let turn = turn.ok_or_else(|| Problem::busy("too many clients read all documents: send the request again"))?;
+        let store = &app.store;
         let source = match &store.which {
             Which::Own(handle) => {
-                let spool = handle.export(prefix).await.map_err(|_| Problem::unavailable())?;
+                let spool = handle.export(prefix, &store.answers).await.map_err(|_| Problem::unavailable())?;
                 let spool = spool
                     .map_err(|error| Problem::new(500, "failed", format!("the documents can't be kept: {error}")))?;
                 Source::Spool(spool, BytesMut::new())
@@ -45,7 +56,7 @@ impl DocumentLines {
                 Source::Stream(stream, prefix.to_owned())
             }
         };
-        let mut lines = DocumentLines { source, is_done: false };
+        let mut lines = DocumentLines { source, is_done: false, _turn: turn };
         let first = lines.line().await.ok().flatten().ok_or_else(Problem::unavailable)?;
         let told: Value = serde_json::from_slice(&first).unwrap_or_default();
         match told.get("seq").and_then(Value::as_u64) {

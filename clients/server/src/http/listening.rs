@@ -1,6 +1,7 @@
 //! The address at which the server is asked over HTTP.
 
 use crate::error::{system_words, Error};
+use std::io::ErrorKind;
 use std::net::{SocketAddr, ToSocketAddrs};
 use tokio::net::{TcpListener, TcpSocket};
 
@@ -45,7 +46,13 @@ pub fn at(address: SocketAddr) -> Result<TcpListener, Error> {
         socket.bind(address)?;
         socket.listen(BACKLOG)
     };
-    bound().map_err(|error| Error::new(format!("{address} cannot be listened at: {}", system_words(&error))))
+    bound().map_err(|error| match error.kind() {
+        ErrorKind::AddrInUse => Error::new(format!("another program listens at {address}: end it, or choose another port")),
+        ErrorKind::PermissionDenied => {
+            Error::new(format!("only root may listen at {address}: choose a port from 1024 on, and a proxy before it"))
+        }
+        _ => Error::new(format!("{address} cannot be listened at: {}", system_words(&error))),
+    })
 }
 
 #[cfg(test)]

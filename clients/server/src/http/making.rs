@@ -38,7 +38,7 @@ impl Refused {
 
     /// The problem, with the place of the fault if that is found in time.
     pub async fn problem(self, app: &App) -> Problem {
-        app.reasons.told_of_change(&app.store, self.problem, &self.line).await
+        app.reasons.told_of_change(app, self.problem, &self.line).await
     }
 }
 

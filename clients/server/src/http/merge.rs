@@ -1,19 +1,26 @@
 //! A JSON Merge Patch (RFC 7396) as the operations of a JSON Patch (RFC 6902) on what a document holds.
 
+use crate::lines::MOST_LINE;
 use serde_json::{json, Map, Value};
 
-/// The most operations of a patch.
+/// The most operations of a patch, and the most bytes of their places: each has the whole place of what it changes.
 const MOST_OPERATIONS: usize = 4096;
+const MOST_PLACES: usize = MOST_LINE;
 
-/// Operations that make of the document what the merge patch asks for; above their limit it is replaced whole.
+/// Operations that make of the document what the merge patch asks for; above their limits it is replaced whole.
 pub fn operations_of(doc: &Value, patch: &Value) -> Value {
     if let (Value::Object(members), Value::Object(changes)) = (doc, patch) {
-        let mut operations = Vec::new();
-        differences("", members, changes, &mut operations);
-        if operations.len() <= MOST_OPERATIONS {
-            return Value::Array(operations);
+        let mut differences = Differences::default();
+        differences.add("", members, changes);
+        if !differences.are_too_many() {
+            return Value::Array(differences.operations);
         }
     }
+    replacement_of(doc, patch)
+}
+
+/// The operation that replaces the document by what the merge patch makes of it.
+pub fn replacement_of(doc: &Value, patch: &Value) -> Value {
     json!([{"op": "replace", "path": "", "value": merged(Some(doc), patch)}])
 }
 
@@ -35,26 +42,41 @@ fn merged(target: Option<&Value>, patch: &Value) -> Value {
     Value::Object(result)
 }
 
-fn differences(place: &str, doc: &Map<String, Value>, patch: &Map<String, Value>, operations: &mut Vec<Value>) {
-    for (name, value) in patch {
-        if operations.len() > MOST_OPERATIONS {
-            return;
-        }
-        let path = format!("{place}/{}", name.replace('~', "~0").replace('/', "~1"));
-        match (value, doc.get(name)) {
-            (Value::Null, None) => (),
-            (Value::Null, Some(_)) => operations.push(json!({"op": "remove", "path": path})),
-            (Value::Object(changes), Some(Value::Object(members))) => differences(&path, members, changes, operations),
-            // In an object `add` also replaces.
-            _ => operations.push(json!({"op": "add", "path": path, "value": merged(None, value)})),
+/// The operations, and how many bytes their places have.
+#[derive(Default)]
+struct Differences {
+    operations: Vec<Value>,
+    places: usize,
+}
+
+impl Differences {
+    fn are_too_many(&self) -> bool {
+        self.operations.len() > MOST_OPERATIONS || self.places > MOST_PLACES
+    }
+
+    /// Adds what makes the members at a place as the patch wants them.
+    fn add(&mut self, place: &str, doc: &Map<String, Value>, patch: &Map<String, Value>) {
+        for (name, value) in patch {
+            if self.are_too_many() {
+                return;
+            }
+            let path = format!("{place}/{}", name.replace('~', "~0").replace('/', "~1"));
+            self.places += path.len();
+            match (value, doc.get(name)) {
+                (Value::Null, None) => (),
+                (Value::Null, Some(_)) => self.operations.push(json!({"op": "remove", "path": path})),
+                (Value::Object(changes), Some(Value::Object(members))) => self.add(&path, members, changes),
+                // In an object `add` also replaces.
+                _ => self.operations.push(json!({"op": "add", "path": path, "value": merged(None, value)})),
+            }
         }
     }
 }
 
 #[cfg(test)]
 mod tests {
-    use super::{merged, operations_of};
-    use serde_json::{json, Value};
+    use super::{merged, operations_of, MOST_PLACES};
+    use serde_json::{json, Map, Value};
 
     #[test]
     fn the_examples_of_the_standard() {
@@ -86,7 +108,10 @@ mod tests {
             json!([{"op": "replace", "path": "", "value": {"a": 1}}])
         );
         let many: Value =
-            (0..5000).map(|number| (number.to_string(), json!(1))).collect::<serde_json::Map<_, _>>().into();
+            (0..5000).map(|number| (number.to_string(), json!(1))).collect::<Map<_, _>>().into();
         assert_eq!(operations_of(&json!({}), &many).as_array().unwrap().len(), 1);
+        let long = "n".repeat(MOST_PLACES / 2);
+        let (doc, patch) = (json!({ long.as_str(): {} }), json!({ long.as_str(): {"a": 1, "b": 2, "c": 3} }));
+        assert_eq!(operations_of(&doc, &patch), json!([{"op": "replace", "path": "", "value": patch}]));
     }
 }

@@ -183,29 +183,29 @@ fn meant_by(word: &str) -> Option<&'static str> {
     if word.len() > LONGEST + 1 || keywords().any(|known| known == word) {
         return None;
     }
-    let lower = word.to_lowercase();
-    keywords().filter(|known| is_one_letter_away(&lower, &known.to_lowercase())).min()
+    let letters: Vec<char> = word.to_lowercase().chars().collect();
+    keywords().filter(|known| is_one_letter_away(&letters, known.as_bytes())).min()
 }
 
-/// Whether a letter is changed, missing or too many, or two neighbours are exchanged.
-fn is_one_letter_away(word: &str, known: &str) -> bool {
-    let (word, known): (Vec<char>, Vec<char>) = (word.chars().collect(), known.chars().collect());
+/// Whether a letter is changed, missing or too many, or two neighbours are exchanged. A schema has many words, so nothing is
+/// made for this.
+fn is_one_letter_away(word: &[char], known: &[u8]) -> bool {
     if word.len().abs_diff(known.len()) > 1 {
         return false;
     }
-    let (short, long) = if word.len() <= known.len() { (word, known) } else { (known, word) };
-    let first = short.iter().zip(&long).position(|(one, other)| one != other).unwrap_or(short.len());
-    if short.len() < long.len() {
-        return short[first..] == long[first + 1..];
+    let is_same = |(letter, byte): (&char, &u8)| *letter == char::from(byte.to_ascii_lowercase());
+    let first = word.iter().zip(known).position(|pair| !is_same(pair)).unwrap_or(word.len().min(known.len()));
+    let same_rest = |in_word: usize, in_known: usize| word[in_word..].iter().zip(&known[in_known..]).all(is_same);
+    if word.len() != known.len() {
+        let longer = word.len() > known.len();
+        return same_rest(first + usize::from(longer), first + usize::from(!longer));
     }
-    if first == short.len() {
+    let next = first + 1;
+    if next >= word.len() {
         return true;
     }
-    let mut exchanged = long.clone();
-    if first + 1 < long.len() {
-        exchanged.swap(first, first + 1);
-    }
-    short[first + 1..] == long[first + 1..] || short == exchanged
+    let is_exchanged = is_same((&word[first], &known[next])) && is_same((&word[next], &known[first]));
+    same_rest(next, next) || (is_exchanged && same_rest(next + 1, next + 1))
 }
 
 #[cfg(test)]
@@ -230,9 +230,13 @@ mod tests {
 
     #[test]
     fn a_letter_is_changed_missing_too_many_or_exchanged() {
-        for word in ["minimun", "minimm", "miinimum", "minmium"] {
-            assert!(is_one_letter_away(word, "minimum"), "{word}");
+        let is_away = |word: &str, known: &str| is_one_letter_away(&word.chars().collect::<Vec<char>>(), known.as_bytes());
+        for word in ["minimun", "minimm", "miinimum", "minmium", "inimum", "minimu", "aminimum", "minimums", "minim\u{fc}m"] {
+            assert!(is_away(word, "minimum"), "{word}");
         }
-        assert!(!is_one_letter_away("minmum1", "minimum") && !is_one_letter_away("mnum", "enum1"));
+        assert!(is_away("additionalproperties", "additionalProperties"));
+        for (word, known) in [("minmum1", "minimum"), ("mnum", "enum1"), ("imnimmu", "minimum"), ("", "if"), ("fit", "if")] {
+            assert!(!is_away(word, known), "{word}");
+        }
     }
 }

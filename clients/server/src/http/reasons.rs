@@ -4,13 +4,14 @@
 //! transaction, and the document and the schema that the store has, if they are needed. It is answered with a line that has
 //! the faults of a document, and a text that tells the place. A process that takes too long is killed.
 
+use super::app::App;
 use super::problem::Problem;
 use crate::ending::Ending;
 use crate::json::canonical::value_in;
 use crate::lines::replies::{self, text_in};
 use crate::store::Store;
 use serde_json::value::RawValue;
-use serde_json::{json, Value};
+use serde_json::Value;
 use std::collections::BTreeMap;
 use std::ffi::OsString;
 use std::path::{Path, PathBuf};
@@ -93,35 +94,34 @@ impl Reasons {
     pub async fn told(&self, problem: Problem, line: &[u8]) -> Problem {
         match problem.number {
             Some(number) if TOLD.contains(&number) => {
-                let command = value_in(line).unwrap_or_default();
-                let asked = json!({"before": [], "command": command, "number": number, "pair": []});
-                self.added(problem, &asked).await
+                let command = String::from_utf8_lossy(line);
+                self.added(problem, asked(number, &[], command.trim_end(), &[])).await
             }
             _ => problem,
         }
     }
 
     /// The problem of a refused change, with the place of the fault if that is found.
-    pub async fn told_of_change(&self, store: &Store, problem: Problem, line: &[u8]) -> Problem {
+    pub async fn told_of_change(&self, app: &App, problem: Problem, line: &[u8]) -> Problem {
         let number = match problem.number {
             Some(number) if TOLD.contains(&number) => number,
             _ => return problem,
         };
-        let mut command = value_in(line).unwrap_or_default();
-        let mut before = Vec::new();
-        if let (Some(place), Some(changes)) = (problem.change, command.get_mut("changes").and_then(Value::as_array_mut))
-        {
-            changes.truncate(place as usize + 1);
-            let last = changes.pop().unwrap_or_default();
-            before = std::mem::take(changes);
-            command = last;
-        }
-        let pair = if number == INVALID { pair_of(store, &before, &command).await } else { Vec::new() };
-        self.added(problem, &json!({"before": before, "command": command, "number": number, "pair": pair})).await
+        let refused = {
+            // The values take much more memory than the line, so only a few clients have them at once, and not for long.
+            let _turn = app.trees.acquire().await;
+            Refused::of(line, problem.change)
+        };
+        let pair = match &refused.document {
+            Some(name) if number == INVALID => pair_of(&app.store, name).await,
+            _ => Vec::new(),
+        };
+        let (before, command) = (&refused.before[..], &refused.command[..]);
+        self.added(problem, asked(number, before, command, &pair)).await
     }
 
-    async fn added(&self, mut problem: Problem, asked: &Value) -> Problem {
-        if let Some(told) = self.looked(format!("{asked}\n").into_bytes()).await {
+    async fn added(&self, mut problem: Problem, asked: Vec<u8>) -> Problem {
+        if let Some(told) = self.looked(asked).await {
             if !told.detail.is_empty() {
                 problem.detail = told.detail;
             }
@@ -161,24 +161,49 @@ fn lock(idle: &Mutex<Idle>) -> MutexGuard<'_, Idle> {
     idle.lock().unwrap_or_else(std::sync::PoisonError::into_inner)
 }
 
-/// The document and the schema that the store has, unless the changes make the document.
-async fn pair_of(store: &Store, before: &[Value], command: &Value) -> Vec<Value> {
-    let name = match command.get("name").and_then(Value::as_str) {
-        Some(name) => name,
-        None => return Vec::new(),
-    };
-    let makes = |change: &Value| {
-        change.get("cmd").and_then(Value::as_str) == Some("create")
-            && change.get("name").and_then(Value::as_str) == Some(name)
-    };
-    if before.iter().chain([command]).any(makes) {
-        return Vec::new();
+/// A change that was refused, in texts.
+struct Refused {
+    /// The changes before it in its transaction.
+    before: Vec<String>,
+    command: String,
+    /// The document that it changes, unless it or one before it makes that.
+    document: Option<String>,
+}
+
+impl Refused {
+    fn of(line: &[u8], place: Option<u64>) -> Refused {
+        let mut command = value_in(line).unwrap_or_default();
+        let mut before = Vec::new();
+        if let (Some(place), Some(changes)) = (place, command.get_mut("changes").and_then(Value::as_array_mut)) {
+            changes.truncate(place as usize + 1);
+            let last = changes.pop().unwrap_or_default();
+            before = std::mem::take(changes);
+            command = last;
+        }
+        let name = command.get("name").and_then(Value::as_str);
+        let makes = |change: &&Value| {
+            let word = |member: &str| change.get(member).and_then(Value::as_str);
+            word("cmd") == Some("create") && word("name") == name
+        };
+        let is_made = before.iter().chain([&command]).any(|change| makes(&change));
+        let document = name.filter(|_| !is_made).map(str::to_owned);
+        Refused { before: before.iter().map(Value::to_string).collect(), command: command.to_string(), document }
     }
+}
+
+/// What a process is asked: a line with these JSON texts.
+fn asked(number: u64, before: &[String], command: &str, pair: &[String]) -> Vec<u8> {
+    let (before, pair) = (before.join(","), pair.join(","));
+    format!("{{\"before\":[{before}],\"command\":{command},\"number\":{number},\"pair\":[{pair}]}}\n").into_bytes()
+}
+
+/// The texts of the document and the schema that the store has.
+async fn pair_of(store: &Store, name: &str) -> Vec<String> {
     let told = match store.ask(&[replies::get(name, ""), replies::get_schema(name)]).await {
         Ok(told) => told,
         Err(_) => return Vec::new(),
     };
-    told.lines.iter().filter_map(|reply| serde_json::from_slice(text_in(reply)?).ok()).collect()
+    told.lines.iter().filter_map(|reply| String::from_utf8(text_in(reply)?.to_vec()).ok()).collect()
 }
 
 /// What an answer tells, of which the faults stay as they are.

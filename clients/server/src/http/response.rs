@@ -50,6 +50,11 @@ impl Response {
         Response::text(status, "application/json", text + "\n")
     }
 
+    /// Whether its end isn't known when it begins.
+    pub fn is_stream(&self) -> bool {
+        matches!(self.body, Body::Events(_) | Body::Lines(_))
+    }
+
     /// The same with a further field.
     pub fn with(mut self, name: &'static str, value: impl Into<String>) -> Response {
         self.fields.push((name, value.into()));

@@ -143,7 +143,7 @@ impl Client {
 
     /// Hands the client all documents of one moment.
     async fn export(&mut self) -> io::Result<()> {
-        let mut spool: Spool = match self.store.export("").await {
+        let mut spool: Spool = match self.store.export("", &self.room).await {
             Ok(spool) => spool?,
             Err(_) => return Err(io::ErrorKind::BrokenPipe.into()),
         };

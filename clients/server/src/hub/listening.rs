@@ -5,8 +5,9 @@ use std::fs::{self, Metadata};
 use std::io;
 use std::os::unix::fs::{FileTypeExt, MetadataExt};
 use std::os::unix::io::AsRawFd;
-use std::os::unix::net::{UnixListener, UnixStream};
+use std::os::unix::net::UnixListener;
 use std::path::{Path, PathBuf};
+use tokio::net::UnixStream;
 
 /// The most connections that wait until they are taken.
 const BACKLOG: libc::c_int = 1024;
@@ -22,8 +23,8 @@ pub struct Listening {
 
 impl Listening {
     /// Binds the socket.
-    pub fn at(path: &Path) -> Result<(Listening, UnixListener), Error> {
-        let stale = check_free(path)?;
+    pub async fn at(path: &Path) -> Result<(Listening, UnixListener), Error> {
+        let stale = check_free(path).await?;
         // Looked at once more, right before: nothing but that stale socket is ever removed.
         if stale.is_some() && place_of(path) == stale {
             fs::remove_file(path).map_err(|error| no_socket(path, &error))?;
@@ -63,7 +64,7 @@ fn no_socket(path: &Path, error: &io::Error) -> Error {
 }
 
 /// An error if no socket can be made at the path; else the stale socket that is there, if there is one.
-pub fn check_free(path: &Path) -> Result<Option<Place>, Error> {
+pub async fn check_free(path: &Path) -> Result<Option<Place>, Error> {
     let shown = path.display();
     let found = match fs::symlink_metadata(path) {
         Ok(found) => found,
@@ -76,18 +77,16 @@ pub fn check_free(path: &Path) -> Result<Option<Place>, Error> {
             "{shown} is {kind} and not a socket, and is left as it is: choose another path"
         )));
     }
-    match UnixStream::connect(path) {
+    // It isn't waited until that program takes a connection.
+    match UnixStream::connect(path).await {
         Err(error) if matches!(error.kind(), io::ErrorKind::ConnectionRefused | io::ErrorKind::NotFound) => {
             Ok(Some((found.dev(), found.ino())))
         }
-        Ok(_) => Err(Error::new(format!("another program listens at {shown}"))),
-        Err(error) if error.kind() == io::ErrorKind::WouldBlock => {
-            Err(Error::new(format!("another program listens at {shown}")))
-        }
-        Err(error) => {
+        Err(error) if error.kind() != io::ErrorKind::WouldBlock => {
             let told = system_words(&error);
             Err(Error::new(format!("{shown} is a socket that cannot be looked at: {told}")))
         }
+        _ => Err(Error::new(format!("another program listens at {shown}: connect to it, end it, or choose another path"))),
     }
 }
 

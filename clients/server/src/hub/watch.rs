@@ -48,8 +48,11 @@ pub(super) async fn tell(
             continue;
         }
         since += events.len() as u64;
-        let lines: Vec<u8> = events.iter().flat_map(|event: &Event| event.line()).collect();
-        client.write(&lines).await?;
+        match &events[..] {
+            // It isn't copied: many watchers may be sent the same one.
+            [one] => client.write(&one.line()).await?,
+            some => client.write(&some.iter().flat_map(Event::line).collect::<Vec<u8>>()).await?,
+        }
     }
 }
 

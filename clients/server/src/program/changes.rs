@@ -41,7 +41,7 @@ impl Engine {
             let (group, others) = rest.split_at(count);
             for (reply, (index, _)) in self.group(group).await?.iter().zip(group) {
                 if let Some(pending) = &mut round[*index] {
-                    pending.replies.extend_from_slice(reply);
+                    pending.add_done(reply);
                 }
             }
             rest = others;
@@ -81,7 +81,7 @@ impl Engine {
         Ok(())
     }
 
-    /// The replies to a group of changes, after they were noted, and after the copies of their documents were replaced.
+    /// The replies to a group of changes, after the copies of their documents were replaced, and after they were noted.
     async fn group(&mut self, group: &[(usize, Line)]) -> io::Result<Vec<Bytes>> {
         let mut input = Vec::with_capacity(group.iter().map(|(_, line)| line.len()).sum::<usize>() + STATUS.len());
         group.iter().for_each(|(_, line)| input.extend_from_slice(line));
@@ -100,8 +100,9 @@ impl Engine {
         }
         self.check_number(self.status.seq, changes.len())?;
         if !changes.is_empty() {
-            self.recorder.record(&self.history, &changes, &self.status);
+            // First the copies: who is told of a change reads no older document.
             self.replace_copies(names).await?;
+            self.recorder.record(&self.history, &changes, &self.status);
         }
         Ok(replies)
     }

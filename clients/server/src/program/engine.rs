@@ -167,8 +167,7 @@ impl Engine {
     }
 
     pub(super) async fn round(&mut self, jobs: Vec<Job>) -> io::Result<()> {
-        let mut round: Vec<Option<Pending>> =
-            jobs.into_iter().map(|job| Some(Pending { job, replies: Vec::new(), asked: 0 })).collect();
+        let mut round: Vec<Option<Pending>> = jobs.into_iter().map(|job| Some(Pending::new(job))).collect();
         let done = self.parts(&mut round).await;
         if done.is_err() {
             // The program ended: what it had answered goes out.
@@ -189,7 +188,7 @@ impl Engine {
             let all = if pending.is_full() { Vec::new() } else { std::mem::take(&mut pending.job.lines.snapshots) };
             for line in all {
                 let reply = self.snapshot(&line).await?;
-                pending.replies.extend_from_slice(&reply);
+                pending.add_done(&reply);
             }
             send(pending);
         }

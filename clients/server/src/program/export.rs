@@ -1,6 +1,7 @@
 //! The answer to `export`: all documents of one moment.
 
 use super::engine::Engine;
+use super::room::Room;
 use super::spool::Spool;
 use crate::lines::replies::{self, names_in, rev_in, text_in, Status, OK};
 use crate::lines::{LIST, STATUS};
@@ -16,14 +17,16 @@ const TOGETHER: usize = 16;
 pub struct Wanted {
     /// Only documents are wanted whose names begin so.
     pub prefix: String,
+    /// The room that the answer takes, as far as it is in memory.
+    pub room: Room,
     /// To whom it goes; an error if it can't be kept until then.
     pub reply: oneshot::Sender<io::Result<Spool>>,
 }
 
 /// Reads the documents, while no change is made. Between pieces the questions of others are answered.
 pub async fn export(engine: &mut Engine, wanted: Wanted) -> io::Result<()> {
-    let mut spool = Spool::default();
-    let kept = read(engine, &wanted.prefix, &mut spool).await?;
+    let mut spool = Spool::new(&wanted.room);
+    let kept = read(engine, &wanted, &mut spool).await?;
     let done = kept.and_then(|()| spool.rewind());
     if let Err(error) = &done {
         say::complain(&format!("an export is broken off: {error}"));
@@ -34,14 +37,14 @@ pub async fn export(engine: &mut Engine, wanted: Wanted) -> io::Result<()> {
 }
 
 /// Writes the answer: the outer error is that of the program, the inner one that of the file.
-async fn read(engine: &mut Engine, prefix: &str, spool: &mut Spool) -> io::Result<io::Result<()>> {
+async fn read(engine: &mut Engine, wanted: &Wanted, spool: &mut Spool) -> io::Result<io::Result<()>> {
     let told = engine.exchange(&[LIST, STATUS].concat(), 2).await?;
     let (names, seq) = match (names_in(&told[0]), Status::of(&told[1])) {
         (Some(names), Some(status)) => (names, status.seq),
         (None, _) => return Ok(spool.write(&told[0])),
         (_, None) => return Ok(spool.write(&told[1])),
     };
-    let names: Vec<String> = names.into_iter().filter(|name| name.starts_with(prefix)).collect();
+    let names: Vec<String> = names.into_iter().filter(|name| name.starts_with(&wanted.prefix)).collect();
     let mut written = spool.write(format!("{{\"documents\":{},\"ok\":true,\"seq\":{seq}}}\n", names.len()).as_bytes());
     for some in names.chunks(TOGETHER) {
         let lines: String =
@@ -49,7 +52,7 @@ async fn read(engine: &mut Engine, prefix: &str, spool: &mut Spool) -> io::Resul
         let told = engine.exchange(lines.as_bytes(), 3 * some.len()).await?;
         if let Some(refused) = told.iter().find(|reply| !reply.starts_with(OK)) {
             // Such as out of memory. It is the only answer.
-            *spool = Spool::default();
+            *spool = Spool::new(&wanted.room);
             return Ok(spool.write(refused));
         }
         for (name, replies) in some.iter().zip(told.chunks(3)) {

@@ -4,6 +4,7 @@ use super::cache::Cache;
 use super::export::Wanted;
 use super::growing::{self, Turn};
 use super::job::Job;
+use super::room::Room;
 use super::spool::Spool;
 use crate::history::History;
 use std::io;
@@ -40,10 +41,11 @@ impl Handle {
         let _ = self.messages.send(Message::Job(job));
     }
 
-    /// Asks for the documents of one moment whose names begin with the prefix.
-    pub fn export(&self, prefix: &str) -> oneshot::Receiver<io::Result<Spool>> {
+    /// Asks for the documents of one moment whose names begin with the prefix. In memory they take this room.
+    pub fn export(&self, prefix: &str, room: &Room) -> oneshot::Receiver<io::Result<Spool>> {
         let (reply, answer) = oneshot::channel();
-        let _ = self.messages.send(Message::Export(Wanted { prefix: prefix.to_owned(), reply }));
+        let wanted = Wanted { prefix: prefix.to_owned(), room: room.clone(), reply };
+        let _ = self.messages.send(Message::Export(wanted));
         answer
     }
 

@@ -49,14 +49,46 @@ pub struct Answer {
 pub(super) struct Pending {
     pub job: Job,
     pub replies: Vec<u8>,
-    /// The questions of it that were asked.
-    pub asked: usize,
+    taken: Taken,
+    /// The questions of it that were asked, and those whose replies are here.
+    asked: usize,
+    answered: usize,
+    /// Whether a reply had no room.
+    short: bool,
 }
 
 impl Pending {
+    /// A job of which nothing is done yet.
+    pub fn new(job: Job) -> Pending {
+        let taken = job.room.begin();
+        Pending { job, replies: Vec::new(), taken, asked: 0, answered: 0, short: false }
+    }
+
+    /// Adds what a change or a snapshot was answered. It is short, and was done, so it takes no room.
+    pub fn add_done(&mut self, reply: &[u8]) {
+        self.replies.extend_from_slice(reply);
+    }
+
+    /// Adds the reply to a question, and the room that it takes. After one without room, further ones are left out. Who
+    /// asks for a whole document takes the room for it then.
+    pub fn add(&mut self, reply: &[u8]) {
+        let needs_room = !self.short && matches!(self.job.reply, Reply::Lines(_));
+        self.short |= needs_room && !self.taken.more(reply.len());
+        if !self.short {
+            self.replies.extend_from_slice(reply);
+            self.answered += 1;
+        }
+    }
+
     /// Whether the client has to take replies before it is handed further ones.
     pub fn is_full(&self) -> bool {
-        !self.job.whole && self.replies.len() > MOST_REPLIES
+        self.short || (!self.job.whole && self.replies.len() > MOST_REPLIES)
+    }
+
+    fn is_done(&self) -> bool {
+        let lines = &self.job.lines;
+        let is_all = self.asked == lines.questions.len() && lines.snapshots.is_empty();
+        lines.changes.is_empty() && (self.is_full() || (is_all && !self.replies.is_empty()))
     }
 }
 
@@ -68,14 +100,10 @@ pub(super) fn next_question(pending: &mut Option<Pending>) -> Option<Line> {
     Some(line)
 }
 
-/// Answers those whose lines are all done.
+/// Answers those whose lines are all done, and those who have to take replies before.
 pub(super) fn finish(round: &mut [Option<Pending>]) {
     for pending in round {
-        let is_done = |pending: &Pending| {
-            let lines = &pending.job.lines;
-            lines.changes.is_empty() && pending.asked == lines.questions.len() && lines.snapshots.is_empty()
-        };
-        if pending.as_ref().map_or(false, |pending| is_done(pending) && !pending.replies.is_empty()) {
+        if pending.as_ref().map_or(false, Pending::is_done) {
             pending.take().into_iter().for_each(send);
         }
     }
@@ -83,12 +111,14 @@ pub(super) fn finish(round: &mut [Option<Pending>]) {
 
 /// Hands the replies to the one who waits for them. One who has gone away wants none.
 pub(super) fn send(pending: Pending) {
-    let Pending { mut job, replies, asked } = pending;
+    let Pending { mut job, replies, taken, answered, short, .. } = pending;
     match job.reply {
+        Reply::Lines(reply) if short && (job.whole || replies.is_empty()) => {
+            let _ = reply.send(Err(NoRoom));
+        }
         Reply::Lines(reply) => {
-            job.lines.questions.drain(..asked);
-            let answer = job.room.take(replies.len()).ok_or(NoRoom);
-            let _ = reply.send(answer.map(|taken| Answer { replies, rest: job.lines, taken }));
+            job.lines.questions.drain(..answered);
+            let _ = reply.send(Ok(Answer { replies, rest: job.lines, taken }));
         }
         Reply::Document(_, reply) => {
             if let Some((rev, value)) = two_in(&replies) {

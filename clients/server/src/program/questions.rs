@@ -44,7 +44,7 @@ impl Engine {
         for (index, line) in window.drain(..) {
             let reply = if line.is_empty() { refusal(10).into() } else { told.next().unwrap_or_default() };
             if let Some(pending) = &mut round[index] {
-                pending.replies.extend_from_slice(&reply);
+                pending.add(&reply);
                 if let Reply::Document(name, _) = &pending.job.reply {
                     self.keep(name, &pending.replies);
                 }

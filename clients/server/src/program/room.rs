@@ -41,11 +41,16 @@ impl Taken {
         self.size += if enough { size } else { 0 };
         enough
     }
+
+    /// Gives back what was taken.
+    pub fn give_back(&mut self) {
+        self.room.left.fetch_add(std::mem::take(&mut self.size), Ordering::Relaxed);
+    }
 }
 
 impl Drop for Taken {
     fn drop(&mut self) {
-        self.room.left.fetch_add(self.size, Ordering::Relaxed);
+        self.give_back();
     }
 }
 

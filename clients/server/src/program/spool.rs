@@ -1,5 +1,6 @@
-//! The answer to `export`: in memory as long as it is small, and else in a file without a name.
+//! The answer to `export`: in memory as long as it is small and there is room, and else in a file without a name.
 
+use super::room::{Room, Taken};
 use bytes::Bytes;
 use std::fs::{File, OpenOptions};
 use std::io::{self, Read, Seek, SeekFrom, Write};
@@ -10,20 +11,26 @@ const MOST: usize = 1 << 22;
 const PIECE: usize = 1 << 16;
 
 /// Bytes that are written, and then read once.
-#[derive(Default)]
 pub struct Spool {
     memory: Vec<u8>,
+    taken: Taken,
     file: Option<File>,
     read: usize,
 }
 
 impl Spool {
+    /// Without any bytes; those in memory take this room.
+    pub fn new(room: &Room) -> Spool {
+        Spool { memory: Vec::new(), taken: room.begin(), file: None, read: 0 }
+    }
+
     /// Adds bytes.
     pub fn write(&mut self, bytes: &[u8]) -> io::Result<()> {
-        if self.file.is_none() && self.memory.len() + bytes.len() > MOST {
+        if self.file.is_none() && (self.memory.len() + bytes.len() > MOST || !self.taken.more(bytes.len())) {
             let mut file = nameless()?;
             file.write_all(&self.memory)?;
             self.memory = Vec::new();
+            self.taken.give_back();
             self.file = Some(file);
         }
         match &mut self.file {
@@ -75,12 +82,13 @@ fn nameless() -> io::Result<File> {
 
 #[cfg(test)]
 mod tests {
-    use super::{Spool, MOST};
+    use super::{Room, Spool, MOST};
 
     #[test]
     fn what_was_written_is_read() {
-        for size in [0, 10, MOST, MOST + 1] {
-            let mut spool = Spool::default();
+        for (size, most) in [(0, 0), (10, MOST), (10, 9), (MOST, MOST), (MOST + 1, 2 * MOST), (MOST, MOST / 2)] {
+            let room = Room::new(most);
+            let mut spool = Spool::new(&room);
             let text: Vec<u8> = (0..size).map(|number| number as u8).collect();
             text.chunks(100_000).for_each(|piece| spool.write(piece).unwrap());
             spool.rewind().unwrap();
@@ -92,6 +100,7 @@ mod tests {
                 }
             }
             assert!(found == text, "{size}");
+            assert_eq!(room.take(most).is_some(), size == 0 || size > most.min(MOST));
         }
     }
 }
