@@ -150,7 +150,7 @@ def test_a_merge_patch_below_a_long_name_takes_little_memory(place):
 
 
 def test_long_replies_of_one_round_take_little_memory(place):
-    """Clients that ask twice at once are handed the first reply before others are asked for."""
+    """Clients that ask for more than they are handed at once have their first replies before others are asked."""
     place.format(65536)
     with Gateway(place, "--socket", place.path("socket")) as gateway, contextlib.ExitStack() as stack:
         assert gateway.put("/documents/d", ["x" * 1000] * 1000).status == 201
@@ -159,10 +159,10 @@ def test_long_replies_of_one_round_take_little_memory(place):
         program, = gateway.children()
         # So that they come together.
         os.kill(program, signal.SIGSTOP)
-        for _ in range(100):
+        for _ in range(60):
             client = stack.enter_context(socket.socket(socket.AF_UNIX))
             client.connect(place.path("socket"))
-            client.sendall(line * 2)
+            client.sendall(line * 3)
         time.sleep(1)
         os.kill(program, signal.SIGCONT)
         assert grows_by(gateway, before, 450 * MIB, 20) < 450 * MIB

@@ -3,6 +3,7 @@
 //! They are in memory, each as the bytes that all followers are sent. `file` keeps them for the next start too.
 
 pub mod file;
+pub mod name;
 
 use bytes::Bytes;
 use std::collections::VecDeque;
@@ -53,8 +54,9 @@ impl Change {
 #[derive(Clone, Debug)]
 pub struct Event {
     bytes: Bytes,
-    /// Where the text begins and ends.
+    /// Where the text begins and ends, and in it the name of the document.
     text: (usize, usize),
+    name: (usize, usize),
 }
 
 impl Event {
@@ -70,7 +72,7 @@ impl Event {
             made.extend_from_slice(format!(",\"first\":{first},\"last\":{last}").as_bytes());
         }
         made.extend_from_slice(format!(",\"seq\":{seq}}}\n\n").as_bytes());
-        Event { bytes: made.into(), text }
+        Event { bytes: made.into(), text, name: name::place_in(&change.text) }
     }
 
     /// The event, with the empty line after it.
@@ -88,9 +90,25 @@ impl Event {
         self.bytes.slice(self.text.0..self.text.1)
     }
 
+    /// The name of the document that is changed.
+    pub fn name(&self) -> &[u8] {
+        &self.bytes[self.text.0 + self.name.0..self.text.0 + self.name.1]
+    }
+
     fn size(&self) -> usize {
         self.bytes.len()
     }
+}
+
+/// The next changes of those that are wanted.
+#[derive(Debug, Default)]
+pub struct Next {
+    /// The changes.
+    pub events: Vec<Event>,
+    /// The number of the last of them; 0 if there is none.
+    pub last: u64,
+    /// The number up to which no other one is wanted.
+    pub until: u64,
 }
 
 /// The changes after a number are not kept any more, but those after this one are.
@@ -230,17 +248,32 @@ impl History {
 
     /// The next changes after a number: at most so many bytes, but one if there is one.
     pub fn after(&self, seq: u64, most: usize) -> Result<Vec<Event>, Gone> {
+        self.wanted_after(seq, most, usize::MAX, |_| true).map(|some| some.events)
+    }
+
+    /// The same of the changes that are wanted. So many are looked at, since others wait for that.
+    pub fn wanted_after(
+        &self,
+        seq: u64,
+        most: usize,
+        looks: usize,
+        is_wanted: impl Fn(&Event) -> bool,
+    ) -> Result<Next, Gone> {
         let kept = self.kept();
         if seq < kept.base || seq > kept.last() {
             return Err(Gone(kept.base));
         }
-        let (mut some, mut size) = (Vec::new(), 0);
-        for event in kept.events.range((seq - kept.base) as usize..) {
-            size = event.size().saturating_add(size);
-            if size > most && !some.is_empty() {
-                break;
+        let (mut some, mut size) = (Next { until: seq, ..Next::default() }, 0_usize);
+        for event in kept.events.range((seq - kept.base) as usize..).take(looks) {
+            if is_wanted(event) {
+                size = size.saturating_add(event.size());
+                if size > most && !some.events.is_empty() {
+                    break;
+                }
+                some.events.push(event.clone());
+                some.last = some.until + 1;
             }
-            some.push(event.clone());
+            some.until += 1;
         }
         Ok(some)
     }
@@ -293,6 +326,22 @@ mod tests {
         assert_eq!(history.after(3, 1).unwrap_err(), Gone(4));
         assert_eq!(history.after(6, 1).unwrap_err(), Gone(4));
         assert!(history.after(5, 1).unwrap().is_empty());
+    }
+
+    #[test]
+    fn the_changes_of_some_documents_are_found() {
+        let history = History::new(0, &[]).unwrap();
+        for name in ["a", "b", "ab", "b"] {
+            history.add(&[alone(&format!("{{\"cmd\":\"delete\",\"name\":\"{name}\"}}"))]);
+        }
+        let found = |seq: u64, most: usize, looks: usize, name: &[u8]| {
+            let next = history.wanted_after(seq, most, looks, |event| event.name() == name).unwrap();
+            (next.events.len(), next.last, next.until)
+        };
+        assert_eq!(found(0, 1000, 1000, b"b"), (2, 4, 4));
+        assert_eq!(found(0, 1, 1000, b"b"), (1, 2, 3));
+        assert_eq!(found(0, 1000, 3, b"b"), (1, 2, 3));
+        assert_eq!(found(2, 1000, 1000, b"a"), (0, 0, 4));
     }
 
     #[test]

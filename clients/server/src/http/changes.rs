@@ -4,11 +4,13 @@ use super::connection::Request;
 use super::problem::Problem;
 use super::response::{Body, Response};
 use super::target::parameters;
-use crate::history::{Gone, History};
+use crate::history::name::name_in;
+use crate::history::{Gone, History, HEAD};
 use crate::json::quoted;
 use crate::other::LineStream;
 use crate::program::room::Taken;
-use crate::refusals::GONE;
+use crate::lines::replies::is_name;
+use crate::refusals::{by_number, GONE};
 use crate::store::{Store, Which};
 use bytes::Bytes;
 use serde_json::Value;
@@ -17,6 +19,7 @@ use std::sync::Arc;
 use std::time::Duration;
 use tokio::io::AsyncWriteExt;
 use tokio::sync::watch;
+use tokio::time::{sleep_until, Instant};
 
 /// How many bytes are handed on at once.
 const PIECE: usize = 1 << 16;
@@ -27,11 +30,19 @@ const RETRY: &str = "retry: 1000\n\n";
 /// How long it waits before it connects to another server again.
 const PAUSE: Duration = Duration::from_millis(50);
 
+/// How long after a change that isn't wanted its number is told, so that a client that comes again goes on after it.
+const LAG: Duration = Duration::from_secs(1);
+
+/// How many changes are looked at before others may do something.
+const LOOKS: usize = 4096;
+
 /// The changes that a client follows.
 pub struct Events {
     source: Source,
+    wanted: Wanted,
     /// What is sent first, so that a client that comes again before the first change goes on from here.
     begin: Option<Bytes>,
+    told: Told,
     is_done: bool,
     _follower: Taken,
 }
@@ -41,13 +52,62 @@ enum Source {
     Other(Followed),
 }
 
+/// The documents whose changes are wanted.
+#[derive(Debug, PartialEq, Eq)]
+enum Wanted {
+    All,
+    Named(String),
+    Beginning(String),
+}
+
+impl Wanted {
+    fn of(name: Option<String>, prefix: Option<String>) -> Result<Wanted, Problem> {
+        match (name, prefix) {
+            (Some(_), Some(_)) => Err(Problem::new(400, "parameter", "a request has `name` or `prefix`, and not both")),
+            (Some(name), None) if is_name(&name) => Ok(Wanted::Named(name)),
+            (Some(_), None) => Err(Problem::refused(15, by_number(15).map_or("", |row| row.advice))),
+            (None, Some(prefix)) if !prefix.is_empty() => Ok(Wanted::Beginning(prefix)),
+            (None, _) => Ok(Wanted::All),
+        }
+    }
+
+    fn has(&self, name: &[u8]) -> bool {
+        match self {
+            Wanted::All => true,
+            Wanted::Named(wanted) => name == wanted.as_bytes(),
+            Wanted::Beginning(prefix) => name.starts_with(prefix.as_bytes()),
+        }
+    }
+}
+
+/// The number that the client was told last, by a change or alone, and when.
+struct Told {
+    seq: u64,
+    at: Instant,
+}
+
+impl Told {
+    fn now(seq: u64) -> Told {
+        Told { seq, at: Instant::now() }
+    }
+
+    /// Waits until the number `since` is to be told alone, unless it was told.
+    async fn is_late(&self, since: u64) {
+        if since > self.seq {
+            sleep_until(self.at + LAG).await;
+        } else {
+            std::future::pending::<()>().await;
+        }
+    }
+}
+
 /// The answer that follows the changes.
 pub async fn follow(request: &Request<'_>) -> Result<Response, Problem> {
-    let (since, name) = asked(request)?;
+    let (since, history, wanted) = asked(request)?;
     let app = &request.app;
     let busy = || Problem::new(503, "busy", "1000 clients follow the changes already").with("Retry-After", "10");
     let follower = app.followers.take(1).ok_or_else(busy)?;
-    let events = Events::begin(&app.store, since, name, follower).await?;
+    let events = Events::begin(&app.store, since, history, wanted, follower).await?;
     let mut response = Response::empty(200).with("Cache-Control", "no-store").with("X-Accel-Buffering", "no");
     response.kind = "text/event-stream; charset=utf-8";
     response.body = Body::Events(Box::new(events));
@@ -55,18 +115,19 @@ pub async fn follow(request: &Request<'_>) -> Result<Response, Problem> {
 }
 
 /// The number after which the first change is to come, and the history that it is of: `Last-Event-ID` of a client that
-/// comes again, or `from`.
-fn asked(request: &Request<'_>) -> Result<(Option<u64>, Option<String>), Problem> {
-    let [from] = parameters(&request.query, ["from"])?;
+/// comes again, or `from`; and the documents that are wanted.
+fn asked(request: &Request<'_>) -> Result<(Option<u64>, Option<String>, Wanted), Problem> {
+    let [from, name, prefix] = parameters(&request.query, ["from", "name", "prefix"])?;
+    let wanted = Wanted::of(name, prefix)?;
     let last = request.head.field("last-event-id").filter(|text| !text.is_empty()).map(str::to_owned);
     let text = match last.or(from) {
         Some(text) => text,
-        None => return Ok((None, None)),
+        None => return Ok((None, None, wanted)),
     };
     let (number, name) = text.split_once('-').map_or((&text[..], None), |(number, name)| (number, Some(name)));
     let is_number = (1..=18).contains(&number.len()) && number.bytes().all(|byte| byte.is_ascii_digit());
     match number.parse().ok().filter(|_| is_number) {
-        Some(since) => Ok((Some(since), name.map(str::to_owned))),
+        Some(since) => Ok((Some(since), name.map(str::to_owned), wanted)),
         None => {
             let told = "`from` is the number of a change, and `Last-Event-ID` begins with one";
             Err(Problem::new(400, "parameter", told))
@@ -87,6 +148,7 @@ impl Events {
         store: &Store,
         since: Option<u64>,
         name: Option<String>,
+        wanted: Wanted,
         follower: Taken,
     ) -> Result<Events, Problem> {
         let (source, since, name) = match &store.which {
@@ -107,7 +169,7 @@ impl Events {
             }
         };
         let begin = Some(format!("id: {since}-{name}\n{RETRY}").into());
-        Ok(Events { source, begin, is_done: false, _follower: follower })
+        Ok(Events { source, wanted, begin, told: Told::now(since), is_done: false, _follower: follower })
     }
 
     /// The next events; none at the end. What came is kept if this is broken off.
@@ -119,8 +181,10 @@ impl Events {
             return None;
         }
         let next = match &mut self.source {
-            Source::Own { history, news, since } => own_events(history, news, since).await,
-            Source::Other(followed) => followed.event().await,
+            Source::Own { history, news, since } => {
+                own_events(history, news, since, &self.wanted, &mut self.told).await
+            }
+            Source::Other(followed) => followed.event(&self.wanted, &mut self.told).await,
         };
         match next {
             Ok(events) => events,
@@ -132,26 +196,40 @@ impl Events {
     }
 }
 
+/// What tells a number alone: an identifier without data, which is no event (HTML, section 9.2.6).
+fn number_alone(since: u64, name: &str) -> Bytes {
+    format!("id: {since}-{name}\n\n").into()
+}
+
 async fn own_events(
     history: &History,
     news: &mut watch::Receiver<u64>,
     since: &mut u64,
+    wanted: &Wanted,
+    told: &mut Told,
 ) -> Result<Option<Bytes>, Gone> {
     loop {
-        news.borrow_and_update();
-        let events = history.after(*since, PIECE)?;
-        match &events[..] {
-            [] => {
-                if news.changed().await.is_err() {
-                    return Ok(None);
+        let last = *news.borrow_and_update();
+        let next = history.wanted_after(*since, PIECE, LOOKS, |event| wanted.has(event.name()))?;
+        *since = next.until;
+        match &next.events[..] {
+            [] if *since < last && told.at.elapsed() < LAG => tokio::task::yield_now().await,
+            [] => tokio::select! {
+                biased;
+                () = told.is_late(*since) => {
+                    *told = Told::now(*since);
+                    return Ok(Some(number_alone(*since, &history.name())));
                 }
-            }
+                changed = news.changed() => if changed.is_err() {
+                    return Ok(None);
+                },
+            },
             [one] => {
-                *since += 1;
+                *told = Told::now(next.last);
                 return Ok(Some(one.bytes()));
             }
             some => {
-                *since += some.len() as u64;
+                *told = Told::now(next.last);
                 return Ok(Some(some.iter().flat_map(|event| event.bytes()).collect()));
             }
         }
@@ -190,10 +268,18 @@ impl Followed {
         Ok(())
     }
 
-    async fn event(&mut self) -> Result<Option<Bytes>, Gone> {
+    async fn event(&mut self, wanted: &Wanted, told: &mut Told) -> Result<Option<Bytes>, Gone> {
         loop {
+            let since = self.since.unwrap_or(0);
             let line = match &mut self.stream {
-                Some(stream) => stream.line().await.ok().flatten(),
+                Some(stream) => tokio::select! {
+                    biased;
+                    () = told.is_late(since) => {
+                        *told = Told::now(since);
+                        return Ok(Some(number_alone(since, self.name.as_deref().unwrap_or_default())));
+                    }
+                    line = stream.line() => line.ok().flatten(),
+                },
                 None => match self.connect().await {
                     Ok(()) => continue,
                     Err(problem) if problem.number == Some(GONE) => return Err(Gone(problem.from.unwrap_or(0))),
@@ -201,7 +287,13 @@ impl Followed {
                 },
             };
             match line {
-                Some(line) if line.starts_with(b"{\"change\":") => return Ok(Some(self.told(&line))),
+                Some(line) if line.starts_with(HEAD) => {
+                    let event = self.told(&line);
+                    if wanted.has(name_in(&line)) {
+                        *told = Told::now(since + 1);
+                        return Ok(Some(event));
+                    }
+                }
                 Some(line) if line.starts_with(b"{\"error\":\"gone\"") => {
                     return Err(Gone(Problem::of_reply(&line).from.unwrap_or(0)));
                 }
@@ -218,5 +310,26 @@ impl Followed {
         self.since = Some(seq);
         let head = format!("id: {seq}-{}\ndata: ", self.name.as_deref().unwrap_or_default());
         [head.as_bytes(), line, b"\n"].concat().into()
+    }
+}
+
+#[cfg(test)]
+mod tests {
+    use super::Wanted;
+
+    #[test]
+    fn documents_are_wanted_by_their_names() {
+        let wanted = |name: Option<&str>, prefix: Option<&str>| {
+            Wanted::of(name.map(str::to_owned), prefix.map(str::to_owned)).map_err(|problem| problem.status)
+        };
+        assert_eq!(wanted(None, None), Ok(Wanted::All));
+        assert_eq!(wanted(None, Some("")), Ok(Wanted::All));
+        let named = wanted(Some("a.1"), None).unwrap();
+        assert!(named.has(b"a.1") && !named.has(b"a.12") && !named.has(b""));
+        let beginning = wanted(None, Some("a")).unwrap();
+        assert!(beginning.has(b"a") && beginning.has(b"ab") && !beginning.has(b"b"));
+        for (name, prefix) in [(Some("a"), Some("a")), (Some(""), None), (Some("a/b"), None), (Some("\u{e4}"), None)] {
+            assert_eq!(wanted(name, prefix), Err(400), "{name:?}");
+        }
     }
 }

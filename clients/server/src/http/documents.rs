@@ -219,10 +219,8 @@ fn check_levels(name: &str, doc: &Compact) -> Result<(), Problem> {
     if doc.levels >= MOST_LEVELS_OF_A_LINE {
         return Err(Problem::refused(11, "the document nests deeper than 126 levels"));
     }
-    let is_name = (1..=64).contains(&name.len())
-        && name.bytes().all(|byte| byte.is_ascii_alphanumeric() || b"-_.".contains(&byte));
     // Else it is refused for its name, or for its length.
-    if doc.levels > MOST_LEVELS && is_name && doc.text.len() < MOST_LINE - MOST_BESIDE {
+    if doc.levels > MOST_LEVELS && replies::is_name(name) && doc.text.len() < MOST_LINE - MOST_BESIDE {
         return Err(Problem::refused(13, "make the document flatter: it may nest at most 64 levels"));
     }
     Ok(())

@@ -65,6 +65,11 @@ pub fn not_grown(why: &str) -> Vec<u8> {
     format!("{{\"error\":\"{name}\",\"number\":{NOT_GROWN},\"ok\":false,\"why\":{why}}}\n").into_bytes()
 }
 
+/// Whether a document may have this name.
+pub fn is_name(text: &str) -> bool {
+    (1..=64).contains(&text.len()) && text.bytes().all(|byte| byte.is_ascii_alphanumeric() || b"-_.".contains(&byte))
+}
+
 /// The line that asks for the revision of a document.
 pub fn rev(name: &str) -> String {
     format!("{{\"cmd\":\"rev\",\"name\":{}}}\n", quoted(name))
