@@ -9,9 +9,10 @@ That number is not known yet when the note is written: as `more` the note has th
 transaction. As long as it is the last one, the document's revision is its own number; the next note brings its `seq`.
 """
 import json
+import warnings
 from typing import Any, Dict, List, Optional, Tuple
 
-from .errors import AccessError, Ended, JpstoreError, Refused, TimedOut, refusal_of
+from .errors import AccessError, Ended, JpstoreError, JpstoreWarning, Refused, TimedOut, refusal_of
 from .notices import warn_of_command
 from .wire import commands
 from .wire.commands import Command, is_change
@@ -112,6 +113,11 @@ class Once:
         if notes:
             operations.insert(0, {"op": "replace", "path": f"/{len(notes) - 1}", "value": notes[-1]})
         old = min(max(len(notes) + 1 - self._keep, 0), _MOST_REMOVED)
+        if old and self._keep == KEPT:
+            # Who named another number knows of it.
+            warnings.warn(f"the document {self._document} keeps the newest {KEPT:,} keys, and the oldest goes now: a "
+                          "job that begins again with more of them needs a greater `keep`", JpstoreWarning,
+                          stacklevel=2)
         return commands.patch(self._document, operations + [{"op": "remove", "path": "/0"}] * old, rev)
 
     def check_again(self, error: JpstoreError, may: bool, trying: Trying) -> None:

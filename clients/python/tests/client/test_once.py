@@ -7,12 +7,13 @@ import random
 import socket
 import threading
 import time
+import warnings
 
 import pytest
 from hubs import Hub
 from jpstore import (
-    AccessError, AsyncStore, Conflict, Ended, Full, Invalid, JpstoreError, Malformed, NotFound, Outdated, Store,
-    TimedOut, create, delete, patch,
+    AccessError, AsyncStore, Conflict, Ended, Full, Invalid, JpstoreError, JpstoreWarning, Malformed, NotFound,
+    Outdated, Store, TimedOut, create, delete, patch,
 )
 from serving import FakeHub, RealHub
 from support import PACKAGE, PATIENCE, SILENCE, Place, raised
@@ -53,6 +54,18 @@ def test_a_key_makes_its_changes_one_time(place):
         assert notes_of(store) == ["a", "b", "c", "d"]
     with place.store() as store:
         assert (store.once("d", [one_more("d")]), store.once("a", [one_more("d")]), store.status().seq) == (9, 4, 10)
+
+
+def test_the_first_note_that_goes_unasked_is_told(place):
+    with made(place) as store:
+        store.create("once", [{"key": str(number), "seq": 1} for number in range(999)])
+        with warnings.catch_warnings():
+            warnings.simplefilter("error")
+            store.once("a", [one_more("d")])
+            store.once("b", [one_more("d")], keep=1001)
+        with pytest.warns(JpstoreWarning, match="once keeps the newest 1,000 keys, .* needs a greater `keep`"):
+            store.once("c", [one_more("d")])
+        assert notes_of(store)[0] == "2" and notes_of(store)[-3:] == ["a", "b", "c"]
 
 
 def test_old_notes_go(place):

@@ -41,8 +41,8 @@ def test_a_feed_has_the_events_of_the_whole_one(gateway):
     assert gateway.ask("POST", "/transactions", {"changes": changes}).status == 200
     names += ["b", "a"]
     whole = raw_events(gateway, "/changes?from=0", len(names))
-    for asked, wanted in (("name=a", ["a"]), ("name=b", ["b"]), ("prefix=a", ["a", "ab"]), ("prefix=", ["a", "b", "ab"]),
-                          ("prefix=ab", ["ab"])):
+    for asked, wanted in (("name=a", ["a"]), ("name=b", ["b"]), ("prefix=a", ["a", "ab"]), ("prefix=ab", ["ab"]),
+                          ("prefix=", ["a", "b", "ab"])):
         events = [event for event, name in zip(whole, names) if name in wanted]
         assert raw_events(gateway, f"/changes?from=0&{asked}", len(events)) == events
         again = events[0].split(b"\n", 1)[0][4:].decode()
@@ -90,7 +90,8 @@ def test_a_reader_comes_again_after_many_other_changes(place):
 
 
 @pytest.mark.parametrize("query, status, name", [
-    ("name=a&prefix=a", 400, "parameter"), ("name=", 400, "name"), ("name=a/b", 400, "name"), ("name=%C3%A4", 400, "name"),
+    ("name=a&prefix=a", 400, "parameter"), ("name=", 400, "name"), ("name=a/b", 400, "name"),
+    ("name=%C3%A4", 400, "name"),
     ("name=" + "a" * 65, 400, "name"), ("names=a", 400, "parameter"), ("name=a&name=b", 400, "parameter"),
     ("name=d&from=9", 410, "gone")])
 def test_what_no_feed_is_is_told(gateway, query, status, name):
