@@ -2,8 +2,8 @@
 
 Each line of its input has the number of a refusal, the command, the changes before it in its transaction, and the
 document and the schema that the store has, if they are needed. Each is answered with an object in a line: `detail`, a
-text that tells the place of the fault, and `errors`, the faults of a document that is not valid, or null. A schema may
-take the library very long, so a process looks, whose processor time and memory are limited by the system.
+text that tells the place of the fault, `advice`, what to do about it, and `errors`, the faults of a document that is not
+valid, or null. A schema may take the library very long, so a process looks, whose processor time and memory are limited by the system.
 """
 import contextlib
 import importlib
@@ -17,6 +17,7 @@ from typing import Any, BinaryIO, Dict, List, Optional
 from .errors import JpstoreError
 from .explain import faults_of
 from .faults import detail_of
+from .refusals import REFUSALS, advice_for
 
 __all__ = ["main"]
 
@@ -53,7 +54,8 @@ def _told(asked: Dict[str, Any]) -> Dict[str, Any]:
     detail = ""
     with contextlib.suppress(RecursionError, MemoryError):
         detail = detail_of(number, asked["command"])
-    return {"detail": detail, "errors": _faults(asked) if number == _INVALID else None}
+    advice = advice_for(number, asked["command"], None) or REFUSALS[number].advice
+    return {"advice": advice, "detail": detail, "errors": _faults(asked) if number == _INVALID else None}
 
 
 def _faults(asked: Dict[str, Any]) -> Optional[List[Dict[str, str]]]:

@@ -72,6 +72,7 @@
 mod change;
 mod error;
 mod file;
+mod meanings;
 mod options;
 mod refusal;
 mod status;

@@ -1,3 +1,4 @@
+use crate::meanings::ROWS;
 use crate::sys::{self, Cause};
 use std::ffi::CStr;
 use std::fmt;
@@ -60,7 +61,7 @@ impl fmt::Display for Refusal {
 
 impl std::error::Error for Refusal {}
 
-/// Why the store refuses something. `docs/use/PROTOCOL.md` says what to do about each.
+/// Why the store refuses something; [`Reason::advice`] says what to do about it.
 #[derive(Clone, Copy, Debug, PartialEq, Eq, Hash)]
 #[non_exhaustive]
 #[repr(u16)]
@@ -207,6 +208,21 @@ impl Reason {
         self as u16
     }
 
+    /// What it means, as `no document has that name`.
+    pub fn meaning(self) -> &'static str {
+        self.row().1
+    }
+
+    /// What to do about it, as `list the names, and compare`.
+    pub fn advice(self) -> &'static str {
+        self.row().2
+    }
+
+    fn row(self) -> (u16, &'static str, &'static str) {
+        let row = ROWS.into_iter().find(|row| row.0 == self.number());
+        row.unwrap_or((self.number(), "", ""))
+    }
+
     /// Its name, as `no-document`.
     pub fn name(self) -> &'static str {
         // SAFETY: the call takes any number, and gives a text that ends by 0 and is never freed.
@@ -223,7 +239,16 @@ impl fmt::Display for Reason {
 
 #[cfg(test)]
 mod tests {
-    use super::{sys, CStr, Reason};
+    use super::{sys, CStr, Reason, ALL};
+
+    #[test]
+    fn each_reason_has_a_meaning_and_an_advice() {
+        for reason in ALL {
+            assert!(!reason.meaning().is_empty() && !reason.advice().is_empty(), "{reason}");
+        }
+        assert_eq!(Reason::NoDocument.meaning(), "no document has that name");
+        assert!(Reason::Damaged.advice().starts_with("restore it from a copy or a dump;"));
+    }
 
     // "NoDocument" is "no-document".
     fn name_of(reason: Reason) -> String {

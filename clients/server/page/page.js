@@ -103,6 +103,7 @@ function toldProblem(place, error) {
       element("span", {}, "(schema ", element("code", {}, fault.keyword || "/"), ")")))));
   } else if (problem.detail) {
     parts.push(element("p", {}, problem.detail));
+    if (problem.advice) parts.push(element("p", {}, problem.advice));
   }
   told(place, false, ...parts);
 }

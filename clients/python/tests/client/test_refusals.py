@@ -29,6 +29,34 @@ def test_the_complaints_are_those_of_the_protocol():
     assert sorted(told.items()) == sorted(COMPLAINTS.items())
 
 
+def _source(*names):
+    with open(os.path.join(PACKAGE, "..", *names), encoding="utf-8") as opened:
+        return opened.read()
+
+
+def _joined(text):
+    """A text of Rust whose lines end with a backslash."""
+    return re.sub(r"\\\n\s*", "", text)
+
+
+def test_the_tables_of_all_clients_are_the_same():
+    """The server's, that of the Rust crate, and the names of the library are those of the protocol."""
+    rows = re.findall(r"^\| (\d+) ([a-z-]+) \| (.*) \| (.*) \|$", _protocol(), re.M)
+    assert len(rows) == len(REFUSALS) == 42
+    server = re.findall(r'^    row\((\d+), "([a-z-]+)", \d+, "(.*)", "(.*)"\),$', _source("server", "src", "refusals.rs"),
+                        re.M)
+    assert server == rows
+    crate = re.findall(r'^    \(\s*(\d+),\s*"([^"]*)",\s*"([^"]*)",\s*\),$',
+                       _joined(_source("rust", "src", "meanings.rs")), re.M)
+    assert crate == [(number, means, advice) for number, _, means, advice in rows]
+    reasons = re.findall(r"^    ([A-Z][A-Za-z]+) = (\d+),$", _source("rust", "src", "refusal.rs"), re.M)
+    named = [(number, re.sub(r"(?<!^)(?=[A-Z])", "-", name).lower()) for name, number in reasons]
+    assert named == [(number, name) for number, name, _, _ in rows]
+    numbers = dict(re.findall(r"(JPSTORE_REFUSAL_[A-Z_]+) = (\d+)", _source("c", "jpstore.h")))
+    names = re.findall(r'\[(JPSTORE_REFUSAL_[A-Z_]+)\] = "([a-z-]+)"', _source("c", "src", "refusals.c"))
+    assert [(numbers[word], name) for word, name in names] == [(number, name) for number, name, _, _ in rows]
+
+
 def test_each_refusal_of_a_line_has_a_family():
     for number, row in REFUSALS.items():
         refused = errors.refusal_of({"number": number, "error": row.name, "ok": False})

@@ -531,6 +531,45 @@ def test_bodies_that_no_document_is(gateway, body, number):
     is_problem(gateway.put("/documents/bodies", body), status, number)
 
 
+# A request, its number, the place that is told, and what to do. Where they are told too, they are those of the client.
+_PLACES = [
+    ("PUT", "/documents/d", b'{\n "a": }', 11, "not JSON: line 2, column 7: Expecting value",
+     "correct the text; a JSON parser tells the place"),
+    ("PUT", "/documents/d", b'{\n "a": "\xff"}', 11, "not UTF-8: line 2, column 8: byte 0xff",
+     "correct the text; a JSON parser tells the place"),
+    ("PUT", "/documents/d", b'[1,\n 1.5]', 12, "line 2, column 2: a number is not whole: send a whole number, or a text",
+     "send whole numbers, or a text"),
+    ("PUT", "/documents/d", b"\n" + b"[" * 65 + b"]" * 65, 13, "line 2, column 65: level 65 begins",
+     "make the document flatter"),
+    ("POST", "/transactions", {"changes": [{"cmd": "create", "doc": json.loads("[" * 65 + "]" * 65), "name": "e",
+                                            "schema": True}]},
+     13, "level 65 begins at `/doc" + "/0" * 28 + "` .. `", "make the document flatter"),
+    ("POST", "/transactions", {"changes": [{"cmd": "create", "doc": 1, "name": "e"}]}, 14,
+     "change 0, counted from 0: `create` lacks `schema`; it has `", "compare with the command in"),
+    ("POST", "/transactions", {"changes": [{"cmd": "delete", "name": "a b"}]}, 15, "`a b` has ' ' as its character 2",
+     "use the letters A to Z"),
+    ("PUT", "/schemas/d", {"properties": {"a": {"minimum": "1"}}}, 40, "at `/properties/a/minimum`: ",
+     "compare the schema with JSON Schema Validation"),
+    ("PUT", "/schemas/d", {"items": {"pattern": "x"}}, 41, "at `/items/pattern`: ", "leave the keyword out"),
+    ("PUT", "/schemas/d", {"$schema": "http://json-schema.org/draft-07/schema#"}, 41, "at `/$schema`: ",
+     "`jpstore-cli schema adapt FILE` makes a schema of it that the store reads"),
+    ("PUT", "/schemas/d", {"items": {"$ref": "#/none"}}, 42, "at `/items/$ref`: ", "define the schema under `$defs`"),
+    ("PUT", "/schemas/d", {"$ref": "#"}, 43, "the way `` leads back to it for the same value", "put `properties` or `items` between"),
+    ("GET", "/documents/d?query=%24.a%5B", None, 50, "at character 5 (the end): ", "compare the query with RFC 9535"),
+    ("GET", "/documents/d?query=%24%5B?%40.a%3E1.5%5D", None, 51, "at character 8 (`1.5]`): ",
+     "compare with whole numbers and `==`"),
+]
+
+
+@pytest.mark.parametrize("method, path, body, number, place, advice", _PLACES)
+def test_a_refusal_tells_the_place_and_what_to_do(gateway, method, path, body, number, place, advice):
+    gateway.put("/documents/d", 1)
+    answer = gateway.ask(method, path, body)
+    told = is_problem(answer, answer.status, number)
+    assert told["detail"].startswith(place), told
+    assert told["advice"].startswith(advice), told
+
+
 def test_media_types_of_a_document(gateway):
     for kind in ("application/json", "application/json; charset=utf-8", "application/problem+json", "Application/JSON"):
         assert gateway.put("/documents/media", b"1", Content_Type=kind).status in (200, 201), kind
@@ -619,6 +658,7 @@ def test_problems_are_as_they_are_described(gateway):
     validator = jsonschema.Draft202012Validator({**schema, "additionalProperties": False})
     gateway.put("/documents/described?schema=%7B%22type%22%3A%22object%22%7D", {})
     for answer in (gateway.get("/nothing"), gateway.get("/documents/none"), gateway.put("/documents/described", 1),
+                   gateway.put("/documents/described", b"{"), gateway.put("/schemas/described", {"pattern": "x"}),
                    gateway.patch("described", [{"op": "test", "path": "", "value": 1}]),
                    gateway.put("/documents/described", {}, If_Match='"0"'),
                    gateway.ask("POST", "/transactions", changes_of(delete("described"), delete("none")))):

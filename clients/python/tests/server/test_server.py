@@ -231,6 +231,19 @@ def check_refused(server, words, status, told):
     assert (ended.returncode, told in ended.stderr) == (status, True), (words, ended)
 
 
+def test_a_store_that_is_not_opened_is_told_with_what_to_do(place, server):
+    words = [place.text("text", "no store" * 1000), "--listen", "127.0.0.1:0", "--program", place.program]
+    check_refused(server, words, 1, b"jpstore: not-a-store (72): the file does not begin as a store does")
+    check_refused(server, words, 1, b"check that it is the right file")
+    place.format()
+    with open(place.file, "r+b") as file:
+        file.seek(16)
+        file.write(b"\xff" * 8)
+    words[0] = place.file
+    check_refused(server, words, 1, b"jpstore: damaged (73): the file begins as a store, but what follows is not one")
+    check_refused(server, words, 1, b"restore it from a copy or a dump")
+
+
 VALUES = {
     "--origin": ["evil", "null", "*", "https://example.org/", "https://example.org/page", "https://", "http://a b"],
     "--patience": ["0", "-1", "x", "nan", "1e99", "0.05"],

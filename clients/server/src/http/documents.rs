@@ -10,6 +10,7 @@ use super::problem::Problem;
 use super::response::{Body, Response};
 use super::target::parameters;
 use crate::json::canonical::{canonical, value_of};
+use crate::json::compact::LEVELS_OF_A_DOCUMENT;
 use crate::json::{compact, quoted, Compact, Fault};
 use crate::lines::replies::{self, names_in, text_in, told_names};
 use crate::lines::MOST_LINE;
@@ -22,8 +23,7 @@ pub const JSON: &str = "application/json";
 const PATCHES: [&str; 2] = ["application/json-patch+json", "application/merge-patch+json"];
 const ACCEPT_PATCH: &str = "application/json-patch+json, application/merge-patch+json";
 
-/// The most levels of a document, and of the line that has it.
-const MOST_LEVELS: usize = 64;
+/// The most levels of a line.
 const MOST_LEVELS_OF_A_LINE: usize = 127;
 
 /// What the line of a change has at most beside its document or its operations.
@@ -220,10 +220,14 @@ fn check_levels(name: &str, doc: &Compact) -> Result<(), Problem> {
         return Err(Problem::refused(11, "the document nests deeper than 126 levels"));
     }
     // Else it is refused for its name, or for its length.
-    if doc.levels > MOST_LEVELS && replies::is_name(name) && doc.text.len() < MOST_LINE - MOST_BESIDE {
-        return Err(Problem::refused(13, "make the document flatter: it may nest at most 64 levels"));
+    let is_refused = replies::is_name(name) && doc.text.len() < MOST_LINE - MOST_BESIDE;
+    match doc.too_deep.filter(|_| is_refused) {
+        Some((line, column)) => {
+            let told = format!("line {line}, column {column}: level {} begins", LEVELS_OF_A_DOCUMENT + 1);
+            Err(Problem::refused(13, told))
+        }
+        None => Ok(()),
     }
-    Ok(())
 }
 
 async fn create(

@@ -5,6 +5,9 @@ use crate::json::Object;
 use crate::refusals::{self, by_number, NO_MAJORITY};
 use serde_json::Value;
 
+/// The refusals of which a place is told: in a text, a line, a schema or a query.
+const PLACED: [u64; 11] = [11, 12, 13, 14, 15, 40, 41, 42, 43, 50, 51];
+
 /// A request that is refused: its status, and the members of its Problem Details.
 #[derive(Debug, Default)]
 pub struct Problem {
@@ -12,8 +15,10 @@ pub struct Problem {
     pub status: u16,
     /// What is refused, in one word.
     pub name: String,
-    /// What to do.
+    /// What is wrong, and where, or else what to do.
     pub detail: String,
+    /// What to do in particular, if `detail` tells the place.
+    pub advice: Option<String>,
     /// The number of the refusal.
     pub number: Option<u64>,
     /// The change of a transaction that is at fault.
@@ -115,6 +120,11 @@ impl Problem {
             .number_if("op", self.op)
             .number_if("rev", self.rev)
             .number_if("from", self.from);
+        let advice = self.advice.as_deref().or_else(|| row.map(|row| row.advice));
+        let is_placed = self.number.map_or(false, |number| PLACED.contains(&number));
+        if let Some(advice) = advice.filter(|advice| is_placed && *advice != self.detail) {
+            told = told.text("advice", advice);
+        }
         if let Some(errors) = &self.errors {
             told = told.json("errors", errors);
         }

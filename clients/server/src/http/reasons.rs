@@ -2,7 +2,7 @@
 //!
 //! The store tells a number. Each line of the process's input has the number, the change, those before it in its
 //! transaction, and the document and the schema that the store has, if they are needed. It is answered with a line that has
-//! the faults of a document, and a text that tells the place. A process that takes too long is killed.
+//! the faults of a document, a text that tells the place, and one that tells what to do. A process that takes too long is killed.
 
 use super::app::App;
 use super::problem::Problem;
@@ -25,7 +25,7 @@ use tokio::sync::Semaphore;
 use tokio::time::timeout;
 
 /// The refusals of which more can be told.
-const TOLD: [u64; 8] = [14, 40, 41, 42, 43, 45, 50, 51];
+const TOLD: [u64; 10] = [13, 14, 15, 40, 41, 42, 43, 45, 50, 51];
 const INVALID: u64 = 45;
 
 /// How many processes look beside each other.
@@ -68,6 +68,7 @@ struct Looking {
 /// What is told of a refusal.
 struct Told {
     detail: String,
+    advice: String,
     errors: Option<String>,
 }
 
@@ -124,6 +125,7 @@ impl Reasons {
         if let Some(told) = self.looked(asked).await {
             if !told.detail.is_empty() {
                 problem.detail = told.detail;
+                problem.advice = Some(told.advice);
             }
             problem.errors = told.errors;
         }
@@ -209,9 +211,10 @@ async fn pair_of(store: &Store, name: &str) -> Vec<String> {
 /// What an answer tells, of which the faults stay as they are.
 fn told_in(line: &str) -> Option<Told> {
     let members: BTreeMap<String, &RawValue> = serde_json::from_str(line).ok()?;
-    let detail = serde_json::from_str(members.get("detail")?.get()).ok()?;
+    let text = |name: &str| serde_json::from_str(members.get(name)?.get()).ok();
+    let (detail, advice) = (text("detail")?, text("advice")?);
     let errors = members.get("errors").map(|errors| errors.get()).filter(|errors| *errors != "null");
-    Some(Told { detail, errors: errors.map(str::to_owned) })
+    Some(Told { detail, advice, errors: errors.map(str::to_owned) })
 }
 
 impl Looking {
@@ -278,10 +281,10 @@ mod tests {
 
     #[test]
     fn faults_stay_as_they_are() {
-        let told = told_in(r#"{"detail":"x","errors":[{"place":"/a","keyword":"/b","detail":"c"}]}"#).unwrap();
-        assert_eq!(told.detail, "x");
+        let told = told_in(r#"{"advice":"y","detail":"x","errors":[{"place":"/a","keyword":"/b","detail":"c"}]}"#).unwrap();
+        assert_eq!((&told.detail[..], &told.advice[..]), ("x", "y"));
         assert_eq!(told.errors.as_deref(), Some(r#"[{"place":"/a","keyword":"/b","detail":"c"}]"#));
-        assert!(told_in(r#"{"detail":"","errors":null}"#).unwrap().errors.is_none());
+        assert!(told_in(r#"{"advice":"","detail":"","errors":null}"#).unwrap().errors.is_none());
         assert!(told_in("null").is_none());
     }
 }

@@ -6,6 +6,9 @@
 /// The most levels that are followed. The store itself refuses less.
 const MOST_LEVELS: usize = 1000;
 
+/// The most levels of a document.
+pub const LEVELS_OF_A_DOCUMENT: usize = 64;
+
 /// A text that was checked.
 #[derive(Debug, PartialEq, Eq)]
 pub struct Compact {
@@ -13,6 +16,8 @@ pub struct Compact {
     pub text: Vec<u8>,
     /// How many levels it nests.
     pub levels: usize,
+    /// The line and the column of the first level that no document has.
+    pub too_deep: Option<(usize, usize)>,
 }
 
 /// Why a text can't be sent.
@@ -40,7 +45,10 @@ pub fn compact(text: &[u8]) -> Result<Compact, Fault> {
     scanner.all().map_err(|wrong| Fault::NotJson(wrong.told("not JSON: ", text)))?;
     match scanner.unsendable {
         Some(wrong) => Err(Fault::Unsendable(wrong.told("", text))),
-        None => Ok(Compact { text: scanner.made, levels: scanner.most }),
+        None => {
+            let too_deep = scanner.too_deep.map(|at| line_and_column(text, at));
+            Ok(Compact { text: scanner.made, levels: scanner.most, too_deep })
+        }
     }
 }
 
@@ -77,13 +85,14 @@ struct Scanner<'t> {
     made: Vec<u8>,
     within: Vec<Within>,
     most: usize,
+    too_deep: Option<usize>,
     unsendable: Option<Wrong>,
 }
 
 impl<'t> Scanner<'t> {
     fn new(text: &'t [u8]) -> Scanner<'t> {
         let made = Vec::with_capacity(text.len());
-        Scanner { text, at: 0, made, within: Vec::new(), most: 0, unsendable: None }
+        Scanner { text, at: 0, made, within: Vec::new(), most: 0, too_deep: None, unsendable: None }
     }
 
     fn wrong<T>(&self, what: &'static str) -> Result<T, Wrong> {
@@ -142,6 +151,9 @@ impl<'t> Scanner<'t> {
     fn open(&mut self, begin: u8, end: u8, within: Within) -> Result<bool, Wrong> {
         if self.within.len() >= MOST_LEVELS {
             return self.wrong("it nests too deeply");
+        }
+        if self.within.len() == LEVELS_OF_A_DOCUMENT {
+            self.too_deep.get_or_insert(self.at);
         }
         self.take(begin);
         self.most = self.most.max(self.within.len() + 1);

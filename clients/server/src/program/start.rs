@@ -3,6 +3,7 @@
 use super::pipes::Pipes;
 use crate::error::{system_words, Error};
 use crate::lines::STATUS;
+use crate::refusals::{by_number, Refusal};
 use std::os::unix::ffi::OsStrExt;
 use std::os::unix::process::ExitStatusExt;
 use std::path::{Path, PathBuf};
@@ -157,9 +158,34 @@ impl std::fmt::Display for Ended {
             _ => "in an unknown way".to_owned(),
         };
         write!(formatter, "{} ended {how}", self.words)?;
-        match self.said.trim() {
-            "" => Ok(()),
-            said => write!(formatter, ": {said}"),
+        let said = self.said.trim();
+        if !said.is_empty() {
+            write!(formatter, ": {said}")?;
         }
+        match refused_in(said) {
+            Some(row) => write!(formatter, ": {}: {}", row.meaning, row.advice),
+            None => Ok(()),
+        }
+    }
+}
+
+/// The refusal that the program tells by `jpstore: NAME (NUMBER)` on a line of its own.
+fn refused_in(said: &str) -> Option<&'static Refusal> {
+    said.lines().find_map(|line| {
+        let (name, number) = line.strip_prefix("jpstore: ")?.strip_suffix(')')?.split_once(" (")?;
+        by_number(number.parse().ok()?).filter(|row| row.name == name)
+    })
+}
+
+#[cfg(test)]
+mod tests {
+    use super::refused_in;
+
+    #[test]
+    fn a_refused_opening_is_known_by_its_number() {
+        let number = |said: &str| refused_in(said).map(|row| row.number);
+        assert_eq!(number("jpstore: damaged (73)"), Some(73));
+        assert_eq!(number("jpstore: file\n{}"), None);
+        assert_eq!(number("jpstore: damaged (72)"), None);
     }
 }

@@ -75,5 +75,8 @@ fn numbers_are_whole_and_have_64_bits() {
 fn levels_are_counted() {
     assert_eq!(compact(b"1").unwrap().levels, 0);
     assert_eq!(compact(b"[[],{\"a\":[1]}]").unwrap().levels, 3);
+    let deep = format!("{}\n {}{}", "[".repeat(63), "[[1],[2],3", "]".repeat(64));
+    assert_eq!(compact(deep.as_bytes()).unwrap().too_deep, Some((2, 3)));
+    assert_eq!(compact(deep.replace("[1],[2]", "1").as_bytes()).unwrap().too_deep, None);
     assert!(matches!(compact("[".repeat(3000).as_bytes()), Err(Fault::NotJson(_))));
 }
