@@ -2,8 +2,9 @@
 
 Each line of its input has the number of a refusal, the command, the changes before it in its transaction, and the
 document and the schema that the store has, if they are needed. Each is answered with an object in a line: `detail`, a
-text that tells the place of the fault, `advice`, what to do about it, and `errors`, the faults of a document that is not
-valid, or null. A schema may take the library very long, so a process looks, whose processor time and memory are limited by the system.
+text that tells the place of the fault, `advice`, what to do about it, and `errors`, the faults of a document that is
+not valid, or null. A schema may take the library very long, so a process looks, whose processor time and memory are
+limited by the system.
 """
 import contextlib
 import importlib

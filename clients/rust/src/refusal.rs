@@ -244,10 +244,15 @@ mod tests {
     #[test]
     fn each_reason_has_a_meaning_and_an_advice() {
         for reason in ALL {
-            assert!(!reason.meaning().is_empty() && !reason.advice().is_empty(), "{reason}");
+            assert!(
+                !reason.meaning().is_empty() && !reason.advice().is_empty(),
+                "{reason}"
+            );
         }
         assert_eq!(Reason::NoDocument.meaning(), "no document has that name");
-        assert!(Reason::Damaged.advice().starts_with("restore it from a copy or a dump;"));
+        assert!(Reason::Damaged
+            .advice()
+            .starts_with("restore it from a copy or a dump;"));
     }
 
     // "NoDocument" is "no-document".

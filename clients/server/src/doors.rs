@@ -1,7 +1,8 @@
-//! How many clients each door lets in: so many that this server has descriptors left for itself.
+//! The doors: how clients are let in, and how many, so that this server has descriptors left for itself.
 
 use crate::ending::Ending;
 use crate::say;
+use std::future::Future;
 use std::io;
 use std::sync::Arc;
 use std::time::Duration;
@@ -43,8 +44,38 @@ pub fn places(doors: usize) -> Places {
     Places(Arc::new(Semaphore::new(count.max(1))))
 }
 
+/// Takes clients, each of which is served beside the others, until the end.
+pub async fn let_in<Client, Accepted, Served>(
+    places: Places,
+    mut ending: Ending,
+    accept: impl Fn() -> Accepted,
+    serve: impl Fn(Client) -> Served,
+) where
+    Accepted: Future<Output = io::Result<Client>>,
+    Served: Future<Output = ()> + Send + 'static,
+{
+    let mut short = false;
+    while let Some(place) = places.next(&mut ending).await {
+        let accepted = tokio::select! {
+            accepted = accept() => accepted,
+            () = ending.begun() => return,
+        };
+        match accepted {
+            Ok(client) => {
+                short = false;
+                let served = serve(client);
+                tokio::spawn(async move {
+                    served.await;
+                    drop(place);
+                });
+            }
+            Err(error) => short = refused(&error, short).await,
+        }
+    }
+}
+
 /// Waits after a connection that couldn't be taken. It is said once, and not again until one could be taken.
-pub async fn refused(error: &io::Error, said: bool) -> bool {
+async fn refused(error: &io::Error, said: bool) -> bool {
     if !said {
         say::complain(&format!("no connection can be taken now: {error}"));
     }

@@ -93,7 +93,8 @@ impl Options {
         }
         match option {
             "--socket" if value.len() > MOST_SOCKET => {
-                let told = format!("the path of a socket has at most {MOST_SOCKET} bytes, and this has {}", value.len());
+                let told =
+                    format!("the path of a socket has at most {MOST_SOCKET} bytes, and this has {}", value.len());
                 return Err(Error::new(told + ": choose a shorter one"));
             }
             "--socket" => self.socket = Some(value.into()),
@@ -140,7 +141,8 @@ fn seconds(text: &str) -> Option<Duration> {
 }
 
 fn no_origin(value: &str) -> Error {
-    let form = "give it as a browser sends it, such as https://example.org: a scheme and a host, with a port if that is not \
+    let form =
+        "give it as a browser sends it, such as https://example.org: a scheme and a host, with a port if that is not \
                 the scheme's own, and no path";
     Error::new(format!("`{value}` is no origin: {form}"))
 }
@@ -196,9 +198,18 @@ mod tests {
 
     #[test]
     fn options_are_read_in_any_place() {
-        let found =
-            options(&["--socket=s", "store", "--origin", "http://a", "--origin", "http://b:1", "--wait", "0.5", "--no-cache"])
-                .unwrap();
+        let found = options(&[
+            "--socket=s",
+            "store",
+            "--origin",
+            "http://a",
+            "--origin",
+            "http://b:1",
+            "--wait",
+            "0.5",
+            "--no-cache",
+        ])
+        .unwrap();
         assert_eq!((found.store, found.socket, found.listen), ("store".into(), Some("s".into()), None));
         assert_eq!(
             (found.origins, found.wait, found.cache),

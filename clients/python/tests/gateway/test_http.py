@@ -532,17 +532,17 @@ def test_bodies_that_no_document_is(gateway, body, number):
 
 
 # A request, its number, the place that is told, and what to do. Where they are told too, they are those of the client.
+_DEEP = json.loads("[" * 65 + "]" * 65)
 _PLACES = [
     ("PUT", "/documents/d", b'{\n "a": }', 11, "not JSON: line 2, column 7: Expecting value",
      "correct the text; a JSON parser tells the place"),
     ("PUT", "/documents/d", b'{\n "a": "\xff"}', 11, "not UTF-8: line 2, column 8: byte 0xff",
      "correct the text; a JSON parser tells the place"),
-    ("PUT", "/documents/d", b'[1,\n 1.5]', 12, "line 2, column 2: a number is not whole: send a whole number, or a text",
+    ("PUT", "/documents/d", b'[1,\n 1.5]', 12, "line 2, column 2: a number is not whole: send a whole number",
      "send whole numbers, or a text"),
     ("PUT", "/documents/d", b"\n" + b"[" * 65 + b"]" * 65, 13, "line 2, column 65: level 65 begins",
      "make the document flatter"),
-    ("POST", "/transactions", {"changes": [{"cmd": "create", "doc": json.loads("[" * 65 + "]" * 65), "name": "e",
-                                            "schema": True}]},
+    ("POST", "/transactions", {"changes": [{"cmd": "create", "doc": _DEEP, "name": "e", "schema": True}]},
      13, "level 65 begins at `/doc" + "/0" * 28 + "` .. `", "make the document flatter"),
     ("POST", "/transactions", {"changes": [{"cmd": "create", "doc": 1, "name": "e"}]}, 14,
      "change 0, counted from 0: `create` lacks `schema`; it has `", "compare with the command in"),
@@ -554,7 +554,8 @@ _PLACES = [
     ("PUT", "/schemas/d", {"$schema": "http://json-schema.org/draft-07/schema#"}, 41, "at `/$schema`: ",
      "`jpstore-cli schema adapt FILE` makes a schema of it that the store reads"),
     ("PUT", "/schemas/d", {"items": {"$ref": "#/none"}}, 42, "at `/items/$ref`: ", "define the schema under `$defs`"),
-    ("PUT", "/schemas/d", {"$ref": "#"}, 43, "the way `` leads back to it for the same value", "put `properties` or `items` between"),
+    ("PUT", "/schemas/d", {"$ref": "#"}, 43, "the way `` leads back to it for the same value",
+     "put `properties` or `items` between"),
     ("GET", "/documents/d?query=%24.a%5B", None, 50, "at character 5 (the end): ", "compare the query with RFC 9535"),
     ("GET", "/documents/d?query=%24%5B?%40.a%3E1.5%5D", None, 51, "at character 8 (`1.5]`): ",
      "compare with whole numbers and `==`"),

@@ -120,7 +120,7 @@ def test_exports_to_clients_that_read_nothing_take_little_memory(place):
             assert gateway.put(f"/documents/d{number}", "x" * 1_000_000).status == 201
         before = gateway.memory()
         with silent(gateway, request("GET", "/documents", "Accept: application/x-ndjson"), 200):
-            assert grows_by(gateway, before, 300 * MIB, 10) < 300 * MIB
+            assert grows_by(gateway, before, 300 * MIB, 5) < 300 * MIB
             assert gateway.get("/documents/d0").status == 200
 
 
@@ -134,7 +134,7 @@ def test_refused_changes_of_many_values_take_little_memory(place):
         gateway.put("/documents/d", 1)
         before = gateway.memory()
         with silent(gateway, request("POST", "/transactions", body=body), 30):
-            assert grows_by(gateway, before, 900 * MIB, 15) < 900 * MIB
+            assert grows_by(gateway, before, 900 * MIB, 10) < 900 * MIB
 
 
 def test_a_merge_patch_below_a_long_name_takes_little_memory(place):
@@ -165,7 +165,7 @@ def test_long_replies_of_one_round_take_little_memory(place):
             client.sendall(line * 3)
         time.sleep(1)
         os.kill(program, signal.SIGCONT)
-        assert grows_by(gateway, before, 450 * MIB, 20) < 450 * MIB
+        assert grows_by(gateway, before, 450 * MIB, 10) < 450 * MIB
 
 
 def test_slow_followers_of_large_changes_share_them(place):

@@ -9,7 +9,7 @@ use super::problem::{phrase_of, Problem};
 use super::response::{Body, Response};
 use super::routes;
 use super::target;
-use crate::doors::{refused, Places};
+use crate::doors::{let_in, Places};
 use crate::ending::Ending;
 use crate::program::room::Taken;
 use bytes::{Bytes, BytesMut};
@@ -33,25 +33,10 @@ const LINGER: Duration = Duration::from_secs(2);
 const MOST_DROPPED: usize = 1 << 25;
 
 /// Takes connections until the end.
-pub async fn serve(listener: TcpListener, app: Arc<App>, places: Places, mut ending: Ending) {
-    let mut short = false;
-    while let Some(place) = places.next(&mut ending).await {
-        let accepted = tokio::select! {
-            accepted = listener.accept() => accepted,
-            () = ending.begun() => return,
-        };
-        match accepted {
-            Ok((stream, _)) => {
-                short = false;
-                let served = Connection::new(stream, app.clone(), ending.clone()).serve();
-                tokio::spawn(async move {
-                    served.await;
-                    drop(place);
-                });
-            }
-            Err(error) => short = refused(&error, short).await,
-        }
-    }
+pub async fn serve(listener: TcpListener, app: Arc<App>, places: Places, ending: Ending) {
+    let listener = &listener;
+    let accept = || async move { Ok(listener.accept().await?.0) };
+    let_in(places, ending.clone(), accept, |stream| Connection::new(stream, app.clone(), ending.clone()).serve()).await;
 }
 
 /// A connection of a client.

@@ -201,7 +201,8 @@ mod tests {
         ] {
             assert_eq!(origin_of(text).as_deref(), Some(told));
         }
-        let none = ["evil", "null", "*", "https://", "https://example.org/", "https://a b", "://a", "http://a:", "http://a:b"];
+        let none =
+            ["evil", "null", "*", "https://", "https://example.org/", "https://a b", "://a", "http://a:", "http://a:b"];
         for text in none {
             assert_eq!(origin_of(text), None, "{text}");
         }

@@ -47,7 +47,9 @@ pub fn at(address: SocketAddr) -> Result<TcpListener, Error> {
         socket.listen(BACKLOG)
     };
     bound().map_err(|error| match error.kind() {
-        ErrorKind::AddrInUse => Error::new(format!("another program listens at {address}: end it, or choose another port")),
+        ErrorKind::AddrInUse => {
+            Error::new(format!("another program listens at {address}: end it, or choose another port"))
+        }
         ErrorKind::PermissionDenied => {
             Error::new(format!("only root may listen at {address}: choose a port from 1024 on, and a proxy before it"))
         }

@@ -107,8 +107,7 @@ mod tests {
             operations_of(&json!([1]), &json!({"a": 1})),
             json!([{"op": "replace", "path": "", "value": {"a": 1}}])
         );
-        let many: Value =
-            (0..5000).map(|number| (number.to_string(), json!(1))).collect::<Map<_, _>>().into();
+        let many: Value = (0..5000).map(|number| (number.to_string(), json!(1))).collect::<Map<_, _>>().into();
         assert_eq!(operations_of(&json!({}), &many).as_array().unwrap().len(), 1);
         let long = "n".repeat(MOST_PLACES / 2);
         let (doc, patch) = (json!({ long.as_str(): {} }), json!({ long.as_str(): {"a": 1, "b": 2, "c": 3} }));

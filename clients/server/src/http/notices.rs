@@ -194,7 +194,7 @@ fn is_one_letter_away(word: &[char], known: &[u8]) -> bool {
         return false;
     }
     let is_same = |(letter, byte): (&char, &u8)| *letter == char::from(byte.to_ascii_lowercase());
-    let first = word.iter().zip(known).position(|pair| !is_same(pair)).unwrap_or(word.len().min(known.len()));
+    let first = word.iter().zip(known).position(|pair| !is_same(pair)).unwrap_or_else(|| word.len().min(known.len()));
     let same_rest = |in_word: usize, in_known: usize| word[in_word..].iter().zip(&known[in_known..]).all(is_same);
     if word.len() != known.len() {
         let longer = word.len() > known.len();
@@ -230,12 +230,17 @@ mod tests {
 
     #[test]
     fn a_letter_is_changed_missing_too_many_or_exchanged() {
-        let is_away = |word: &str, known: &str| is_one_letter_away(&word.chars().collect::<Vec<char>>(), known.as_bytes());
-        for word in ["minimun", "minimm", "miinimum", "minmium", "inimum", "minimu", "aminimum", "minimums", "minim\u{fc}m"] {
+        let is_away =
+            |word: &str, known: &str| is_one_letter_away(&word.chars().collect::<Vec<char>>(), known.as_bytes());
+        for word in
+            ["minimun", "minimm", "miinimum", "minmium", "inimum", "minimu", "aminimum", "minimums", "minim\u{fc}m"]
+        {
             assert!(is_away(word, "minimum"), "{word}");
         }
         assert!(is_away("additionalproperties", "additionalProperties"));
-        for (word, known) in [("minmum1", "minimum"), ("mnum", "enum1"), ("imnimmu", "minimum"), ("", "if"), ("fit", "if")] {
+        for (word, known) in
+            [("minmum1", "minimum"), ("mnum", "enum1"), ("imnimmu", "minimum"), ("", "if"), ("fit", "if")]
+        {
             assert!(!is_away(word, known), "{word}");
         }
     }

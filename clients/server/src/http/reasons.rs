@@ -281,7 +281,8 @@ mod tests {
 
     #[test]
     fn faults_stay_as_they_are() {
-        let told = told_in(r#"{"advice":"y","detail":"x","errors":[{"place":"/a","keyword":"/b","detail":"c"}]}"#).unwrap();
+        let told =
+            told_in(r#"{"advice":"y","detail":"x","errors":[{"place":"/a","keyword":"/b","detail":"c"}]}"#).unwrap();
         assert_eq!((&told.detail[..], &told.advice[..]), ("x", "y"));
         assert_eq!(told.errors.as_deref(), Some(r#"[{"place":"/a","keyword":"/b","detail":"c"}]"#));
         assert!(told_in(r#"{"advice":"","detail":"","errors":null}"#).unwrap().errors.is_none());

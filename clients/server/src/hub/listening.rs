@@ -86,7 +86,9 @@ pub async fn check_free(path: &Path) -> Result<Option<Place>, Error> {
             let told = system_words(&error);
             Err(Error::new(format!("{shown} is a socket that cannot be looked at: {told}")))
         }
-        _ => Err(Error::new(format!("another program listens at {shown}: connect to it, end it, or choose another path"))),
+        _ => Err(Error::new(format!(
+            "another program listens at {shown}: connect to it, end it, or choose another path"
+        ))),
     }
 }
 

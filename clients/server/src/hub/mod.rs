@@ -4,7 +4,7 @@ mod client;
 pub mod listening;
 mod watch;
 
-use crate::doors::{refused, Places};
+use crate::doors::{let_in, Places};
 use crate::ending::Ending;
 use crate::program::room::Room;
 use crate::program::Handle;
@@ -14,24 +14,9 @@ use tokio::net::UnixListener;
 const MOST_REPLIES: usize = 1 << 28;
 
 /// Takes clients, each of which is attended beside the others, until the end.
-pub async fn serve(listener: UnixListener, store: Handle, places: Places, mut ending: Ending) {
-    let room = Room::new(MOST_REPLIES);
-    let mut short = false;
-    while let Some(place) = places.next(&mut ending).await {
-        let accepted = tokio::select! {
-            accepted = listener.accept() => accepted,
-            () = ending.begun() => return,
-        };
-        match accepted {
-            Ok((stream, _)) => {
-                short = false;
-                let attended = client::attend(stream, store.clone(), room.clone(), ending.clone());
-                tokio::spawn(async move {
-                    attended.await;
-                    drop(place);
-                });
-            }
-            Err(error) => short = refused(&error, short).await,
-        }
-    }
+pub async fn serve(listener: UnixListener, store: Handle, places: Places, ending: Ending) {
+    let (listener, room) = (&listener, Room::new(MOST_REPLIES));
+    let accept = || async move { Ok(listener.accept().await?.0) };
+    let attend = |stream| client::attend(stream, store.clone(), room.clone(), ending.clone());
+    let_in(places, ending.clone(), accept, attend).await;
 }
