@@ -1,5 +1,5 @@
 -- A journal can hold what a state accepts.
-use Rattle.std.proofs.Common.{◌≡◌, ℕ, ◌<◌, ◌≤◌, ◌^◌, ◌&&◌, if◌then◌else◌, nat_eq, nat_le, Bool, true, false, List, None, Some, Result, Ok, Err, refl, length, arith, nat_lt, is_some, Option}
+use Rattle.std.proofs.Common.{◌≡◌, ℕ, ◌<◌, ◌≤◌, ◌^◌, ◌&&◌, if◌then◌else◌, nat_eq, nat_le, Bool, true, false, List, None, Some, Result, Ok, Err, refl, length, arith, nat_lt, is_some, Option, inl}
 use Rattle.std.proofs.lemmas.Bool.{or_parts, ltb-false, leb-true}
 use Rattle.std.specs.List.{AllByRecursion}
 use Rattle.std.specs.Result.{result_err}
@@ -20,7 +20,8 @@ use Rattle.doc_changes.specs.State.{Document, State, IsStorable, find}
 use Rattle.doc_changes.specs.Names.{is_name}
 use Rattle.doc_changes.specs.Step.{refusals_in, refusal_of, patch_refusal, revision_refusal}
 use Rattle.doc_changes.specs.Refusals.{other_revision}
-use Rattle.doc_schema.specs.Faults.{IsFaultless}
+use Rattle.doc_schema.specs.Faults.{IsTooLong}
+use Rattle.schema_rules.specs.declared.profile.Profile.{Profile}
 use Rattle.doc_changes.specs.declared.refusal.Refusal.{Refusal}
 use Rattle.doc_changes.proofs.Reasons.{none_first, first-left, named_if, within_if, at_found}
 use Rattle.doc_changes.proofs.Schemas.{NoneIsFound, faultless, schema_height, schema_text}
@@ -32,7 +33,7 @@ SmallAreFramed = (c : Change) → HasSmallParts c → IsFramed c
 
 -- ---- each kind of change
 
-framed_create : SmallAreFramed → (name : List ℕ) (schema doc : Doc) → is_name name ≡ true → IsSound schema → IsFaultless schema
+framed_create : SmallAreFramed → (name : List ℕ) (schema doc : Doc) → is_name name ≡ true → IsSound schema → (IsTooLong schema → ⊥)
     → IsSound doc → height doc ≤ DOCUMENT_HEIGHT → length (text_of doc) ≤ DOCUMENT_BYTES → IsFramed (create name schema doc)
 framed_create small name schema doc named s f d dh ds = small (create name schema doc) (record {
   spelled = tt;
@@ -51,7 +52,7 @@ framed_patch small name ops if_rev spelled named o oh os = small (patch name ops
   short = omega (arith, length-quoted-name name named, os);
 })
 
-framed_schema : SmallAreFramed → (name : List ℕ) (schema : Doc) → is_name name ≡ true → IsSound schema → IsFaultless schema → IsFramed (set_schema name schema)
+framed_schema : SmallAreFramed → (name : List ℕ) (schema : Doc) → is_name name ≡ true → IsSound schema → (IsTooLong schema → ⊥) → IsFramed (set_schema name schema)
 framed_schema small name schema named s f = small (set_schema name schema) (record {
   spelled = tt;
   named = IsUtf8-name name named;
@@ -113,11 +114,11 @@ patched_ok ops d h = by (patched ops d.doc) refl h
 none_there : (o : Option Document) → o ≡ None → is_some o ≡ true → ⊥
 none_there o is h = cc
 
-framed_alone : SmallAreFramed → NoneIsFound → (ds : List Document) (c : Change) → AllByRecursion (λ r. r ≡ None) (refusals_in ds c) → IsSoundChange c → IsFramed c
-framed_alone small found ds (create name schema doc) none sound =
-    framed_create small name schema doc (named_if (is_name name) _ none.0) sound.0 (faultless found schema none.1.1.1.0) sound.1
+framed_alone : SmallAreFramed → (profile : Profile) → NoneIsFound profile → (ds : List Document) (c : Change) → AllByRecursion (λ r. r ≡ None) (refusals_in profile ds c) → IsSoundChange c → IsFramed c
+framed_alone small profile found ds (create name schema doc) none sound =
+    framed_create small name schema doc (named_if (is_name name) _ none.0) sound.0 (λ long. (faultless profile found schema none.1.1.1.0).size (inl long)) sound.1
     (within_if DOCUMENT_HEIGHT (height doc) DEPTH none.1.1.1.1.0) (within_if DOCUMENT_BYTES (length (text_of doc)) TOO_LARGE none.1.1.1.1.1.0)
-framed_alone small found ds (patch name ops if_rev) none sound =
+framed_alone small profile found ds (patch name ops if_rev) none sound =
     let r = found_readable (find name ds) refl in framed_patch small name ops if_rev (found_spelled (find name ds) refl) (named_if (is_name name) _ none.0) sound r.low r.short
   where
     found_readable : (o : Option Document) → find name ds ≡ o → IsReadable ops
@@ -127,16 +128,16 @@ framed_alone small found ds (patch name ops if_rev) none sound =
     found_spelled : (o : Option Document) → find name ds ≡ o → IsSpelled (patch name ops if_rev)
     found_spelled (Some d) is = spelled_asked name ops if_rev d.revision (at_found (λ x. revision_refusal if_rev x.revision) (find name ds) d is none.1.1.0)
     found_spelled None is = absurd (none_there (find name ds) is (named_if (is_some (find name ds)) _ none.1.0))
-framed_alone small found ds (set_schema name schema) none sound = framed_schema small name schema (named_if (is_name name) _ none.0) sound (faultless found schema none.1.1.0)
-framed_alone small found ds (delete name) none sound = framed_delete small name (named_if (is_name name) _ none.0)
+framed_alone small profile found ds (set_schema name schema) none sound = framed_schema small name schema (named_if (is_name name) _ none.0) sound (λ long. (faultless profile found schema none.1.1.0).size (inl long))
+framed_alone small profile found ds (delete name) none sound = framed_delete small name (named_if (is_name name) _ none.0)
 
 -- every accepted change whose trees are in memory
-pub framed : SmallAreFramed → NoneIsFound → (s : State) (c : Change) → refusal_of s c ≡ None → IsSoundChange c → IsFramed c
-framed small found s c h sound = framed_alone small found s.documents c (none_first (refusals_in s.documents c) (first-left (refusals_in s.documents c) _ h)) sound
+pub framed : SmallAreFramed → ((profile : Profile) → NoneIsFound profile) → (s : State) (c : Change) → refusal_of s c ≡ None → IsSoundChange c → IsFramed c
+framed small found s c h sound = framed_alone small s.profile (found s.profile) s.documents c (none_first (refusals_in s.profile s.documents c) (first-left (refusals_in s.profile s.documents c) _ h)) sound
 
 -- the creation of every document that may be kept
 pub creation_framed : SmallAreFramed → (d : Document) → IsStorable d → IsFramed (create d.name d.schema d.doc)
-creation_framed small d s = framed_create small d.name d.schema d.doc s.named s.schema_sound s.faultless s.doc_sound s.doc_height s.doc_text
+creation_framed small d s = framed_create small d.name d.schema d.doc s.named s.schema_sound s.schema_small s.doc_sound s.doc_height s.doc_text
 
 -- for the store's proofs, which cite it: the one lemma of another crate's proofs here
 pub framed_storable : (d : Document) → IsStorable d → IsFramed (create d.name d.schema d.doc)

@@ -2,6 +2,7 @@
 use Rattle.std.proofs.Common.{◌≡◌, ℕ, suc, ◌+◌, ◌<◌, ◌≤◌, Bool, true, false, cond, List, [], ◌∷◌, ◌++◌, Option, None, Some, is_some, refl, ap, ◌∙◌, subst, length, length-append, arith, bytes_eq}
 use Rattle.std.specs.Cmp.Lexicographic.{nat_list_eq_equiv}
 use Rattle.std.specs.List.{AllByRecursion}
+use Rattle.doc_schema.specs.Faults.{IsFaultless}
 use Rattle.doc_changes.specs.State.{Document, State, Good, IsStorable, AreDistinct, AreRevised, find, changed, without}
 use Rattle.doc_changes.specs.declared.limits.TheConstants.{DOCUMENTS, LAST_SEQ}
 use Rattle.doc_changes.proofs.Entries.{none_at, none_found}
@@ -54,12 +55,13 @@ distinct_push d (x ∷ xs) h e =
     let away : bytes_eq x.name d.name ≡ false = nat_list_eq_equiv.symm x.name d.name ∙ both.0 in
     (find-append x.name xs (d ∷ []) h.0 ∙ ap (λ b. cond b (Some d) None) away, distinct_push d xs h.1 both.1)
 
-pub good_push : (s : State) (d : Document) → Good s → find d.name s.documents ≡ None → IsStorable d → length s.documents < DOCUMENTS → d.revision ≤ s.seq
+pub good_push : (s : State) (d : Document) → Good s → find d.name s.documents ≡ None → IsStorable d → IsFaultless s.profile d.schema → length s.documents < DOCUMENTS → d.revision ≤ s.seq
     → Good (record s { documents = s.documents ++ d ∷ [] })
-good_push s d g new storable few low = record {
+good_push s d g new storable offered few low = record {
   revised = all_push (λ x. x.revision ≤ s.seq) s.documents d g.revised low;
   distinct = distinct_push d s.documents g.distinct new;
   storable = all_push IsStorable s.documents d g.storable storable;
+  offered = all_push (λ x. IsFaultless s.profile x.schema) s.documents d g.offered offered;
   few = omega (arith, length-append s.documents (d ∷ []));
   counted = g.counted;
 }
@@ -100,13 +102,15 @@ length-changed f m (x ∷ xs) =
     ]
 
 pub good_changed : (s : State) (f : Document → Document) (m : List ℕ) → KeepsName f → ((d : Document) → (f d).revision ≤ s.seq) → Good s → ((d : Document) → find m s.documents ≡ Some d → IsStorable d → IsStorable (f d))
+    → ((d : Document) → find m s.documents ≡ Some d → IsFaultless s.profile d.schema → IsFaultless s.profile (f d).schema)
     → Good (record s { documents = changed f m s.documents })
-good_changed s f m keeps low g new =
+good_changed s f m keeps low g new offered =
     let few = g.few in
     record {
       revised = all_changed (λ x. x.revision ≤ s.seq) f m s.documents g.revised (λ d found was. low d);
       distinct = distinct_changed f m s.documents keeps g.distinct;
       storable = all_changed IsStorable f m s.documents g.storable new;
+      offered = all_changed (λ x. IsFaultless s.profile x.schema) f m s.documents g.offered offered;
       few = omega (arith, few, length-changed f m s.documents);
       counted = g.counted;
     }
@@ -145,6 +149,7 @@ good_without s m g =
       revised = all_without (λ x. x.revision ≤ s.seq) m s.documents g.revised;
       distinct = distinct_without m s.documents g.distinct;
       storable = all_without IsStorable m s.documents g.storable;
+      offered = all_without (λ x. IsFaultless s.profile x.schema) m s.documents g.offered;
       few = omega (arith, few, few_without m s.documents);
       counted = g.counted;
     }
@@ -157,4 +162,4 @@ revised_more n (x ∷ xs) are = let low = are.0 in (omega (arith, low), revised_
 
 -- one change more is counted
 pub good_counted : (s : State) → Good s → s.seq < LAST_SEQ → Good (record s { seq = s.seq + 1 })
-good_counted s g rises = record { revised = revised_more s.seq s.documents g.revised; distinct = g.distinct; storable = g.storable; few = g.few; counted = omega arith }
+good_counted s g rises = record { revised = revised_more s.seq s.documents g.revised; distinct = g.distinct; storable = g.storable; offered = g.offered; few = g.few; counted = omega arith }

@@ -19,8 +19,9 @@ use Rattle.doc_patch.specs.Reading.{Spelling, with_value, with_path, with_from, 
 use Rattle.doc_patch.specs.declared.fault.PatchFault.{PatchFault}
 use Rattle.refusals.specs.declared.numbers.TheConstants.{PATCH_LONG, PATCH_INTO_ITSELF, PATCH_TEST, DEPTH, TOO_LARGE, SCHEMA_FORM, SCHEMA_KEYWORD, SCHEMA_LOOP, SCHEMA_REF, SCHEMA_SIZE, MEMORY, FULL, NAME, NO_DOCUMENT, EXISTS, TOO_MANY, INVALID, SEQ_END}
 use Rattle.doc_patch.specs.declared.limits.TheConstants.{DOCUMENT_BYTES, DOCUMENT_HEIGHT}
-use Rattle.doc_schema.specs.Faults.{is_too_large, is_marred, is_looped, first_number, first_fault}
-use Rattle.doc_schema.specs.declared.defects.Defect.TheVariants.{Form, LeftOut, Reference}
+use Rattle.doc_schema.specs.Faults.{is_too_large, is_malformed, is_marred, is_looped, first_number, first_fault}
+use Rattle.doc_schema.specs.declared.defects.Defect.TheVariants.{LeftOut, Reference}
+use Rattle.schema_rules.specs.declared.profile.Profile.{Profile}
 use Rattle.record_text.specs.Change.{Change, create, patch, set_schema, delete}
 use Rattle.doc_changes.specs.Judged.{RefusesIn}
 use Rattle.doc_changes.specs.Patched.{patched, made_by, or_refused, on_made}
@@ -177,11 +178,11 @@ may_first_number [] h = tt
 may_first_number (row ∷ rows) h =
     elim row.0 as (λ b. MayBe (option_map plain (cond b (Some row.1) (first_number rows)))) [ true ↦ below (plain row.1) h.0 | false ↦ may_first_number rows h.1 ]
 
-may_schema : (schema : Doc) → MayBe (schema_refusal schema)
+may_schema : (profile : Profile) (schema : Doc) → MayBe (schema_refusal profile schema)
 unfolding schema_refusal first_fault
-may_schema schema =
+may_schema profile schema =
     may_first_number
-    ((is_too_large schema, SCHEMA_SIZE) ∷ (is_marred Form schema, SCHEMA_FORM) ∷ (is_marred LeftOut schema, SCHEMA_KEYWORD) ∷ (is_marred Reference schema, SCHEMA_REF) ∷ (is_looped schema, SCHEMA_LOOP) ∷ [])
+    ((is_too_large profile schema, SCHEMA_SIZE) ∷ (is_malformed profile schema, SCHEMA_FORM) ∷ (is_marred profile LeftOut schema, SCHEMA_KEYWORD) ∷ (is_marred profile Reference schema, SCHEMA_REF) ∷ (is_looped schema, SCHEMA_LOOP) ∷ [])
     (omega arith, (omega arith, (omega arith, (omega arith, (omega arith, tt)))))
 
 may_other : (b : Bool) (revision : ℕ) → MayBe (if b then None else Some (other_revision revision))
@@ -195,15 +196,15 @@ may_revision (Some asked) revision = may_other (nat_eq asked revision && nat_le 
 may_seq : (n : ℕ) → MayBe (seq_refusal n)
 may_seq n = may_if (nat_eq n LAST_SEQ) SEQ_END ((λ e. omega (arith, e)), (λ e. omega (arith, e)), (λ e. omega (arith, e)))
 
-may_alone : (ds : List Document) (c : Change) → AllByRecursion MayBe (refusals_in ds c)
-may_alone ds (create name schema doc) = (
+may_alone : (profile : Profile) (ds : List Document) (c : Change) → AllByRecursion MayBe (refusals_in profile ds c)
+may_alone profile ds (create name schema doc) = (
   may_name name,
   (
     may_if_below (is_some (find name ds)) EXISTS (omega arith),
     (
       may_if_below (nat_le DOCUMENTS (length ds)) TOO_MANY (omega arith),
       (
-        may_schema schema,
+        may_schema profile schema,
         (
           may_if_below (nat_lt DOCUMENT_HEIGHT (height doc)) DEPTH (omega arith),
           (
@@ -215,7 +216,7 @@ may_alone ds (create name schema doc) = (
     ),
   ),
 )
-may_alone ds (patch name ops if_rev) = (
+may_alone profile ds (patch name ops if_rev) = (
   may_name name,
   (
     may_absent ds name,
@@ -228,14 +229,14 @@ may_alone ds (patch name ops if_rev) = (
     ),
   ),
 )
-may_alone ds (set_schema name schema) =
-    (may_name name, (may_absent ds name, (may_schema schema, (may_at (λ d. invalid_refusal schema d.doc) (find name ds) (λ d. may_invalid schema d.doc), tt))))
-may_alone ds (delete name) = (may_name name, (may_absent ds name, tt))
+may_alone profile ds (set_schema name schema) =
+    (may_name name, (may_absent ds name, (may_schema profile schema, (may_at (λ d. invalid_refusal schema d.doc) (find name ds) (λ d. may_invalid schema d.doc), tt))))
+may_alone profile ds (delete name) = (may_name name, (may_absent ds name, tt))
 
 -- each refusal of a state is the machine's own
 pub own_refusal : (s : State) (c : Change) (r : Refusal) → refusal_of s c ≡ Some r → IsOwn r
 own_refusal s c r h =
-    subst MayBe h (may-first (refusals_in s.documents c ++ seq_refusal s.seq ∷ []) (may-append (refusals_in s.documents c) (seq_refusal s.seq) (may_alone s.documents c) (may_seq s.seq)))
+    subst MayBe h (may-first (refusals_in s.profile s.documents c ++ seq_refusal s.seq ∷ []) (may-append (refusals_in s.profile s.documents c) (seq_refusal s.seq) (may_alone s.profile s.documents c) (may_seq s.seq)))
 
 -- and so is want of memory
 pub own_memory : (r : Refusal) → r ≡ plain MEMORY → IsOwn r
@@ -246,6 +247,6 @@ own s c r (inl memory) = own_memory r memory
 own s c r (inr h) = own_refusal s c r h
 
 -- before seq is looked at
-pub own_alone : (ds : List Document) (c : Change) (r : Refusal) → RefusesIn ds c r → IsOwn r
-own_alone ds c r (inl memory) = own_memory r memory
-own_alone ds c r (inr h) = subst MayBe h (may-first (refusals_in ds c) (may_alone ds c))
+pub own_alone : (profile : Profile) (ds : List Document) (c : Change) (r : Refusal) → RefusesIn profile ds c r → IsOwn r
+own_alone profile ds c r (inl memory) = own_memory r memory
+own_alone profile ds c r (inr h) = subst MayBe h (may-first (refusals_in profile ds c) (may_alone profile ds c))

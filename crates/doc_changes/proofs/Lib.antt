@@ -14,3 +14,5 @@ pub mod NameBytes
 pub mod Framed
 pub mod Known
 pub mod Made
+pub mod EachOffered
+pub mod Raised

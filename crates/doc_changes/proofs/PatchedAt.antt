@@ -13,6 +13,7 @@ use Rattle.doc_edits.specs.Operation.{Operation}
 use Rattle.doc_patch.specs.Patch.{patch}
 use Rattle.doc_patch.specs.Reading.{operations_of}
 use Rattle.doc_patch.specs.declared.document.Reversal.{Reversal}
+use Rattle.schema_rules.specs.declared.profile.Profile.{Profile}
 use Rattle.record_text.specs.Change as commands
 use Rattle.record_text.specs.Change.{Change}
 use Rattle.refusals.specs.declared.numbers.TheConstants.{NO_DOCUMENT}
@@ -51,9 +52,9 @@ stands n ds d found = ap (λ (o : Option Document). refused_if (not (is_some o))
 abbrev made_of : Doc → ℕ → Document → Document
 made_of ops rev d = record { name = d.name; schema = d.schema; doc = made_or d.doc (patched ops d.doc); revision = rev }
 
-pub judged_there : (n : List ℕ) (ds : List Document) (old w : Stored) (ops : Doc) (if_rev : Option ℕ) (rev : ℕ) → name_refusal n ≡ None
-    → find n ds ≡ Some (named n old) → PatchesForGood ops if_rev rev old w → (j : Judged) × IsJudgedIn ds (commands.patch n ops if_rev) j
-judged_there n ds old w ops if_rev rev name found p =
+pub judged_there : (profile : Profile) (n : List ℕ) (ds : List Document) (old w : Stored) (ops : Doc) (if_rev : Option ℕ) (rev : ℕ) → name_refusal n ≡ None
+    → find n ds ≡ Some (named n old) → PatchesForGood ops if_rev rev old w → (j : Judged) × IsJudgedIn profile ds (commands.patch n ops if_rev) j
+judged_there profile n ds old w ops if_rev rev name found p =
     let there : IsPatched ds n ops (Some p.makes.tree) = record {
       document = named n old;
       made = p.makes.tree;
@@ -85,22 +86,22 @@ back ops if_rev rev n old w r p =
     λ i. record { name = n; schema = view old.schema; doc = doc i; revision = old.revision }
 
 -- the entry of the document is written over with what the patch made
-pub made_at_for_good : (n : List ℕ) (es : List Entry) (i : ℕ) (old w : Stored) (ops : Doc) (if_rev : Option ℕ) (rev : ℕ)
+pub made_at_for_good : (profile : Profile) (n : List ℕ) (es : List Entry) (i : ℕ) (old w : Stored) (ops : Doc) (if_rev : Option ℕ) (rev : ℕ)
     → StandsAt n es i → slice_get (values_of es) i ≡ Some old → PatchesForGood ops if_rev rev old w
-    → IsMadeForGood (map document_of es) (commands.patch n ops if_rev) rev (map document_of (set_value_at es i w))
-made_at_for_good n es i old w ops if_rev rev there value p =
-    let j = judged_there n (map document_of es) old w ops if_rev rev there.named (found_at n es i old there.at value) p in
+    → IsMadeForGood profile (map document_of es) (commands.patch n ops if_rev) rev (map document_of (set_value_at es i w))
+made_at_for_good profile n es i old w ops if_rev rev there value p =
+    let j = judged_there profile n (map document_of es) old w ops if_rev rev there.named (found_at n es i old there.at value) p in
     record { judged = j.0; is_judged = j.1; after = written (made_of ops rev) n es i old w there.at value (makes ops if_rev rev old w p) }
 
 -- and so that it can be taken back
-pub made_at : (k : String Global) (es : List Entry) (i : ℕ) (old w : Stored) (ops : Doc) (if_rev : Option ℕ) (rev : ℕ) (r : Reversal)
+pub made_at : (profile : Profile) (k : String Global) (es : List Entry) (i : ℕ) (old w : Stored) (ops : Doc) (if_rev : Option ℕ) (rev : ℕ) (r : Reversal)
     → StandsAt (string_bytes k) es i → slice_get (values_of es) i ≡ Some old → Patches ops if_rev rev old w r
-    → IsMade (map document_of es) (commands.patch (string_bytes k) ops if_rev) rev (undo.Patched k r old.revision) (map document_of (set_value_at es i w))
-made_at k es i old w ops if_rev rev r stands value p =
+    → IsMade profile (map document_of es) (commands.patch (string_bytes k) ops if_rev) rev (undo.Patched k r old.revision) (map document_of (set_value_at es i w))
+made_at profile k es i old w ops if_rev rev r stands value p =
     let n = string_bytes k in
     let ds = map document_of es in
     let found = found_at n es i old stands.at value in
-    let made = made_at_for_good n es i old w ops if_rev rev stands value p.made in
+    let made = made_at_for_good profile n es i old w ops if_rev rev stands value p.made in
     let can : CanReverse r (made_or old.doc (patched ops old.doc)) =
     record { before = old.doc; reverses = subst (λ e. Reverses r e old.doc) (sym (ap (made_or old.doc) p.made.makes.made)) p.back } in
     let led_back = changed-back (made_of ops rev) (reversed_doc r old.revision) n ds (named n old) (λ d. refl) found (back ops if_rev rev n old w r p) in
@@ -117,10 +118,10 @@ made_at k es i old w ops if_rev rev r stands value p =
     }
 
 -- its refusals are the patch's
-pub refused_at : (n : List ℕ) (es : List Entry) (i : ℕ) (old : Stored) (ops : Doc) (if_rev : Option ℕ) (r : Refusal) → StandsAt n es i → slice_get (values_of es) i ≡ Some old
-    → RefusesPatch ops if_rev old r → RefusesIn (map document_of es) (commands.patch n ops if_rev) r
-refused_at n es i old ops if_rev r there value (inl memory) = inl memory
-refused_at n es i old ops if_rev r there value (inr h) =
+pub refused_at : (profile : Profile) (n : List ℕ) (es : List Entry) (i : ℕ) (old : Stored) (ops : Doc) (if_rev : Option ℕ) (r : Refusal) → StandsAt n es i → slice_get (values_of es) i ≡ Some old
+    → RefusesPatch ops if_rev old r → RefusesIn profile (map document_of es) (commands.patch n ops if_rev) r
+refused_at profile n es i old ops if_rev r there value (inl memory) = inl memory
+refused_at profile n es i old ops if_rev r there value (inr h) =
     let ds = map document_of es in
     let found = found_at n es i old there.at value in
     inr (first_of_five (name_refusal n) (absent_refusal ds n) (refusal_at (λ d. revision_refusal if_rev d.revision) (find n ds)) (refusal_at (patch_refusal ops) (find n ds)) (refusal_at (outcome_refusal ops) (find n ds))
@@ -161,7 +162,7 @@ storable_made os rev n old w m was =
       doc_height = within.low;
       doc_text = within.short;
       schema_sound = was.schema_sound;
-      faultless = was.faultless;
+      schema_small = was.schema_small;
       valid = judges_yes (view old.schema) w.doc (named_if (is_valid (view old.schema) w.doc) _ m.valid);
     }
 
@@ -170,21 +171,22 @@ abbrev written_over : Doc → ℕ → Document → Document
 written_over doc rev d = record { name = d.name; schema = d.schema; doc = doc; revision = rev }
 
 -- so the documents stay good, and the state
-pub good_at : (n : List ℕ) (es : List Entry) (i : ℕ) (old w : Stored) (os : List Operation) (rev seq : ℕ) → StandsAt n es i → slice_get (values_of es) i ≡ Some old
-    → MakesForGood (or_refused (patch os old.doc)) rev old w → rev ≤ seq → Good (kept_state es seq) → Good (kept_state (set_value_at es i w) seq)
-good_at n es i old w os rev seq there value m low g =
+pub good_at : (n : List ℕ) (es : List Entry) (i : ℕ) (old w : Stored) (os : List Operation) (rev seq : ℕ) (profile : Profile) → StandsAt n es i → slice_get (values_of es) i ≡ Some old
+    → MakesForGood (or_refused (patch os old.doc)) rev old w → rev ≤ seq → Good (kept_state es seq profile) → Good (kept_state (set_value_at es i w) seq profile)
+good_at n es i old w os rev seq profile there value m low g =
     let f = written_over w.doc rev in
     let ds = map document_of es in
     let found = found_at n es i old there.at value in
     let storable = storable_made os rev n old w m (all_found IsStorable n ds (named n old) g.storable found) in
     let over : (k : List ℕ) → named k w ≡ f (named k old) = λ k i. record { name = k; schema = m.schema i; doc = w.doc; revision = m.revision i } in
-    subst (λ (l : List Document). Good (record { documents = l; seq = seq })) (sym (written f n es i old w there.at value over))
-    (good_changed (kept_state es seq) f n (λ d. refl) (λ d. low) g
-    (λ d at was. subst (λ (x : Document). IsStorable (f x)) (same_some (find n ds) (named n old) d found at) storable))
+    subst (λ (l : List Document). Good (record { documents = l; seq = seq; profile = profile })) (sym (written f n es i old w there.at value over))
+    (good_changed (kept_state es seq profile) f n (λ d. refl) (λ d. low) g
+    (λ d at was. subst (λ (x : Document). IsStorable (f x)) (same_some (find n ds) (named n old) d found at) storable)
+    (λ d at was. was))
 
 -- no document has the name
-pub absent_there : (n : List ℕ) (ds : List Document) (ops : Doc) (if_rev : Option ℕ) → name_refusal n ≡ None → find n ds ≡ None → RefusesIn ds (commands.patch n ops if_rev) (plain NO_DOCUMENT)
-absent_there n ds ops if_rev name none =
+pub absent_there : (profile : Profile) (n : List ℕ) (ds : List Document) (ops : Doc) (if_rev : Option ℕ) → name_refusal n ≡ None → find n ds ≡ None → RefusesIn profile ds (commands.patch n ops if_rev) (plain NO_DOCUMENT)
+absent_there profile n ds ops if_rev name none =
     let absent : absent_refusal ds n ≡ Some (plain NO_DOCUMENT) = ap (λ (o : Option Document). refused_if (not (is_some o)) NO_DOCUMENT) none in
     inr (rw (name, absent) refl)
 

@@ -1,11 +1,12 @@
 -- What a change that isn't refused keeps to.
-use Rattle.std.proofs.Common.{◌≡◌, ℕ, ◌<◌, ◌≤◌, Bool, true, false, not, List, [], ◌∷◌, ◌++◌, Option, None, Some, Result, Ok, refl, sym, ap, ◌∙◌, length, arith, nat_lt, nat_eq}
+use Rattle.std.proofs.Common.{◌≡◌, ℕ, ◌<◌, ◌≤◌, Bool, true, false, not, List, [], ◌∷◌, ◌++◌, Option, None, Some, Result, Ok, refl, sym, ap, ◌∙◌, length, arith, nat_lt, nat_eq, inl}
 use Rattle.std.proofs.lemmas.Bool.{ltb-false, leb-false, eqb-false}
 use Rattle.std.specs.List.{AllByRecursion}
 use Rattle.doc_tree.specs.Doc.{Doc, height}
 use Rattle.doc_tree.specs.Sound.{IsSound}
 use Rattle.doc_tree.specs.Text.{text_of}
 use Rattle.doc_schema.specs.Faults.{IsFaultless}
+use Rattle.schema_rules.specs.declared.profile.Profile.{Profile}
 use Rattle.doc_patch.specs.declared.limits.TheConstants.{DOCUMENT_BYTES, DOCUMENT_HEIGHT}
 use Rattle.refusals.specs.declared.numbers.TheConstants.{DEPTH, TOO_LARGE}
 use Rattle.record_text.specs.Change.{Change, create}
@@ -59,7 +60,7 @@ within_if n m k h = ltb-false n m (not_refused (nat_lt n m) k h)
 
 -- a state that accepts a change: its documents do, and it may count one more
 pub record Accepts (s : State) (c : Change) : Type 0 where
-  pub alone : AllByRecursion (λ r. r ≡ None) (refusals_in s.documents c)
+  pub alone : AllByRecursion (λ r. r ≡ None) (refusals_in s.profile s.documents c)
   pub rises : s.seq < LAST_SEQ
 
 below_last : (n : ℕ) → n ≤ LAST_SEQ → seq_refusal n ≡ None → n < LAST_SEQ
@@ -67,8 +68,8 @@ below_last n most h = let other = eqb-false n LAST_SEQ (not_refused (nat_eq n LA
 
 pub accepts : (s : State) (c : Change) → s.seq ≤ LAST_SEQ → refusal_of s c ≡ None → Accepts s c
 accepts s c most h =
-    let both = first-parts (refusals_in s.documents c) (seq_refusal s.seq) h in
-    record { alone = none_first (refusals_in s.documents c) both.0; rises = below_last s.seq most both.1 }
+    let both = first-parts (refusals_in s.profile s.documents c) (seq_refusal s.seq) h in
+    record { alone = none_first (refusals_in s.profile s.documents c) both.0; rises = below_last s.seq most both.1 }
 
 -- a document that may be created
 pub record CanCreate (ds : List Document) (d : Document) : Type 0 where
@@ -76,8 +77,8 @@ pub record CanCreate (ds : List Document) (d : Document) : Type 0 where
   pub few : length ds < DOCUMENTS
   pub storable : IsStorable d
 
-pub can_create : (ds : List Document) (d : Document) → AllByRecursion (λ r. r ≡ None) (refusals_in ds (create d.name d.schema d.doc)) → IsSound d.schema → IsSound d.doc → IsFaultless d.schema → CanCreate ds d
-can_create ds d none schema doc faultless = record {
+pub can_create : (profile : Profile) (ds : List Document) (d : Document) → AllByRecursion (λ r. r ≡ None) (refusals_in profile ds (create d.name d.schema d.doc)) → IsSound d.schema → IsSound d.doc → IsFaultless profile d.schema → CanCreate ds d
+can_create profile ds d none schema doc faultless = record {
   new = none_found (find d.name ds) (not_refused _ _ none.1.0);
   few = leb-false DOCUMENTS (length ds) (not_refused _ _ none.1.1.0);
   storable = record {
@@ -86,7 +87,7 @@ can_create ds d none schema doc faultless = record {
     doc_height = within_if DOCUMENT_HEIGHT (height d.doc) DEPTH none.1.1.1.1.0;
     doc_text = within_if DOCUMENT_BYTES (length (text_of d.doc)) TOO_LARGE none.1.1.1.1.1.0;
     schema_sound = schema;
-    faultless = faultless;
+    schema_small = λ long. faultless.size (inl long);
     valid = judges_yes d.schema d.doc (named_if (is_valid d.schema d.doc) _ none.1.1.1.1.1.1.0);
   };
 }

@@ -6,11 +6,12 @@ use Rattle.doc_tree.specs.Doc.{Doc, boolean, height}
 use Rattle.doc_tree.specs.Text.{text_of}
 use Rattle.refusals.specs.declared.numbers.TheConstants.{MEMORY}
 use Rattle.doc_schema.proofs.FirstFaults.{faultless_told}
-use Rattle.doc_schema.specs.Faults.{IsFaultless, IsFaultOf, IsFirstFault, first_fault}
+use Rattle.doc_schema.specs.Faults.{IsFaultless, IsFaultOf, IsFirstFault, IsTooLong, first_fault}
 use Rattle.doc_schema.specs.Judge.{Judges, judge, enough}
 use Rattle.doc_schema.specs.Positions.{positions}
 use Rattle.doc_schema.specs.Steps.{settled}
 use Rattle.doc_schema.specs.declared.fault.SchemaFault.{SchemaFault}
+use Rattle.schema_rules.specs.declared.profile.Profile.{Profile}
 use Rattle.doc_changes.specs.Refusals.{plain}
 use Rattle.doc_changes.specs.Schema.{is_true, is_valid, schema_refusal}
 use Rattle.doc_changes.specs.declared.refusal.Refusal.{Refusal}
@@ -18,12 +19,12 @@ use Rattle.doc_changes.specs.declared.refusal.Refusal.{Refusal}
 -- ---- refusals, by the laws of first faults
 
 -- a number is found exactly where it is that of the first fault
-abbrev pub FaultsAreFound : Type 0
-FaultsAreFound = (s : Doc) (n : ℕ) → (first_fault s ≡ Some n) ↔ IsFirstFault s n
+abbrev pub FaultsAreFound : Profile → Type 0
+FaultsAreFound profile = (s : Doc) (n : ℕ) → (first_fault profile s ≡ Some n) ↔ IsFirstFault profile s n
 
 -- and none exactly where nothing is wrong
-abbrev pub NoneIsFound : Type 0
-NoneIsFound = (s : Doc) → (first_fault s ≡ None) ↔ IsFaultless s
+abbrev pub NoneIsFound : Profile → Type 0
+NoneIsFound profile = (s : Doc) → (first_fault profile s ≡ None) ↔ IsFaultless profile s
 
 number_in : Option Refusal → ℕ
 number_in None = 0
@@ -41,51 +42,59 @@ of_some : (o : Option ℕ) (n : ℕ) → option_map plain o ≡ Some (plain n) �
 of_some None n e = absurd (cc)
 of_some (Some m) n e = ap Some (same_plain m n e)
 
-pub refused_by : FaultsAreFound → (s : Doc) (n : ℕ) → IsFirstFault s n → schema_refusal s ≡ Some (plain n)
+pub refused_by : (profile : Profile) → FaultsAreFound profile → (s : Doc) (n : ℕ) → IsFirstFault profile s n → schema_refusal profile s ≡ Some (plain n)
 unfolding schema_refusal
-refused_by found s n f = ap (option_map plain) ((found s n).1 f)
+refused_by profile found s n f = ap (option_map plain) ((found s n).1 f)
 
-pub unrefused : NoneIsFound → (s : Doc) → IsFaultless s → schema_refusal s ≡ None
+pub unrefused : (profile : Profile) → NoneIsFound profile → (s : Doc) → IsFaultless profile s → schema_refusal profile s ≡ None
 unfolding schema_refusal
-unrefused found s f = ap (option_map plain) ((found s).1 f)
+unrefused profile found s f = ap (option_map plain) ((found s).1 f)
 
 -- for the store's proofs, which cite it: the one lemma of another crate's proofs here
-pub refused_not : (s : Doc) → IsFaultless s → schema_refusal s ≡ None
+pub refused_not : (profile : Profile) (s : Doc) → IsFaultless profile s → schema_refusal profile s ≡ None
 unfolding schema_refusal
-refused_not s f = ap (option_map plain) (faultless_told s f)
+refused_not profile s f = ap (option_map plain) (faultless_told profile s f)
 
-pub faultless : NoneIsFound → (s : Doc) → schema_refusal s ≡ None → IsFaultless s
+pub faultless : (profile : Profile) → NoneIsFound profile → (s : Doc) → schema_refusal profile s ≡ None → IsFaultless profile s
 unfolding schema_refusal
-faultless found s h = (found s).0 (of_none (first_fault s) h)
+faultless profile found s h = (found s).0 (of_none (first_fault profile s) h)
 
-pub fault_of : FaultsAreFound → (s : Doc) (n : ℕ) → schema_refusal s ≡ Some (plain n) → IsFirstFault s n
+pub fault_of : (profile : Profile) → FaultsAreFound profile → (s : Doc) (n : ℕ) → schema_refusal profile s ≡ Some (plain n) → IsFirstFault profile s n
 unfolding schema_refusal
-fault_of found s n h = (found s n).0 (of_some (first_fault s) n h)
+fault_of profile found s n h = (found s n).0 (of_some (first_fault profile s) n h)
 
 -- what reading refuses, as a refusal
-pub as_refused : {A : Type 0} → FaultsAreFound → (r : Result A Refusal) (fault : SchemaFault) (s : Doc) (P : A → Type 0) → IsFaultOf s fault → IsErrAnd r (λ y. y ≡ plain fault.number)
-    → MatchResult r P (λ y. (y ≡ plain MEMORY) ⊎ (schema_refusal s ≡ Some y))
-as_refused found (Ok a) fault s P f is = absurd is
-as_refused found (Err y) fault s P (inl f) is = inr (refused_by found s fault.number f ∙ ap Some (sym is))
-as_refused found (Err y) fault s P (inr memory) is = inl (is ∙ ap plain memory)
+pub as_refused : {A : Type 0} → (profile : Profile) → FaultsAreFound profile → (r : Result A Refusal) (fault : SchemaFault) (s : Doc) (P : A → Type 0) → IsFaultOf profile s fault → IsErrAnd r (λ y. y ≡ plain fault.number)
+    → MatchResult r P (λ y. (y ≡ plain MEMORY) ⊎ (schema_refusal profile s ≡ Some y))
+as_refused profile found (Ok a) fault s P f is = absurd is
+as_refused profile found (Err y) fault s P (inl f) is = inr (refused_by profile found s fault.number f ∙ ap Some (sym is))
+as_refused profile found (Err y) fault s P (inr memory) is = inl (is ∙ ap plain memory)
+
+-- a schema whose reading is refused for another reason than memory has a fault
+pub as_newer : (profile : Profile) → FaultsAreFound profile → NoneIsFound profile → (s : Doc) (fault : SchemaFault) → IsFaultOf profile s fault → (fault.number ≡ MEMORY → ⊥) → IsFaultless profile s → ⊥
+as_newer profile found none s fault (inl f) other faultless =
+    let told : first_fault profile s ≡ Some fault.number = (found s fault.number).1 f in
+    let nothing : first_fault profile s ≡ None = (none s).1 faultless in
+    absurd (cc)
+as_newer profile found none s fault (inr memory) other faultless = other memory
 
 -- ---- the limits of schemas
 
 below_or_not : (a b : ℕ) → (a < b) ⊎ (b ≤ a)
 below_or_not a b = grind arith
 
-pub schema_height : (s : Doc) → IsFaultless s → height s ≤ 64
+pub schema_height : (s : Doc) → (IsTooLong s → ⊥) → height s ≤ 64
 schema_height s none = by (below_or_not 64 (height s))
   where
     by : (64 < height s) ⊎ (height s ≤ 64) → height s ≤ 64
-    by (inl high) = absurd (none.size (inr high))
+    by (inl high) = absurd (none (inr high))
     by (inr low) = low
 
-pub schema_text : (s : Doc) → IsFaultless s → length (text_of s) ≤ 262_144
+pub schema_text : (s : Doc) → (IsTooLong s → ⊥) → length (text_of s) ≤ 262_144
 schema_text s none = by (below_or_not 262_144 (length (text_of s)))
   where
     by : (262_144 < length (text_of s)) ⊎ (length (text_of s) ≤ 262_144) → length (text_of s) ≤ 262_144
-    by (inl long) = absurd (none.size (inl long))
+    by (inl long) = absurd (none (inl long))
     by (inr short) = short
 
 -- ---- validity

@@ -4,12 +4,13 @@ use Rattle.doc_tree.specs.Doc.{Doc, boolean}
 use Rattle.doc_schema.specs.Faults.{first_fault}
 use Rattle.doc_schema.specs.Judge.{judge, enough}
 use Rattle.doc_schema.specs.Steps.{settled}
+use Rattle.schema_rules.specs.declared.profile.Profile.{Profile}
 use Rattle.doc_changes.specs.Refusals.{plain}
 use Rattle.doc_changes.specs.declared.refusal.Refusal.{Refusal}
 
--- why a schema is refused, if it is: by the number of its first fault
-unfoldable pub schema_refusal : Doc → Option Refusal
-schema_refusal schema = option_map plain (first_fault schema)
+-- why a schema is refused in the profile, if it is: by the number of its first fault
+unfoldable pub schema_refusal : Profile → Doc → Option Refusal
+schema_refusal profile schema = option_map plain (first_fault profile schema)
 
 -- whether a document is valid under a schema: the judgement with enough steps is yes
 abbrev pub is_valid : Doc → Doc → Bool

@@ -1,11 +1,13 @@
--- States: documents by name in the order of their creation, each with its revision, and the number of accepted changes.
+-- States: documents by name in the order of their creation, each with its revision, the number of accepted changes, and the profile of schemas.
 use Rattle.std.specs.Prelude.{◌≡◌, ℕ, ◌≤◌, true, List, [], ◌∷◌, length, Option, None, Some, if◌then◌else◌, ⊤, bytes_eq}
 use Rattle.std.specs.List.{AllByRecursion}
 use Rattle.doc_tree.specs.Doc.{Doc, height}
 use Rattle.doc_tree.specs.Sound.{IsSound}
 use Rattle.doc_tree.specs.Text.{text_of}
-use Rattle.doc_schema.specs.Faults.{IsFaultless}
+use Rattle.doc_schema.specs.Faults.{IsFaultless, IsTooLong}
 use Rattle.doc_schema.specs.Judge.{Judges}
+use Rattle.schema_rules.specs.declared.profile.Profile.{Profile}
+use Rattle.schema_rules.specs.declared.profile.Profile.TheVariants.{Two}
 use Rattle.doc_changes.specs.Names.{is_name}
 
 -- a document with its name, in UTF-8, its schema, and its revision: the seq of the last accepted creation, patch or schema of it
@@ -18,12 +20,22 @@ pub record Document : Type 0 where
 pub record State : Type 0 where
   pub documents : List Document
   pub seq : ℕ
+  -- the one in which the schemas of changes are read
+  pub profile : Profile
+
+-- the same documents and changes in the profile
+abbrev pub in_profile : Profile → State → State
+in_profile profile s = record s { profile = profile }
 
 -- no documents, after `seq` changes
-abbrev pub empty_at : ℕ → State
-empty_at seq = record { documents = []; seq = seq }
+abbrev pub empty_in : Profile → ℕ → State
+empty_in profile seq = record { documents = []; seq = seq; profile = profile }
 
--- no documents, and no changes yet
+-- the same in profile 2
+abbrev pub empty_at : ℕ → State
+empty_at = empty_in Two
+
+-- no documents, and no changes yet, in profile 2
 abbrev pub empty : State
 empty = empty_at 0
 
@@ -42,20 +54,24 @@ abbrev pub without : List ℕ → List Document → List Document
 without name [] = []
 without name (d ∷ ds) = if bytes_eq name d.name then ds else d ∷ without name ds
 
--- A document that a store may hold: its name is one, it and its schema are documents of memory, it is within the limits, its schema has no fault, of size or any other, and it is valid under it.
+-- A document that a store may hold: its name is one, it and its schema are documents of memory, it is within the limits, its schema is so too, and it is valid under it.
 pub record IsStorable (d : Document) : Type 0 where
   pub named : is_name d.name ≡ true
   pub doc_sound : IsSound d.doc
   pub doc_height : height d.doc ≤ 64
   pub doc_text : length (text_of d.doc) ≤ 1_048_576
   pub schema_sound : IsSound d.schema
-  pub faultless : IsFaultless d.schema
+  pub schema_small : IsTooLong d.schema → ⊥
   pub valid : Judges d.schema d.doc true
 
 -- no two documents have one name
 abbrev pub AreDistinct : List Document → Type 0
 AreDistinct [] = ⊤
 AreDistinct (d ∷ ds) = (find d.name ds ≡ None) × AreDistinct ds
+
+-- no schema has a fault in the profile
+abbrev pub AreOffered : Profile → List Document → Type 0
+AreOffered profile ds = AllByRecursion (λ d. IsFaultless profile d.schema) ds
 
 -- no revision is over that seq
 abbrev pub AreRevised : ℕ → List Document → Type 0
@@ -65,6 +81,7 @@ AreRevised seq ds = AllByRecursion (λ d. d.revision ≤ seq) ds
 pub record Good (s : State) : Type 0 where
   pub distinct : AreDistinct s.documents
   pub storable : AllByRecursion IsStorable s.documents
+  pub offered : AreOffered s.profile s.documents
   pub few : length s.documents ≤ 1_024
   pub counted : s.seq ≤ 0xffff_ffff_ffff_ffff
   pub revised : AreRevised s.seq s.documents

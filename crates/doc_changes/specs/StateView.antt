@@ -2,6 +2,7 @@
 use Rattle.std.specs.Prelude.{◌≡◌, ℕ, List, Some, map, string_bytes, String}
 use Rattle.std.specs.declared.alloc.Global.{Global}
 use Rattle.doc_tree.specs.TreeView.{view}
+use Rattle.schema_rules.specs.declared.profile.Profile.{Profile}
 use Rattle.doc_changes.specs.State.{Document, State, find}
 use Rattle.doc_changes.specs.declared.stored.Stored.{Stored}
 use Rattle.doc_changes.specs.declared.lent.Lent.{Lent}
@@ -20,11 +21,11 @@ abbrev pub IsStoredAt : List ℕ → Stored → List Document → Type 0
 IsStoredAt n s ds = find n ds ≡ Some (named n s)
 
 -- the state whose documents are the entries of a map, after `seq` changes
-abbrev pub kept_state : List (String Global × Stored) → ℕ → State
-kept_state es seq = record { documents = map document_of es; seq = seq }
+abbrev pub kept_state : List (String Global × Stored) → ℕ → Profile → State
+kept_state es seq profile = record { documents = map document_of es; seq = seq; profile = profile }
 
 abbrev pub seen_of : Lends → State
-seen_of l = kept_state l.documents.now.entries l.seq
+seen_of l = kept_state l.documents.now.entries l.seq l.profile
 
 -- one of them, with its name, its schema and its revision
 abbrev pub lent_of : Lent → Document

@@ -3,6 +3,7 @@ use Rattle.std.specs.Prelude.{◌≡◌, ◌≢◌, ℕ, ◌+◌, ◌⊎◌, not
 use Rattle.std.specs.Result.{result_err}
 use Rattle.doc_tree.specs.Doc.{Doc, height}
 use Rattle.doc_tree.specs.Text.{text_of}
+use Rattle.schema_rules.specs.declared.profile.Profile.{Profile}
 use Rattle.record_text.specs.Change.{Change, create, patch, set_schema, delete}
 use Rattle.doc_changes.specs.Patched.{patched, made_or, on_made}
 use Rattle.doc_changes.specs.Refusals.{plain, other_revision, refused_if, first}
@@ -66,19 +67,19 @@ abbrev pub refusal_at : (Document → Option Refusal) → Option Document → Op
 refusal_at f None = None
 refusal_at f (Some d) = f d
 
--- why these documents refuse a change, in the order of refusals
-abbrev pub refusals_in : List Document → Change → List (Option Refusal)
-refusals_in ds (create name schema doc) =
-    name_refusal name ∷ exists_refusal ds name ∷ room_refusal ds ∷ schema_refusal schema ∷ depth_refusal doc ∷ size_refusal doc ∷ invalid_refusal schema doc ∷ []
-refusals_in ds (patch name ops if_rev) =
+-- why these documents refuse a change, whose schema is read in the profile, in the order of refusals
+abbrev pub refusals_in : Profile → List Document → Change → List (Option Refusal)
+refusals_in profile ds (create name schema doc) =
+    name_refusal name ∷ exists_refusal ds name ∷ room_refusal ds ∷ schema_refusal profile schema ∷ depth_refusal doc ∷ size_refusal doc ∷ invalid_refusal schema doc ∷ []
+refusals_in profile ds (patch name ops if_rev) =
     name_refusal name ∷ absent_refusal ds name ∷ refusal_at (λ d. revision_refusal if_rev d.revision) (find name ds) ∷ refusal_at (patch_refusal ops) (find name ds) ∷ refusal_at (outcome_refusal ops) (find name ds) ∷ []
-refusals_in ds (set_schema name schema) =
-    name_refusal name ∷ absent_refusal ds name ∷ schema_refusal schema ∷ refusal_at (λ d. invalid_refusal schema d.doc) (find name ds) ∷ []
-refusals_in ds (delete name) = name_refusal name ∷ absent_refusal ds name ∷ []
+refusals_in profile ds (set_schema name schema) =
+    name_refusal name ∷ absent_refusal ds name ∷ schema_refusal profile schema ∷ refusal_at (λ d. invalid_refusal schema d.doc) (find name ds) ∷ []
+refusals_in profile ds (delete name) = name_refusal name ∷ absent_refusal ds name ∷ []
 
 -- why a state refuses a change, if it does: the first of the reasons
 abbrev pub refusal_of : State → Change → Option Refusal
-refusal_of s c = first (refusals_in s.documents c ++ seq_refusal s.seq ∷ [])
+refusal_of s c = first (refusals_in s.profile s.documents c ++ seq_refusal s.seq ∷ [])
 
 -- the documents after a change that isn't refused; what it changes gets that revision
 abbrev pub documents_after : List Document → Change → ℕ → List Document
@@ -89,7 +90,7 @@ documents_after ds (delete name) rev = without name ds
 
 -- the state after a change that isn't refused
 abbrev pub after : State → Change → State
-after s c = record { documents = documents_after s.documents c (s.seq + 1); seq = s.seq + 1 }
+after s c = record s { documents = documents_after s.documents c (s.seq + 1); seq = s.seq + 1 }
 
 -- the refusal is the one that the state gives the change, or memory was refused
 abbrev pub Refuses : State → Change → Refusal → Type 0

@@ -4,6 +4,7 @@ use Rattle.doc_tree.specs.TreeView.{view}
 use Rattle.doc_patch.specs.Measured.{CanReverse, reversed}
 use Rattle.doc_patch.specs.declared.document.Reversal.{Reversal}
 use Rattle.doc_tree.specs.declared.tree.Tree.{Tree}
+use Rattle.schema_rules.specs.declared.profile.Profile.{Profile}
 use Rattle.doc_changes.specs.State.{Document, changed, find}
 use Rattle.record_text.specs.Change.{Change}
 use Rattle.doc_changes.specs.Held.{held_in, held_of}
@@ -48,15 +49,15 @@ pub record TakesBack (u : Undo) (old new : List Document) : Type 0 where
   pub there : IsThere u new
 
 -- a change was judged, and made with that revision
-pub record IsMadeForGood (old : List Document) (c : Change) (rev : ℕ) (new : List Document) : Type 0 where
+pub record IsMadeForGood (profile : Profile) (old : List Document) (c : Change) (rev : ℕ) (new : List Document) : Type 0 where
   pub judged : Judged
-  pub is_judged : IsJudgedIn old c judged
+  pub is_judged : IsJudgedIn profile old c judged
   pub after : new ≡ documents_after old c rev
 
 -- a change was judged, and made with that revision, and can be taken back
-pub record IsMade (old : List Document) (c : Change) (rev : ℕ) (u : Undo) (new : List Document) : Type 0 where
+pub record IsMade (profile : Profile) (old : List Document) (c : Change) (rev : ℕ) (u : Undo) (new : List Document) : Type 0 where
   pub judged : Judged
-  pub is_judged : IsJudgedIn old c judged
+  pub is_judged : IsJudgedIn profile old c judged
   pub after : new ≡ documents_after old c rev
   pub undo : TakesBack u old new
   pub held : held_of u ≡ held_in old c

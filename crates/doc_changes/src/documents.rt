@@ -10,6 +10,7 @@ ghost use Rattle.refusals.specs.declared.numbers.TheConstants.{MEMORY};
 use crate::stored::Stored;
 use crate::{Refusal, is_valid_name};
 use doc_pointer::Pointer;
+use doc_schema::Profile;
 use doc_tree::Tree;
 use indexmap::IndexMap;
 use refusals::numbers::{NAME, NO_DOCUMENT, NO_VALUE};
@@ -22,6 +23,7 @@ pub struct Documents<'m> {
     pub(crate) alloc: Global,
     pub(crate) documents: &'m IndexMap<String, Stored>,
     pub(crate) seq: u64,
+    pub(crate) profile: Profile,
 }
 
 impl<'m> Model for Documents<'m> {
@@ -40,15 +42,22 @@ impl<'m> Model for Documents<'m> {
 }
 
 impl<'m> Documents<'m> {
-    /// Lends the documents that are kept in this map, after `seq` accepted changes.
-    pub fn lend(alloc: Global, documents: &'m IndexMap<String, Stored>, seq: u64) -> Documents<'m>
-        requires good { Good (kept_state documents.now.entries seq) }
-        ensures same { result ≡ kept_state documents.now.entries seq }
+    /// Lends the documents that are kept in this map, after `seq` accepted changes. The schemas of changes are read in
+    /// the profile.
+    pub fn lend(
+        alloc: Global,
+        documents: &'m IndexMap<String, Stored>,
+        seq: u64,
+        profile: Profile,
+    ) -> Documents<'m>
+        requires good { Good (kept_state documents.now.entries seq profile) }
+        ensures same { result ≡ kept_state documents.now.entries seq profile }
     {
         Documents {
             alloc,
             documents,
             seq,
+            profile,
         }
     }
 

@@ -42,8 +42,8 @@ impl<'m> Documents<'m> {
 
     // All but whether another change may be counted.
     pub(crate) fn judge_alone(&self, command: &Command) -> Result<Judged, Refusal>
-        ensures { MatchResult result (IsJudgedIn self.now.documents (change_of command.now))
-            (RefusesIn self.now.documents (change_of command.now)) }
+        ensures { MatchResult result (IsJudgedIn self.now.profile self.now.documents (change_of command.now))
+            (RefusesIn self.now.profile self.now.documents (change_of command.now)) }
     {
         match command {
             Command::Create { name, schema, doc } => self.judge_create(name.as_str(), schema, doc),
@@ -67,8 +67,8 @@ impl<'m> Documents<'m> {
 
     /// Judges all but a patch, which `make` judges in place. Refuses as `judge`, but never as `SEQ_END`.
     pub fn prepare(&self, command: &Command) -> Result<Judged, Refusal>
-        ensures ready { IfOk result (IsReady self.now.documents (change_of command.now)) }
-        ensures refused_in { IfErr result (RefusesIn self.now.documents (change_of command.now)) }
+        ensures ready { IfOk result (IsReady self.now.profile self.now.documents (change_of command.now)) }
+        ensures refused_in { IfErr result (RefusesIn self.now.profile self.now.documents (change_of command.now)) }
         ensures refused { IfErr result (Refuses self.now (change_of command.now)) }
         ensures own { IfErr result IsOwn }
     {
@@ -83,15 +83,15 @@ impl<'m> Documents<'m> {
 
     fn judge_create(&self, name: &str, schema: &Tree, doc: &Tree) -> Result<Judged, Refusal>
         ensures { let change = create name.now (view schema.now) (view doc.now) in
-            MatchResult result (IsJudgedIn self.now.documents change) (RefusesIn self.now.documents change) }
+            MatchResult result (IsJudgedIn self.now.profile self.now.documents change) (RefusesIn self.now.profile self.now.documents change) }
     {
         check_name(name)?;
         self.check_new(name)?;
         self.check_room()?;
-        let rules = read_schema(self.alloc, schema)?;
+        let rules = read_schema(self.alloc, self.profile, schema)?;
         check_depth(doc)?;
         check_size(doc)?;
-        check_valid(&rules, doc)?;
+        check_valid(self.alloc, &rules, doc)?;
         Ok(Judged {
             patched: None,
             rules: Some(rules),
@@ -100,13 +100,13 @@ impl<'m> Documents<'m> {
 
     fn judge_patch(&self, name: &str, ops: &Tree, if_rev: Option<u64>) -> Result<Judged, Refusal>
         ensures { let change = patch name.now (view ops.now) if_rev in
-            MatchResult result (IsJudgedIn self.now.documents change) (RefusesIn self.now.documents change) }
+            MatchResult result (IsJudgedIn self.now.profile self.now.documents change) (RefusesIn self.now.profile self.now.documents change) }
     {
         check_name(name)?;
         let stored = self.stored(name).ok_or(Refusal::plain(NO_DOCUMENT))?;
         check_revision(if_rev, stored.revision)?;
         let made = make(self.alloc, ops, stored.doc.tree())?;
-        check_valid(&stored.schema, &made)?;
+        check_valid(self.alloc, &stored.schema, &made)?;
         Ok(Judged {
             patched: Some(made),
             rules: None,
@@ -115,12 +115,12 @@ impl<'m> Documents<'m> {
 
     fn judge_schema(&self, name: &str, schema: &Tree) -> Result<Judged, Refusal>
         ensures { let change = set_schema name.now (view schema.now) in
-            MatchResult result (IsJudgedIn self.now.documents change) (RefusesIn self.now.documents change) }
+            MatchResult result (IsJudgedIn self.now.profile self.now.documents change) (RefusesIn self.now.profile self.now.documents change) }
     {
         check_name(name)?;
         let stored = self.stored(name).ok_or(Refusal::plain(NO_DOCUMENT))?;
-        let rules = read_schema(self.alloc, schema)?;
-        check_valid(&rules, stored.doc.tree())?;
+        let rules = read_schema(self.alloc, self.profile, schema)?;
+        check_valid(self.alloc, &rules, stored.doc.tree())?;
         Ok(Judged {
             patched: None,
             rules: Some(rules),
@@ -129,7 +129,7 @@ impl<'m> Documents<'m> {
 
     fn judge_delete(&self, name: &str) -> Result<Judged, Refusal>
         ensures { let change = delete name.now in
-            MatchResult result (IsJudgedIn self.now.documents change) (RefusesIn self.now.documents change) }
+            MatchResult result (IsJudgedIn self.now.profile self.now.documents change) (RefusesIn self.now.profile self.now.documents change) }
     {
         check_name(name)?;
         self.check_there(name)?;

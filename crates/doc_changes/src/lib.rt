@@ -20,6 +20,7 @@ mod lent;
 pub mod limits;
 mod making;
 mod names;
+mod offered;
 mod patching;
 mod refusal;
 mod rules;
@@ -29,6 +30,7 @@ mod undo;
 
 pub use accepts::accepts_patched;
 pub use changed::changed_steps;
+pub use doc_schema::Profile;
 pub use documents::Documents;
 pub use judged::Judged;
 pub use lent::Lent;

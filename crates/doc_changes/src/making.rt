@@ -4,6 +4,7 @@ ghost use Rattle.std.specs.Prelude.{◌≡◌, ◌+◌, ◌<◌, ◌++◌, ◌�
 ghost use Rattle.indexmap.specs.IndexMap.{spare};
 ghost use Rattle.record_text.specs.Change.{change_of};
 ghost use Rattle.doc_changes.specs.Held.{held_of};
+ghost use Rattle.schema_rules.specs.declared.profile.Profile.{Profile};
 ghost use Rattle.doc_changes.specs.Judged.{IsReady, RefusesIn};
 ghost use Rattle.doc_changes.specs.State.{AreDistinct, IsStorable, changed, find, without};
 ghost use Rattle.doc_changes.specs.Step.{documents_after};
@@ -32,10 +33,11 @@ pub fn make(
     revision: u64,
 ) -> Result<Undo, Refusal>
     requires room { 0 < spare documents.old }
-    requires ready { IsReady (map document_of documents.old.entries) (change_of command) judged }
+    requires ready { (profile : Profile) × IsReady profile (map document_of documents.old.entries) (change_of command) judged }
     requires storable { AllByRecursion IsStorable (map document_of documents.old.entries) }
-    ensures made { IfOk result (λ undo. IsMade (map document_of documents.old.entries) (change_of command) revision undo (map document_of documents.new.entries)) }
-    ensures refused { IfErr result (RefusesIn (map document_of documents.old.entries) (change_of command)) }
+    ensures made { (profile : Profile) → IsReady profile (map document_of documents.old.entries) (change_of command) judged
+        → IfOk result (λ undo. IsMade profile (map document_of documents.old.entries) (change_of command) revision undo (map document_of documents.new.entries)) }
+    ensures refused { (profile : Profile) → IfErr result (RefusesIn profile (map document_of documents.old.entries) (change_of command)) }
     ensures unchanged { OnErr result (map document_of documents.new.entries ≡ map document_of documents.old.entries) }
     ensures spare { spare documents.old < spare documents.new + 2 }
 {
@@ -70,11 +72,12 @@ pub fn make_for_good(
     revision: u64,
 ) -> Result<(), Refusal>
     requires room { 0 < spare documents.old }
-    requires ready { IsReady (map document_of documents.old.entries) (change_of command) judged }
+    requires ready { (profile : Profile) × IsReady profile (map document_of documents.old.entries) (change_of command) judged }
     requires storable { AllByRecursion IsStorable (map document_of documents.old.entries) }
-    ensures made { IfOk result (λ _. IsMadeForGood (map document_of documents.old.entries) (change_of command) revision
+    ensures made { (profile : Profile) → IsReady profile (map document_of documents.old.entries) (change_of command) judged
+        → IfOk result (λ _. IsMadeForGood profile (map document_of documents.old.entries) (change_of command) revision
         (map document_of documents.new.entries)) }
-    ensures refused { IfErr result (RefusesIn (map document_of documents.old.entries) (change_of command)) }
+    ensures refused { (profile : Profile) → IfErr result (RefusesIn profile (map document_of documents.old.entries) (change_of command)) }
 {
     match command {
         Command::Patch { name, ops, if_rev } => {

@@ -7,6 +7,7 @@ ghost use Rattle.doc_patch.specs.Measured.{CanReverse, Reverses};
 ghost use Rattle.doc_patch.specs.Patch as pure;
 ghost use Rattle.doc_patch.specs.Reading.{operations_of};
 ghost use Rattle.doc_schema.specs.Judge.{Judges};
+ghost use Rattle.schema_rules.specs.declared.profile.Profile.{Profile};
 ghost use Rattle.doc_tree.specs.Doc.{Doc};
 ghost use Rattle.doc_tree.specs.Sound.{IsSound};
 ghost use Rattle.doc_tree.specs.TreeView.{view};
@@ -42,8 +43,8 @@ pub(crate) fn patch(
     revision: u64,
 ) -> Result<Undo, Refusal>
     requires { AllByRecursion IsStorable (map document_of documents.old.entries) }
-    ensures made { IfOk result (λ undo. IsMade (map document_of documents.old.entries) (commands.patch (string_bytes name) (view ops.now) if_rev) revision undo (map document_of documents.new.entries)) }
-    ensures refused { IfErr result (RefusesIn (map document_of documents.old.entries) (commands.patch (string_bytes name) (view ops.now) if_rev)) }
+    ensures made { (profile : Profile) → IfOk result (λ undo. IsMade profile (map document_of documents.old.entries) (commands.patch (string_bytes name) (view ops.now) if_rev) revision undo (map document_of documents.new.entries)) }
+    ensures refused { (profile : Profile) → IfErr result (RefusesIn profile (map document_of documents.old.entries) (commands.patch (string_bytes name) (view ops.now) if_rev)) }
     ensures unchanged { OnErr result (map document_of documents.new.entries ≡ map document_of documents.old.entries) }
     ensures spare { spare documents.old < spare documents.new + 2 }
 {
@@ -70,9 +71,9 @@ pub(crate) fn patch_for_good(
     revision: u64,
 ) -> Result<(), Refusal>
     requires { AllByRecursion IsStorable (map document_of documents.old.entries) }
-    ensures made { IfOk result (λ _. IsMadeForGood (map document_of documents.old.entries)
+    ensures made { (profile : Profile) → IfOk result (λ _. IsMadeForGood profile (map document_of documents.old.entries)
         (commands.patch (string_bytes name) (view ops.now) if_rev) revision (map document_of documents.new.entries)) }
-    ensures refused { IfErr result (RefusesIn (map document_of documents.old.entries) (commands.patch (string_bytes name) (view ops.now) if_rev)) }
+    ensures refused { (profile : Profile) → IfErr result (RefusesIn profile (map document_of documents.old.entries) (commands.patch (string_bytes name) (view ops.now) if_rev)) }
 {
     let index = index_of(documents, name.as_str())?;
     let stored = documents.get_index_mut(index).unwrap();
@@ -90,13 +91,13 @@ pub fn patch_read_for_good(
     revision: u64,
 ) -> Result<(), Refusal>
     requires { AllByRecursion IsStorable (map document_of documents.old.entries) }
-    ensures made { (ops : Doc) → operations_of ops ≡ Ok (operations changes.now) → IsSound ops
-        → IfOk result (λ _. IsMadeForGood (map document_of documents.old.entries) (commands.patch name.now ops None) revision
+    ensures made { (profile : Profile) (ops : Doc) → operations_of ops ≡ Ok (operations changes.now) → IsSound ops
+        → IfOk result (λ _. IsMadeForGood profile (map document_of documents.old.entries) (commands.patch name.now ops None) revision
         (map document_of documents.new.entries)) }
-    ensures refused { (ops : Doc) → operations_of ops ≡ Ok (operations changes.now)
-        → IfErr result (RefusesIn (map document_of documents.old.entries) (commands.patch name.now ops None)) }
-    ensures good { (seq : ℕ) → revision ≤ seq → Good (kept_state documents.old.entries seq)
-        → IfOk result (λ _. Good (kept_state documents.new.entries seq)) }
+    ensures refused { (profile : Profile) (ops : Doc) → operations_of ops ≡ Ok (operations changes.now)
+        → IfErr result (RefusesIn profile (map document_of documents.old.entries) (commands.patch name.now ops None)) }
+    ensures good { (profile : Profile) (seq : ℕ) → revision ≤ seq → Good (kept_state documents.old.entries seq profile)
+        → IfOk result (λ _. Good (kept_state documents.new.entries seq profile)) }
 {
     let index = index_of(documents, name)?;
     let stored = documents.get_index_mut(index).unwrap();
@@ -131,8 +132,8 @@ fn reverse(stored: &mut Stored, reversal: Reversal, revision: u64)
 // The index of the document that a patch changes.
 fn index_of(documents: &IndexMap<String, Stored>, name: &str) -> Result<usize, Refusal>
     ensures found { IfOk result (StandsAt name.now documents.now.entries) }
-    ensures refused { IfErr result (λ r. (ops : Doc) (if_rev : Option ℕ)
-        → RefusesIn (map document_of documents.now.entries) (commands.patch name.now ops if_rev) r) }
+    ensures refused { IfErr result (λ r. (profile : Profile) (ops : Doc) (if_rev : Option ℕ)
+        → RefusesIn profile (map document_of documents.now.entries) (commands.patch name.now ops if_rev) r) }
 {
     check_name(name)?;
     match documents.get_index_of(name) {

@@ -10,7 +10,7 @@ use Rattle.doc_changes.specs.declared.refusal.Refusal.{Refusal}
 -- The state takes an entry: its seq isn't ahead of the state's, and the documents accept its change. seq doesn't rise, so its end is no reason to refuse.
 pub record Takes (s : State) (e : Entry) : Type 0 where
   pub not_ahead : e.seq ≤ s.seq
-  pub accepted : first (refusals_in s.documents e.change) ≡ None
+  pub accepted : first (refusals_in s.profile s.documents e.change) ≡ None
 
 -- the state with it: what the change changes gets the entry's seq as its revision
 abbrev pub with_entry : State → Entry → State
@@ -30,4 +30,4 @@ AreTaken s (e ∷ es) = Takes s e × AreTaken (with_entry s e) es
 -- two nothing changed.
 abbrev pub Taken : {A : Type 0} → State → Entry → Result A Refusal → State → Type 0
 Taken old e (Ok a) new = Takes old e × (new ≡ with_entry old e)
-Taken old e (Err r) new = RefusesIn old.documents e.change r × (new ≡ old)
+Taken old e (Err r) new = RefusesIn old.profile old.documents e.change r × (new ≡ old)

@@ -10,7 +10,7 @@ use Rattle.doc_machine.specs.declared.machine.trial.Trial.TheInside.{Inside}
 
 -- the state before the change
 abbrev pub before : Undo → State → State
-before u s = record { documents = documents_before u s.documents; seq = s.seq - 1 }
+before u s = record s { documents = documents_before u s.documents; seq = s.seq - 1 }
 
 -- the change can be taken back: there is something to take, and the state before it was good
 pub record CanGoBack (u : Undo) (s : State) : Type 0 where
@@ -31,7 +31,7 @@ CanGoBackAll (u ∷ us) s = CanGoBack u (first_or s (past_of us s)) × CanGoBack
 -- ---- the fields of a trial
 
 abbrev pub tried : Inside → State
-tried t = kept_state t.documents.entries t.seq
+tried t = kept_state t.documents.entries t.seq t.profile
 
 abbrev pub trial_of : Inside → TrialView
 trial_of t = record { state = tried t; past = past_of t.log.items (tried t) }

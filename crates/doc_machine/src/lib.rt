@@ -13,7 +13,7 @@ pub mod limits;
 mod machine;
 mod transaction;
 
-pub use doc_changes::{Documents, Judged, Lent, Refusal, is_valid_name, laws};
+pub use doc_changes::{Documents, Judged, Lent, Profile, Refusal, is_valid_name, laws};
 pub use machine::{Machine, Trial};
 pub use path_eval::{Node, Nodelist};
 pub use record_text::{Command, RecordFault, command_of};

@@ -5,7 +5,9 @@ mod transact;
 mod trial;
 
 use doc_changes::limits::LAST_SEQ;
-use doc_changes::{Documents, Judged, Refusal, Stored, make, make_for_good, patch_read_for_good};
+use doc_changes::{
+    Documents, Judged, Profile, Refusal, Stored, make, make_for_good, patch_read_for_good,
+};
 use doc_patch::Patch;
 use indexmap::IndexMap;
 use record_text::Command;
@@ -13,12 +15,14 @@ use std::alloc::Global;
 use std::marker::Model;
 pub use trial::Trial;
 
-/// The documents by name in the order of their creation, each with its revision, and the number of accepted changes.
+/// The documents by name in the order of their creation, each with its revision, the number of accepted changes, and
+/// the profile in which the schemas of changes are read.
 #[derive(Drop)]
 pub struct Machine {
     alloc: Global,
     documents: IndexMap<String, Stored>,
     seq: u64,
+    profile: Profile,
 }
 
 impl Model for Machine {
@@ -46,10 +50,10 @@ impl Machine {
     ghost use Rattle.record_text.specs.Frame.{entry};
     ghost use Rattle.doc_machine.specs.Entries.{Taken, Takes, with_entry};
     ghost use Rattle.doc_changes.specs.Judged.{IsJudged, RefusesIn};
-    ghost use Rattle.doc_changes.specs.State.{Good, empty, empty_at};
+    ghost use Rattle.doc_changes.specs.State.{AreOffered, Good, empty, empty_in, in_profile};
     ghost use Rattle.doc_changes.specs.Step.{IsOwn, Refuses, Steps};
 
-    /// A machine with no documents, and no changes yet.
+    /// A machine with no documents, and no changes yet, in profile 2.
     pub fn new(alloc: Global) -> Machine
         ensures empty { result ≡ empty }
         ensures good { Good result }
@@ -58,19 +62,32 @@ impl Machine {
             alloc,
             documents: IndexMap::new(alloc),
             seq: 0,
+            profile: Profile::Two,
         }
     }
 
-    /// A machine with no documents after `seq` changes, which takes again what a journal of that seq holds.
-    pub fn at(alloc: Global, seq: u64) -> Machine
-        ensures empty { result ≡ empty_at seq }
+    /// A machine with no documents after `seq` changes, in that profile, which takes again what a journal of that seq
+    /// holds.
+    pub fn at(alloc: Global, seq: u64, profile: Profile) -> Machine
+        ensures empty { result ≡ empty_in profile seq }
         ensures good { Good result }
     {
         Machine {
             alloc,
             documents: IndexMap::new(alloc),
             seq,
+            profile,
         }
+    }
+
+    /// Has the schemas of changes read in that profile from now on, of which each document's schema must be one.
+    pub fn set_profile(&mut self, profile: Profile)
+        requires { AreOffered profile self.old.documents }
+        ensures set { self.new ≡ in_profile profile self.old }
+        ensures good { Good self.new }
+    {
+        self.know();
+        self.profile = profile;
     }
 
     /// For the prover alone: who calls it knows from there on that the state is good.
@@ -138,7 +155,7 @@ impl Machine {
     pub fn take_for_good(self, command: Command, seq: u64) -> Result<Machine, Refusal>
         requires { seq ≤ self.seq }
         ensures taken { MatchResult result (λ machine. Takes self (entry seq (change_of command)) × (machine ≡ with_entry self (entry seq (change_of command))))
-            (RefusesIn self.documents (change_of command)) }
+            (RefusesIn self.profile self.documents (change_of command)) }
         ensures good { IfOk result (λ machine. Good machine) }
     {
         let ready = self.look().prepare(&command)?;
@@ -146,6 +163,7 @@ impl Machine {
             alloc,
             mut documents,
             seq: counted,
+            profile,
         } = self;
         documents.reserve(1)?;
         make_for_good(alloc, &mut documents, command, ready, seq)?;
@@ -153,6 +171,7 @@ impl Machine {
             alloc,
             documents,
             seq: counted,
+            profile,
         })
     }
 
@@ -167,19 +186,21 @@ impl Machine {
         requires { seq ≤ self.seq }
         ensures taken { (ops : Doc) → operations_of ops ≡ Ok (operations changes.now) → IsSound ops
             → MatchResult result (λ machine. Takes self (entry seq (patch name.now ops None)) × (machine ≡ with_entry self (entry seq (patch name.now ops None))))
-            (RefusesIn self.documents (patch name.now ops None)) }
+            (RefusesIn self.profile self.documents (patch name.now ops None)) }
         ensures good { IfOk result (λ machine. Good machine) }
     {
         let Machine {
             alloc,
             mut documents,
             seq: counted,
+            profile,
         } = self;
         patch_read_for_good(alloc, &mut documents, name, changes, seq)?;
         Ok(Machine {
             alloc,
             documents,
             seq: counted,
+            profile,
         })
     }
 }

@@ -8,9 +8,11 @@ use Rattle.schema_graph.proofs.Among.{none_in}
 use Rattle.schema_rules.specs.Keywords.{keyword_of, shape_of}
 use Rattle.schema_rules.specs.declared.keyword.Shape.{Shape}
 use Rattle.schema_rules.specs.declared.keyword.Shape.TheVariants.{One, Several, Named}
-use Rattle.doc_schema.specs.Positions.{Position, position, positions, positions_in, positions_each, positions_named, positions_below}
+use Rattle.doc_schema.specs.Positions.{Position, position, offered_in, offered_each, offered_named, offered_below, offered_positions}
 use Rattle.doc_schema.specs.Defects.{has_defect, is_defective, is_root, HasDefect}
-use Rattle.doc_schema.specs.Schemas.{schemas_in, schemas_each, schemas_named, schemas_below}
+use Rattle.schema_rules.specs.Profiles.{offered}
+use Rattle.schema_rules.specs.Schemas as alone
+use Rattle.schema_rules.specs.declared.profile.Profile.{Profile}
 use Rattle.doc_schema.specs.declared.defects.Defect.{Defect}
 
 pub any_append : (p : Doc → Bool) (xs ys : List Doc) → list_any p (xs ++ ys) ≡ (list_any p xs || list_any p ys)
@@ -45,22 +47,22 @@ below_root : (here : List Place) (p : Place) → is_root (here ++ p ∷ []) ≡ 
 below_root [] p = refl
 below_root (q ∷ here) p = refl
 
-module _ (defect : Defect) (root : Doc) where
+module _ (profile : Profile) (defect : Defect) (root : Doc) where
   pub at : Position → Bool
-  at = has_defect defect root
+  at = has_defect profile defect root
 
   pub by : Doc → Bool
-  by = is_defective defect root false
+  by = is_defective profile defect root false
 
   itself : (here : List Place) (d : Doc) → is_root here ≡ false → at (position here d) ≡ by d
   unfolding at by
-  itself here d e = ap (λ b. is_defective defect root b d) e
+  itself here d e = ap (λ b. is_defective profile defect root b d) e
 
   two : (xs ys : List Position) (ds es : List Doc) → list_any at xs ≡ list_any by ds → list_any at ys ≡ list_any by es → list_any at (xs ++ ys) ≡ list_any by (ds ++ es)
   two xs ys ds es e f = list_any-append at xs ys ∙ ap₂ (λ a b. a || b) e f ∙ sym (list_any-append by ds es)
 
   mutual
-    below_in : (h : Shape) (here : List Place) (v : Doc) → is_root here ≡ false → list_any at (positions_in h here v) ≡ list_any by (schemas_in h v)
+    below_in : (h : Shape) (here : List Place) (v : Doc) → is_root here ≡ false → list_any at (offered_in profile h here v) ≡ list_any by (alone.offered_in profile h v)
     below_in One here (object ms) e = ap₂ (λ a b. a || b) (itself here (object ms) e) (below_members here ms)
     below_in One here null e = ap (λ a. a || false) (itself here null e)
     below_in One here (boolean b) e = ap (λ a. a || false) (itself here (boolean b) e)
@@ -71,25 +73,25 @@ module _ (defect : Defect) (root : Doc) where
     below_in Named here (object ms) e = below_named here ms
     below_in _ here _ e = refl
 
-    below_each : (here : List Place) (n : ℕ) (ds : Elements) → list_any at (positions_each here n ds) ≡ list_any by (schemas_each ds)
+    below_each : (here : List Place) (n : ℕ) (ds : Elements) → list_any at (offered_each profile here n ds) ≡ list_any by (alone.offered_each profile ds)
     below_each here n no_elements = refl
     below_each here n (element d ds) = two _ _ _ _ (below_in One (here ++ index n ∷ []) d (below_root here (index n))) (below_each here (suc n) ds)
 
-    below_named : (here : List Place) (ms : Members) → list_any at (positions_named here ms) ≡ list_any by (schemas_named ms)
+    below_named : (here : List Place) (ms : Members) → list_any at (offered_named profile here ms) ≡ list_any by (alone.offered_named profile ms)
     below_named here no_members = refl
     below_named here (member k d ms) = two _ _ _ _ (below_in One (here ++ name k ∷ []) d (below_root here (name k))) (below_named here ms)
 
-    pub below_members : (here : List Place) (ms : Members) → list_any at (positions_below here ms) ≡ list_any by (schemas_below ms)
+    pub below_members : (here : List Place) (ms : Members) → list_any at (offered_below profile here ms) ≡ list_any by (alone.offered_below profile ms)
     below_members here no_members = refl
-    below_members here (member k d ms) = two _ _ _ _ (below_in (shape_of (keyword_of k)) (here ++ name k ∷ []) d (below_root here (name k))) (below_members here ms)
+    below_members here (member k d ms) = two _ _ _ _ (below_in (shape_of (offered profile (keyword_of k))) (here ++ name k ∷ []) d (below_root here (name k))) (below_members here ms)
 
 -- of a whole schema: by its own members, or below it
-pub of_object : (defect : Defect) (root : Doc) (ms : Members) → list_any (has_defect defect root) (positions (object ms)) ≡ (is_defective defect root true (object ms) || list_any (is_defective defect root false) (schemas_below ms))
+pub of_object : (profile : Profile) (defect : Defect) (root : Doc) (ms : Members) → list_any (has_defect profile defect root) (offered_positions profile (object ms)) ≡ (is_defective profile defect root true (object ms) || list_any (is_defective profile defect root false) (alone.offered_below profile ms))
 unfolding at by
-of_object defect root ms = ap (λ b. is_defective defect root true (object ms) || b) (below_members defect root [] ms)
+of_object profile defect root ms = ap (λ b. is_defective profile defect root true (object ms) || b) (below_members profile defect root [] ms)
 
-pub told : (defect : Defect) (root : Doc) → true ≡ list_any (has_defect defect root) (positions root) → HasDefect defect root
-told defect root e = some_passes (has_defect defect root) (positions root) (sym e)
+pub told : (profile : Profile) (defect : Defect) (root : Doc) → true ≡ list_any (has_defect profile defect root) (offered_positions profile root) → HasDefect profile defect root
+told profile defect root e = some_passes (has_defect profile defect root) (offered_positions profile root) (sym e)
 
-pub untold : (defect : Defect) (root : Doc) → false ≡ list_any (has_defect defect root) (positions root) → HasDefect defect root → ⊥
-untold defect root e h = none_passes (has_defect defect root) (positions root) (sym e) h.0 h.1 h.2
+pub untold : (profile : Profile) (defect : Defect) (root : Doc) → false ≡ list_any (has_defect profile defect root) (offered_positions profile root) → HasDefect profile defect root → ⊥
+untold profile defect root e h = none_passes (has_defect profile defect root) (offered_positions profile root) (sym e) h.0 h.1 h.2

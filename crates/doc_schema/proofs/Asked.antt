@@ -6,13 +6,13 @@ use Rattle.std.specs.Ordering.{match_ordering}
 use Rattle.doc_tree.specs.Doc.{Doc, list, object, Elements, no_elements, element, Members, no_members, member, height, elements_height, members_height, get_member}
 use Rattle.schema_rules.specs.Keywords.{keyword_of, shape_of}
 use Rattle.schema_rules.specs.Parts.{elements_in, members_in, after}
-use Rattle.schema_rules.specs.Rules.{Ask, ask, asks, at_each, of_each, by_place, by_name, each_named, if_named, of_names, of_others, of_contained, at_target, after_if}
+use Rattle.schema_rules.specs.Rules.{Ask, ask, asks, at_each, by_each, of_each, by_place, by_name, each_named, if_named, of_names, of_others, of_contained, at_target, after_if}
 use Rattle.doc_tree.specs.Lists.{elements_list, values_list}
 use Rattle.schema_rules.specs.References.{target}
 use Rattle.doc_schema.specs.Schemas.{held_in, held_by, applied_by, applied_by_members}
 use Rattle.schema_graph.specs.Walks.{In, first, later}
 use Rattle.schema_rules.specs.declared.keyword.Keyword.{Keyword}
-use Rattle.schema_rules.specs.declared.keyword.Keyword.TheVariants.{Properties, AdditionalProperties, PropertyNames, PrefixItems, Items, Contains, MaxContains, AllOf, AnyOf, OneOf, Not, Then, Else, Ref}
+use Rattle.schema_rules.specs.declared.keyword.Keyword.TheVariants.{Properties, AdditionalProperties, PropertyNames, PrefixItems, Items, Contains, MaxContains, AllOf, AnyOf, OneOf, Not, Then, Else, DependentSchemas, Ref}
 use Rattle.schema_graph.proofs.Among.{In-left, In-right, none_in}
 use Rattle.schema_nodes.proofs.KeywordNames.{contains_is, if_is}
 use Rattle.std.proofs.lemmas.Map.Lookups.{exact_bytes}
@@ -33,6 +33,11 @@ at_each_here : (ss : Elements) (t : Doc) (a : Ask) → In a (at_each ss t) → H
 at_each_here no_elements t a i = none_in a i
 at_each_here (element s ss) t _ first = record { same = refl; along = first }
 at_each_here (element s ss) t a (later i) = let h = at_each_here ss t a i in record { same = h.same; along = later h.along }
+
+by_each_here : (ss : Members) (t : Doc) (a : Ask) → In a (by_each ss t) → Here (values_list ss) t a
+by_each_here no_members t a i = none_in a i
+by_each_here (member k s ss) t _ first = record { same = refl; along = first }
+by_each_here (member k s ss) t a (later i) = let h = by_each_here ss t a i in record { same = h.same; along = later h.along }
 
 at_target_here : (o : Option Doc) (t : Doc) (a : Ask) → In a (at_target o t) → Here (option_to_list o) t a
 at_target_here None t a i = none_in a i
@@ -195,6 +200,7 @@ asked root ms OneOf v t a i = inl (inl (at_each_here (elements_in v) t a i))
 asked root ms Not v t a i = inl (inl (only_here v t a i))
 asked root ms Then v t a i = ⊎_elim (λ h. inl (inl h)) (λ h. inr (inl h)) (after_if_here root ms v t a (get_member (codes "if") ms) refl i)
 asked root ms Else v t a i = ⊎_elim (λ h. inl (inl h)) (λ h. inr (inl h)) (after_if_here root ms v t a (get_member (codes "if") ms) refl i)
+asked root ms DependentSchemas v t a i = inl (inl (by_each_here (members_in v) t a i))
 asked root ms Ref v t a i = inl (inl (at_target_here (target root v) t a i))
 asked root ms _ v t a i = none_in a i
 

@@ -10,11 +10,15 @@ use Rattle.schema_rules.specs.Keywords.{keyword_of, shape_of}
 use Rattle.schema_rules.specs.Parts.{elements_in, members_in, or_null, beside}
 use Rattle.schema_rules.specs.References.{target}
 use Rattle.schema_rules.specs.declared.keyword.Keyword.{Keyword}
-use Rattle.schema_rules.specs.declared.keyword.Keyword.TheVariants.{AllOf, AnyOf, OneOf, Not, If, Then, Else, Ref}
+use Rattle.schema_rules.specs.declared.keyword.Keyword.TheVariants.{AllOf, AnyOf, OneOf, Not, If, Then, Else, DependentSchemas, Ref}
 use Rattle.schema_rules.specs.declared.keyword.Shape.{Shape}
 use Rattle.schema_rules.specs.declared.keyword.Shape.TheVariants.{Plain, One, Several, Named}
-use Rattle.doc_schema.specs.Positions.{Position, position, positions, positions_in, positions_each, positions_named, positions_below}
-use Rattle.doc_schema.specs.Loops.{target_location, elements_at, led_by, led_by_members, leads}
+use Rattle.schema_rules.specs.Profiles.{offered}
+use Rattle.schema_rules.specs.Schemas as alone
+use Rattle.schema_rules.specs.declared.profile.Profile.{Profile}
+use Rattle.schema_rules.specs.declared.profile.Profile.TheVariants.{Three}
+use Rattle.doc_schema.specs.Positions.{Position, position, positions, positions_in, positions_each, positions_named, positions_below, offered_in, offered_each, offered_named, offered_below, offered_positions}
+use Rattle.doc_schema.specs.Loops.{target_location, elements_at, members_at, led_by, led_by_members, leads}
 use Rattle.doc_schema.specs.Schemas.{schemas, schemas_in, schemas_each, schemas_named, schemas_below, held_in, held_by, applied_by, applied_by_members, applied}
 use Rattle.doc_schema.proofs.Mapped.{In-map, of_map}
 use Rattle.doc_schema.proofs.Placed.{within, closed, found_below, defs_is}
@@ -27,32 +31,36 @@ schema_of p = p.schema
 two : (xs ys : List Position) (ds es : List Doc) → map schema_of xs ≡ ds → map schema_of ys ≡ es → map schema_of (xs ++ ys) ≡ ds ++ es
 two xs ys ds es e f = map-append schema_of xs ys ∙ ap₂ (λ a b. a ++ b) e f
 
-mutual
-  schemas_are_in : (h : Shape) (here : List Place) (v : Doc) → map schema_of (positions_in h here v) ≡ schemas_in h v
-  schemas_are_in One here (object ms) = ap (λ l. object ms ∷ l) (schemas_are_below here ms)
-  schemas_are_in One here null = refl
-  schemas_are_in One here (boolean b) = refl
-  schemas_are_in One here (int z) = refl
-  schemas_are_in One here (text s) = refl
-  schemas_are_in One here (list ds) = refl
-  schemas_are_in Several here (list ds) = schemas_are_each here 0 ds
-  schemas_are_in Named here (object ms) = schemas_are_named here ms
-  schemas_are_in _ here _ = refl
+module _ (profile : Profile) where
+  mutual
+    schemas_are_in : (h : Shape) (here : List Place) (v : Doc) → map schema_of (offered_in profile h here v) ≡ alone.offered_in profile h v
+    schemas_are_in One here (object ms) = ap (λ l. object ms ∷ l) (schemas_are_below here ms)
+    schemas_are_in One here null = refl
+    schemas_are_in One here (boolean b) = refl
+    schemas_are_in One here (int z) = refl
+    schemas_are_in One here (text s) = refl
+    schemas_are_in One here (list ds) = refl
+    schemas_are_in Several here (list ds) = schemas_are_each here 0 ds
+    schemas_are_in Named here (object ms) = schemas_are_named here ms
+    schemas_are_in _ here _ = refl
 
-  schemas_are_each : (here : List Place) (n : ℕ) (ds : Elements) → map schema_of (positions_each here n ds) ≡ schemas_each ds
-  schemas_are_each here n no_elements = refl
-  schemas_are_each here n (element d ds) = two _ _ _ _ (schemas_are_in One (here ++ index n ∷ []) d) (schemas_are_each here (suc n) ds)
+    schemas_are_each : (here : List Place) (n : ℕ) (ds : Elements) → map schema_of (offered_each profile here n ds) ≡ alone.offered_each profile ds
+    schemas_are_each here n no_elements = refl
+    schemas_are_each here n (element d ds) = two _ _ _ _ (schemas_are_in One (here ++ index n ∷ []) d) (schemas_are_each here (suc n) ds)
 
-  schemas_are_named : (here : List Place) (ms : Members) → map schema_of (positions_named here ms) ≡ schemas_named ms
-  schemas_are_named here no_members = refl
-  schemas_are_named here (member k d ms) = two _ _ _ _ (schemas_are_in One (here ++ name k ∷ []) d) (schemas_are_named here ms)
+    schemas_are_named : (here : List Place) (ms : Members) → map schema_of (offered_named profile here ms) ≡ alone.offered_named profile ms
+    schemas_are_named here no_members = refl
+    schemas_are_named here (member k d ms) = two _ _ _ _ (schemas_are_in One (here ++ name k ∷ []) d) (schemas_are_named here ms)
 
-  schemas_are_below : (here : List Place) (ms : Members) → map schema_of (positions_below here ms) ≡ schemas_below ms
-  schemas_are_below here no_members = refl
-  schemas_are_below here (member k d ms) = two _ _ _ _ (schemas_are_in (shape_of (keyword_of k)) (here ++ name k ∷ []) d) (schemas_are_below here ms)
+    schemas_are_below : (here : List Place) (ms : Members) → map schema_of (offered_below profile here ms) ≡ alone.offered_below profile ms
+    schemas_are_below here no_members = refl
+    schemas_are_below here (member k d ms) = two _ _ _ _ (schemas_are_in (shape_of (offered profile (keyword_of k))) (here ++ name k ∷ []) d) (schemas_are_below here ms)
+
+  pub offered_are : (root : Doc) → map schema_of (offered_positions profile root) ≡ alone.offered_in profile One root
+  offered_are root = schemas_are_in One [] root
 
 pub schemas_are : (root : Doc) → map schema_of (positions root) ≡ schemas root
-schemas_are root = schemas_are_in One [] root
+schemas_are root = offered_are Three root
 
 pub as_many : (root : Doc) → length (schemas root) ≡ length (positions root)
 as_many root = ap length (sym (schemas_are root)) ∙ length-map (positions root) schema_of
@@ -62,6 +70,10 @@ as_many root = ap length (sym (schemas_are root)) ∙ length-map (positions root
 elements_are : (here : List Place) (n : ℕ) (ds : Elements) → map schema_of (elements_at here n ds) ≡ elements_list ds
 elements_are here n no_elements = refl
 elements_are here n (element d ds) = ap (λ l. d ∷ l) (elements_are here (suc n) ds)
+
+by_name_are : (here : List Place) (ms : Members) → map schema_of (members_at here ms) ≡ values_list ms
+by_name_are here no_members = refl
+by_name_are here (member k d ms) = ap (λ l. d ∷ l) (by_name_are here ms)
 
 targets_are : (here : List Place) (o : Option Doc) → map schema_of (map (position here) (option_to_list o)) ≡ option_to_list o
 targets_are here None = refl
@@ -75,6 +87,7 @@ led_are root here Not v = refl
 led_are root here If v = refl
 led_are root here Then v = refl
 led_are root here Else v = refl
+led_are root here DependentSchemas v = by_name_are here (members_in v)
 led_are root here Ref v = targets_are (target_location v) (target root v)
 led_are root here _ v = refl
 
@@ -147,7 +160,7 @@ held_below (member k d ms) q i = ⊎_elim (λ h. In-left q _ _ (held_within (sha
 pub closed_held : (root : Doc) (ms : Members) (q : Doc) → In (object ms) (schemas root) → In q (held_by ms) → In q (schemas root)
 closed_held root ms q h i =
     let p = to_position root (object ms) h in
-    let r = of_map schema_of q (positions_below p.0.location ms) (subst (λ l. In q l) (sym (schemas_are_below p.0.location ms)) (held_below ms q i)) in
+    let r = of_map schema_of q (positions_below p.0.location ms) (subst (λ l. In q l) (sym (schemas_are_below Three p.0.location ms)) (held_below ms q i)) in
     let placed : In r.0 (positions_in One p.0.location p.0.schema) = subst (λ s. In r.0 (positions_in One p.0.location s)) (sym p.2) (later r.1) in
     subst (λ x. In x (schemas root)) r.2 (to_schema root r.0 (within One [] root p.0 r.0 p.1 placed))
 
@@ -155,9 +168,9 @@ closed_held root ms q h i =
 
 in_defs : (root d : Doc) (ms : Members) (o : Option Doc) → get_member (codes "$defs") ms ≡ o → In d (values_list (members_in (or_null o))) → In d (schemas_below ms)
 in_defs root d ms (Some (object dm)) e i =
-    let q = of_map schema_of d (positions_named (name (codes "$defs") ∷ []) dm) (subst (λ l. In d l) (sym (schemas_are_named (name (codes "$defs") ∷ []) dm)) (held_named dm d i)) in
+    let q = of_map schema_of d (positions_named (name (codes "$defs") ∷ []) dm) (subst (λ l. In d l) (sym (schemas_are_named Three (name (codes "$defs") ∷ []) dm)) (held_named dm d i)) in
     let below = found_below [] (codes "$defs") ms (object dm) q.0 e (subst (λ k. In q.0 (positions_in (shape_of k) (name (codes "$defs") ∷ []) (object dm))) (sym defs_is) q.1) in
-    subst (λ l. In d l) (schemas_are_below [] ms) (subst (λ x. In x (map schema_of (positions_below [] ms))) q.2 (In-map schema_of q.0 (positions_below [] ms) below))
+    subst (λ l. In d l) (schemas_are_below Three [] ms) (subst (λ x. In x (map schema_of (positions_below [] ms))) q.2 (In-map schema_of q.0 (positions_below [] ms) below))
 in_defs root d ms _ e i = none_in d i
 
 pub values_among : (root d : Doc) → In d (values_list (members_in (beside (codes "$defs") (members_in root)))) → In d (schemas root)

@@ -1,5 +1,5 @@
 -- The first fault that the tests find is the schema's first.
-use Rattle.std.proofs.Common.{◌≡◌, inl, inr, ℕ, zero, suc, ◌≤◌, Bool, true, false, ◌∷◌, [], length, Option, Some, None, nat_lt, nat_le, refl, sym, ap, subst, arith, ⊎_elim}
+use Rattle.std.proofs.Common.{◌≡◌, ◌⊎◌, ◌||◌, not, inl, inr, ℕ, zero, suc, ◌≤◌, Bool, true, false, ◌∷◌, [], length, Option, Some, None, nat_lt, nat_le, refl, sym, ap, subst, arith, ⊎_elim}
 use Rattle.std.proofs.lemmas.Bool.{leb-true, le-leb, ltb-true, lt-ltb, or_cases, or_left, or_right}
 use Rattle.std.specs.Bool.{Decides}
 use Rattle.std.specs.List.{list_any}
@@ -10,8 +10,11 @@ use Rattle.doc_tree.proofs.Sameness.{same-Decides}
 use Rattle.schema_graph.specs.Walks.{In, Walk, depth}
 use Rattle.schema_graph.proofs.Ranks.{any_length, front, long_walk, node_at, over_edge, walk_of}
 use Rattle.schema_graph.proofs.Rounds.{any_walk}
+use Rattle.schema_pattern.specs.Tables.{are_patterns}
+use Rattle.schema_rules.specs.PatternTexts.{offered_texts}
+use Rattle.schema_rules.specs.declared.profile.Profile.{Profile}
 use Rattle.doc_schema.specs.Defects.{HasDefect}
-use Rattle.doc_schema.specs.Faults.{IsFaultless, IsFirstFault, IsTooLarge, too_large, malformed, left_out, dangling, looped, is_too_large, is_marred, is_looped, first_number, first_fault}
+use Rattle.doc_schema.specs.Faults.{IsFaultless, IsFirstFault, IsMalformed, IsTooLarge, IsTooLong, are_too_large, too_large, malformed, left_out, dangling, looped, is_malformed, is_too_large, is_too_long, is_marred, is_looped, first_number, first_fault}
 use Rattle.doc_schema.specs.Loops.{HasSchemaLoop}
 use Rattle.doc_schema.specs.Schemas.{applied, schemas}
 use Rattle.doc_schema.specs.declared.defects.Defect.{Defect}
@@ -36,14 +39,28 @@ refuted b d e p = let yes = d.1 p in cc
 
 -- ---- each test
 
-large : (s : Doc) → Decides (is_too_large s) (IsTooLarge s)
-large s = (
+long : (s : Doc) → Decides (is_too_long s) (IsTooLong s)
+long s = (
   λ e. ⊎_elim (λ long. inl (ltb-true 262_144 (length (text_of s)) long)) (λ high. inr (ltb-true 64 (height s) high)) (or_cases (nat_lt 262_144 (length (text_of s))) (nat_lt 64 (height s)) e),
   λ h. ⊎_elim (λ long. or_left (nat_lt 262_144 (length (text_of s))) (nat_lt 64 (height s)) (lt-ltb 262_144 (length (text_of s)) long)) (λ high. or_right (nat_lt 262_144 (length (text_of s))) (nat_lt 64 (height s)) (lt-ltb 64 (height s) high)) h,
 )
 
-marred : (defect : Defect) (s : Doc) → Decides (is_marred defect s) (HasDefect defect s)
-marred defect s = (λ e. told defect s (sym e), λ h. unless_false (is_marred defect s) (λ e. untold defect s (sym e) h))
+-- of either of two
+either : {P Q : Type 0} (a b : Bool) → Decides a P → Decides b Q → Decides (a || b) (P ⊎ Q)
+either a b p q = (λ e. ⊎_elim (λ x. inl (p.0 x)) (λ y. inr (q.0 y)) (or_cases a b e), λ h. ⊎_elim (λ x. or_left a b (p.1 x)) (λ y. or_right a b (q.1 y)) h)
+
+none_of : (b : Bool) → Decides (not b) (b ≡ false)
+none_of true = (λ e. absurd cc, λ e. absurd cc)
+none_of false = (λ e. refl, λ e. refl)
+
+large : (profile : Profile) (s : Doc) → Decides (is_too_large profile s) (IsTooLarge profile s)
+large profile s = either (is_too_long s) (are_too_large (offered_texts profile s)) (long s) (λ e. e, λ e. e)
+
+marred : (profile : Profile) (defect : Defect) (s : Doc) → Decides (is_marred profile defect s) (HasDefect profile defect s)
+marred profile defect s = (λ e. told profile defect s (sym e), λ h. unless_false (is_marred profile defect s) (λ e. untold profile defect s (sym e) h))
+
+malformed_is : (profile : Profile) (s : Doc) → Decides (is_malformed profile s) (IsMalformed profile s)
+malformed_is profile s = either (is_marred profile Form s) (not (are_patterns (offered_texts profile s))) (marred profile Form s) (none_of (are_patterns (offered_texts profile s)))
 
 -- a walk is no longer than the longest
 reaches : (s : Doc) (k : ℕ) (a b : Doc) → Walk (applied s) a b k → k ≤ depth (applied s) k a
@@ -84,16 +101,16 @@ module _ (s : Doc) where
 -- ---- whole schemas
 
 -- what is found is so
-abbrev pub IsFound : Doc → Option ℕ → Type 0
-IsFound s None = IsFaultless s
-IsFound s (Some n) = IsFirstFault s n
+abbrev pub IsFound : Profile → Doc → Option ℕ → Type 0
+IsFound profile s None = IsFaultless profile s
+IsFound profile s (Some n) = IsFirstFault profile s n
 
-pub found : (s : Doc) → IsFound s (first_fault s)
+pub found : (profile : Profile) (s : Doc) → IsFound profile s (first_fault profile s)
 unfolding first_fault
-found s = by (is_too_large s) (is_marred Form s) (is_marred LeftOut s) (is_marred Reference s) (is_looped s) (large s) (marred Form s) (marred LeftOut s) (marred Reference s) (looping s)
+found profile s = by (is_too_large profile s) (is_malformed profile s) (is_marred profile LeftOut s) (is_marred profile Reference s) (is_looped s) (large profile s) (malformed_is profile s) (marred profile LeftOut s) (marred profile Reference s) (looping s)
   where
-    by : (a b c d e : Bool) → Decides a (IsTooLarge s) → Decides b (HasDefect Form s) → Decides c (HasDefect LeftOut s) → Decides d (HasDefect Reference s) → Decides e (HasSchemaLoop s)
-        → IsFound s (first_number ((a, SCHEMA_SIZE) ∷ (b, SCHEMA_FORM) ∷ (c, SCHEMA_KEYWORD) ∷ (d, SCHEMA_REF) ∷ (e, SCHEMA_LOOP) ∷ []))
+    by : (a b c d e : Bool) → Decides a (IsTooLarge profile s) → Decides b (IsMalformed profile s) → Decides c (HasDefect profile LeftOut s) → Decides d (HasDefect profile Reference s) → Decides e (HasSchemaLoop s)
+        → IsFound profile s (first_number ((a, SCHEMA_SIZE) ∷ (b, SCHEMA_FORM) ∷ (c, SCHEMA_KEYWORD) ∷ (d, SCHEMA_REF) ∷ (e, SCHEMA_LOOP) ∷ []))
     by true b c d e p q r t u = too_large refl (p.0 refl)
     by false true c d e p q r t u = malformed refl (refuted false p refl) (q.0 refl)
     by false false true d e p q r t u = left_out refl (refuted false p refl) (refuted false q refl) (r.0 refl)
@@ -101,23 +118,23 @@ found s = by (is_too_large s) (is_marred Form s) (is_marred LeftOut s) (is_marre
     by false false false false true p q r t u = looped refl (refuted false p refl) (refuted false q refl) (refuted false r refl) (refuted false t refl) (u.0 refl)
     by false false false false false p q r t u = record { size = refuted false p refl; form = refuted false q refl; keywords = refuted false r refl; references = refuted false t refl; loops = refuted false u refl }
 
-pub told_first : (s : Doc) (n : ℕ) → first_fault s ≡ Some n → IsFirstFault s n
-told_first s n e = subst (IsFound s) e (found s)
+pub told_first : (profile : Profile) (s : Doc) (n : ℕ) → first_fault profile s ≡ Some n → IsFirstFault profile s n
+told_first profile s n e = subst (IsFound profile s) e (found profile s)
 
-pub told_faultless : (s : Doc) → first_fault s ≡ None → IsFaultless s
-told_faultless s e = subst (IsFound s) e (found s)
+pub told_faultless : (profile : Profile) (s : Doc) → first_fault profile s ≡ None → IsFaultless profile s
+told_faultless profile s e = subst (IsFound profile s) e (found profile s)
 
 -- what is so is found
-pub first_told : (s : Doc) (n : ℕ) → IsFirstFault s n → first_fault s ≡ Some n
+pub first_told : (profile : Profile) (s : Doc) (n : ℕ) → IsFirstFault profile s n → first_fault profile s ≡ Some n
 unfolding first_fault
-first_told s n (too_large e h) = rw ((large s).1 h) (ap Some (sym e))
-first_told s n (malformed e a h) = rw (off _ (large s) a, (marred Form s).1 h) (ap Some (sym e))
-first_told s n (left_out e a b h) = rw (off _ (large s) a, off _ (marred Form s) b, (marred LeftOut s).1 h) (ap Some (sym e))
-first_told s n (dangling e a b c h) = rw (off _ (large s) a, off _ (marred Form s) b, off _ (marred LeftOut s) c, (marred Reference s).1 h) (ap Some (sym e))
-first_told s n (looped e a b c d h) =
-    rw (off _ (large s) a, off _ (marred Form s) b, off _ (marred LeftOut s) c, off _ (marred Reference s) d, (looping s).1 h) (ap Some (sym e))
+first_told profile s n (too_large e h) = rw ((large profile s).1 h) (ap Some (sym e))
+first_told profile s n (malformed e a h) = rw (off _ (large profile s) a, (malformed_is profile s).1 h) (ap Some (sym e))
+first_told profile s n (left_out e a b h) = rw (off _ (large profile s) a, off _ (malformed_is profile s) b, (marred profile LeftOut s).1 h) (ap Some (sym e))
+first_told profile s n (dangling e a b c h) = rw (off _ (large profile s) a, off _ (malformed_is profile s) b, off _ (marred profile LeftOut s) c, (marred profile Reference s).1 h) (ap Some (sym e))
+first_told profile s n (looped e a b c d h) =
+    rw (off _ (large profile s) a, off _ (malformed_is profile s) b, off _ (marred profile LeftOut s) c, off _ (marred profile Reference s) d, (looping s).1 h) (ap Some (sym e))
 
-pub faultless_told : (s : Doc) → IsFaultless s → first_fault s ≡ None
+pub faultless_told : (profile : Profile) (s : Doc) → IsFaultless profile s → first_fault profile s ≡ None
 unfolding first_fault
-faultless_told s f =
-    rw (off _ (large s) f.size, off _ (marred Form s) f.form, off _ (marred LeftOut s) f.keywords, off _ (marred Reference s) f.references, off _ (looping s) f.loops) refl
+faultless_told profile s f =
+    rw (off _ (large profile s) f.size, off _ (malformed_is profile s) f.form, off _ (marred profile LeftOut s) f.keywords, off _ (marred profile Reference s) f.references, off _ (looping s) f.loops) refl

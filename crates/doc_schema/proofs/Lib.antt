@@ -4,7 +4,8 @@ pub mod Asked
 pub mod Closed
 pub mod Fuel
 mod ProfileRows
-pub mod Profile
+mod Offered
+pub mod FirstProfile
 pub mod Lifted
 pub mod Located
 pub mod Rest
@@ -17,3 +18,5 @@ pub mod Thirds
 mod Thirteenths
 pub mod Reading
 mod DefectsBelow
+mod Searchless
+mod Collecting

@@ -12,11 +12,11 @@ use Rattle.schema_rules.specs.Keywords.{keyword_of, shape_of, for_any, for_numbe
 use Rattle.schema_rules.specs.Parts.{elements_in, members_in, or_null, beside}
 use Rattle.schema_rules.specs.References.{target, definition, is_name, without_front}
 use Rattle.schema_rules.specs.declared.keyword.Keyword.{Keyword}
-use Rattle.schema_rules.specs.declared.keyword.Keyword.TheVariants.{AllOf, AnyOf, OneOf, Not, If, Then, Else, Ref, Defs}
+use Rattle.schema_rules.specs.declared.keyword.Keyword.TheVariants.{AllOf, AnyOf, OneOf, Not, If, Then, Else, DependentSchemas, Ref, Defs}
 use Rattle.schema_rules.specs.declared.keyword.Shape.{Shape}
 use Rattle.schema_rules.specs.declared.keyword.Shape.TheVariants.{One, Several, Named}
 use Rattle.doc_schema.specs.Positions.{Position, position, positions, positions_in, positions_each, positions_named, positions_below}
-use Rattle.doc_schema.specs.Loops.{definition_location, target_location, targets, elements_at, led_by, led_by_members, leads}
+use Rattle.doc_schema.specs.Loops.{definition_location, target_location, targets, elements_at, members_at, led_by, led_by_members, leads}
 use Rattle.doc_schema.proofs.Mapped.{of_map}
 
 -- a schema is a position of itself
@@ -141,6 +141,15 @@ several_placed : (here : List Place) (v : Doc) (q : Position) → In q (elements
 several_placed here (list ds) q i = elements_placed here 0 ds q i
 several_placed here _ q i = none_in q i
 
+by_name_placed : (here : List Place) (ms : Members) (q : Position) → In q (members_at here ms) → In q (positions_named here ms)
+by_name_placed here no_members q i = none_in q i
+by_name_placed here (member k d ms) _ first = In-left _ _ _ (itself (here ++ name k ∷ []) d)
+by_name_placed here (member k d ms) q (later i) = In-right q (positions_in One (here ++ name k ∷ []) d) _ (by_name_placed here ms q i)
+
+named_placed : (here : List Place) (v : Doc) (q : Position) → In q (members_at here (members_in v)) → In q (positions_in Named here v)
+named_placed here (object ms) q i = by_name_placed here ms q i
+named_placed here _ q i = none_in q i
+
 one_placed : (here : List Place) (v : Doc) (q : Position) → In q (position here v ∷ []) → In q (positions_in One here v)
 one_placed here v _ first = itself here v
 one_placed here v q (later i) = none_in q i
@@ -153,6 +162,7 @@ led_placed root here Not v q i = inl (one_placed here v q i)
 led_placed root here If v q i = inl (one_placed here v q i)
 led_placed root here Then v q i = inl (one_placed here v q i)
 led_placed root here Else v q i = inl (one_placed here v q i)
+led_placed root here DependentSchemas v q i = inl (named_placed here v q i)
 led_placed root here Ref v q i = inr (targets_placed root v q i)
 led_placed root here _ v q i = none_in q i
 

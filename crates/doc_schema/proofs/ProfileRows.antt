@@ -11,7 +11,7 @@ use Rattle.schema_rules.specs.Parts.{elements_in, members_in, after, beside}
 use Rattle.schema_rules.specs.References.{is_dangling, target}
 use Rattle.schema_rules.specs.Rules.{Ask, ask, asks, joins, at_each, of_each, by_place, by_name, each_named, if_named, of_others}
 use Rattle.schema_rules.specs.declared.keyword.Keyword.{Keyword}
-use Rattle.schema_rules.specs.declared.keyword.Keyword.TheVariants.{OfType, Enumeration, Constant, MultipleOf, Minimum, Maximum, ExclusiveMinimum, ExclusiveMaximum, MinLength, MaxLength, MinItems, MaxItems, UniqueItems, MinProperties, MaxProperties, Required, DependentRequired, Properties, AdditionalProperties, PropertyNames, PrefixItems, Items, Contains, MinContains, MaxContains, AllOf, AnyOf, OneOf, Not, If, Then, Else, Defs, Ref, Id, Dialect, LeftOut}
+use Rattle.schema_rules.specs.declared.keyword.Keyword.TheVariants.{OfType, Enumeration, Constant, MultipleOf, Minimum, Maximum, ExclusiveMinimum, ExclusiveMaximum, MinLength, MaxLength, MinItems, MaxItems, UniqueItems, MinProperties, MaxProperties, Required, DependentRequired, Properties, AdditionalProperties, PropertyNames, PrefixItems, Items, Contains, MinContains, MaxContains, AllOf, AnyOf, OneOf, Not, If, Then, Else, Pattern, DependentSchemas, Defs, Ref, Id, Dialect, LeftOut}
 use Rattle.doc_schema.specs.Loops.{led_by, elements_at}
 use Rattle.doc_schema.specs.Positions.{position}
 use Rattle.doc_schema.specs.Profile1Forms.{is_type_1, is_text_1, is_list_of_distinct_1, has_form_1, is_left_out_1, is_dangling_1}
@@ -20,7 +20,7 @@ use Rattle.doc_schema.specs.Profile1Rules.{at_least_1, at_most_1, is_of_1, is_of
 
 -- ---- the names
 
--- what a keyword of profile 2 was
+-- what a keyword was in profile 1
 abbrev pub demoted : Keyword → Keyword
 demoted DependentRequired = LeftOut
 demoted PropertyNames = LeftOut
@@ -30,6 +30,8 @@ demoted MaxContains = LeftOut
 demoted If = LeftOut
 demoted Then = LeftOut
 demoted Else = LeftOut
+demoted Pattern = LeftOut
+demoted DependentSchemas = LeftOut
 demoted k = k
 
 abbrev Demoted : (List ℕ → Option Keyword) → (List ℕ → Option Keyword) → Type 0
@@ -73,7 +75,7 @@ core_demoted s = found_demoted ((codes "$defs", Defs) ∷ (codes "$ref", Ref) �
 
 not_offered_demoted : Demoted not_offered_1 not_offered
 unfolding not_offered_1 not_offered
-not_offered_demoted s = found_demoted ((codes "pattern", LeftOut) ∷ (codes "patternProperties", LeftOut) ∷ (codes "unevaluatedItems", LeftOut) ∷ (codes "unevaluatedProperties", LeftOut) ∷ (codes "dependentSchemas", LeftOut) ∷ (codes "$anchor", LeftOut) ∷ (codes "$dynamicRef", LeftOut) ∷ (codes "$dynamicAnchor", LeftOut) ∷ (codes "$vocabulary", LeftOut) ∷ []) s
+not_offered_demoted s = found_demoted ((codes "pattern", Pattern) ∷ (codes "patternProperties", LeftOut) ∷ (codes "unevaluatedItems", LeftOut) ∷ (codes "unevaluatedProperties", LeftOut) ∷ (codes "dependentSchemas", DependentSchemas) ∷ (codes "$anchor", LeftOut) ∷ (codes "$dynamicRef", LeftOut) ∷ (codes "$dynamicAnchor", LeftOut) ∷ (codes "$vocabulary", LeftOut) ∷ []) s
 
 or_else_demoted : (a b : Option Keyword) {a₁ b₁ : Option Keyword} → a₁ ≡ option_map demoted a → b₁ ≡ option_map demoted b → or_else_1 a₁ b₁ ≡ option_map demoted (or_else a b)
 or_else_demoted a b e f = ap₂ or_else_1 e f ∙ by_first a
@@ -102,6 +104,8 @@ same_shape Contains w = absurd cc
 same_shape If w = absurd cc
 same_shape Then w = absurd cc
 same_shape Else w = absurd cc
+same_shape Pattern w = absurd cc
+same_shape DependentSchemas w = absurd cc
 same_shape _ w = refl
 
 -- ---- forms
@@ -126,6 +130,8 @@ pub same_form : (at_root : Bool) (k : Keyword) (v : Doc) → WasOne k → has_fo
 same_form at_root DependentRequired v w = absurd cc
 same_form at_root MinContains v w = absurd cc
 same_form at_root MaxContains v w = absurd cc
+same_form at_root Pattern v w = absurd cc
+same_form at_root DependentSchemas v w = absurd cc
 same_form at_root OfType v w = ap₂ (λ a b. a || b) (type_alike v) (distinct_alike is_type_1 is_type type_alike v)
 same_form at_root Required v w = distinct_alike is_text_1 is_text text_alike v
 same_form true _ v w = refl
@@ -231,6 +237,7 @@ same_asks root ms Contains v t w = absurd cc
 same_asks root ms MaxContains v t w = absurd cc
 same_asks root ms Then v t w = absurd cc
 same_asks root ms Else v t w = absurd cc
+same_asks root ms DependentSchemas v t w = absurd cc
 same_asks root ms Properties v t w = each_named_alike v (members_in t)
 same_asks root ms AdditionalProperties v t w = of_others_alike (members_in (beside (codes "properties") ms)) v (members_in t)
 same_asks root ms PrefixItems v t w = by_place_alike (elements_in v) (elements_in t)
@@ -256,6 +263,8 @@ same_joins ms Contains v t bs w = absurd cc
 same_joins ms MaxContains v t bs w = absurd cc
 same_joins ms Then v t bs w = absurd cc
 same_joins ms Else v t bs w = absurd cc
+same_joins ms Pattern v t bs w = absurd cc
+same_joins ms DependentSchemas v t bs w = absurd cc
 same_joins ms k v t bs w = same_asserts k v t w
 
 -- ---- schemas for the instance itself
@@ -268,6 +277,7 @@ pub same_led : (root : Doc) (here : List Place) (k : Keyword) (v : Doc) → WasO
 same_led root here If v w = absurd cc
 same_led root here Then v w = absurd cc
 same_led root here Else v w = absurd cc
+same_led root here DependentSchemas v w = absurd cc
 same_led root here AllOf v w = elements_at_alike here 0 (elements_in v)
 same_led root here AnyOf v w = elements_at_alike here 0 (elements_in v)
 same_led root here OneOf v w = elements_at_alike here 0 (elements_in v)

@@ -4,15 +4,16 @@ use Rattle.doc_tree.specs.Doc.{Doc}
 use Rattle.schema_levels.specs.Counters.{AreCounted}
 use Rattle.schema_nodes.specs.Compiled.{IsCompiled, IsFound}
 use Rattle.schema_nodes.specs.declared.tree.Compiled.{Compiled}
+use Rattle.schema_rules.specs.declared.profile.Profile.{Profile}
 use Rattle.doc_schema.specs.Checked.{IsChecked}
 use Rattle.doc_schema.specs.Faults.{IsFaultless, IsFirstFault, looped}
 use Rattle.refusals.specs.declared.numbers.TheConstants.{SCHEMA_LOOP}
 use Rattle.doc_schema.proofs.Lifted.{loop_above, loop_below}
 
 -- nothing is: the schema leads back to itself
-pub leads_back : (s : Doc) (o : Option Compiled) → IsChecked s → IsFound s o → o ≡ None → IsFirstFault s SCHEMA_LOOP
-leads_back s None c h e = looped refl c.size c.form c.keywords c.references (loop_above s h)
-leads_back s (Some x) c h e = absurd cc
+pub leads_back : (profile : Profile) (s : Doc) (o : Option Compiled) → IsChecked profile s → IsFound s o → o ≡ None → IsFirstFault profile s SCHEMA_LOOP
+leads_back profile s None c h e = looped refl c.size c.form c.keywords c.references (loop_above s h)
+leads_back profile s (Some x) c h e = absurd cc
 
 -- the nodes are
 pub compiled_is : (s : Doc) (o : Option Compiled) (x : Compiled) → IsFound s o → o ≡ Some x → IsCompiled s x.nodes.items x.whole
@@ -23,6 +24,6 @@ pub counted_is : (s : Doc) (o : Option Compiled) (x : Compiled) → IsFound s o 
 counted_is s None x h e = absurd cc
 counted_is s (Some y) x h e = let same : y ≡ x = cc in subst (λ (z : Compiled). AreCounted z.nodes.items z.counters) same h.1
 
-pub faultless : (s : Doc) (o : Option Compiled) (x : Compiled) → IsChecked s → IsFound s o → o ≡ Some x → IsFaultless s
-faultless s None x c h e = absurd cc
-faultless s (Some y) x c h e = record { size = c.size; form = c.form; keywords = c.keywords; references = c.references; loops = λ l. h.2 (loop_below s l) }
+pub faultless : (profile : Profile) (s : Doc) (o : Option Compiled) (x : Compiled) → IsChecked profile s → IsFound s o → o ≡ Some x → IsFaultless profile s
+faultless profile s None x c h e = absurd cc
+faultless profile s (Some y) x c h e = record { size = c.size; form = c.form; keywords = c.keywords; references = c.references; loops = λ l. h.2 (loop_below s l) }

@@ -1,14 +1,14 @@
 -- What is left of a list of asked parts while a loop goes over it.
-use Rattle.std.proofs.Common.{◌≡◌, ◌⊎◌, ⊎_elim, ℕ, zero, suc, Option, Some, None, ◌+◌, ◌<◌, ◌≤◌, ◌==◌, Bool, true, false, ◌&&◌, is_some, if◌then◌else◌, List, [], ◌∷◌, drop, length, get_or, refl, sym, ap, subst, ◌∙◌, arith, drop-cons, String, Global, string_bytes, codes}
+use Rattle.std.proofs.Common.{◌≡◌, ◌⊎◌, ⊎_elim, ℕ, zero, suc, Option, Some, None, ◌+◌, ◌<◌, ◌≤◌, ◌==◌, Bool, true, false, not, ◌&&◌, ◌||◌, is_some, if◌then◌else◌, List, [], ◌∷◌, drop, length, get_or, refl, sym, ap, ap₂, subst, ◌∙◌, arith, drop-cons, String, Global, string_bytes, codes}
 use Rattle.doc_tree.specs.Doc.{Doc, text, object, Members, get_member}
-use Rattle.doc_tree.specs.Lists.{elements_list}
+use Rattle.doc_tree.specs.Lists.{elements_list, names_list}
 use Rattle.doc_tree.specs.TreeView.{view, elements_view, members_view}
 use Rattle.doc_tree.specs.declared.tree.Tree.{Tree}
 use Rattle.schema_graph.specs.Walks.{In, first, later}
 use Rattle.schema_graph.proofs.Among.{In-left, In-right, none_in}
 use Rattle.schema_rules.specs.Keywords.{keyword_of}
-use Rattle.schema_rules.specs.Parts.{elements_in, beside, after}
-use Rattle.schema_rules.specs.Rules.{Ask, ask, asks, at_each, of_each, by_place, by_name, of_names, of_others, if_named, at_target, every, how_many}
+use Rattle.schema_rules.specs.Parts.{elements_in, members_in, beside, after}
+use Rattle.schema_rules.specs.Rules.{Ask, ask, asks, at_each, by_each, of_each, by_place, by_name, of_names, of_others, if_named, at_target, every, how_many, where_present}
 use Rattle.schema_rules.specs.declared.keyword.Keyword.TheVariants.{Items}
 use Rattle.doc_schema.specs.Schemas.{schemas, IsLoopedSchema}
 use Rattle.doc_schema.specs.Steps.{verdict, told, ArePlaced, steps, most, all_hold, holds}
@@ -83,6 +83,18 @@ other_named ns s k v es left e h = ap (λ l. of_others ns s (members_view l)) e 
 pub other_next : (ns : Members) (s : Doc) (k : String Global) (v : Tree) (es left : List (String Global × Tree)) → es ≡ (k, v) ∷ left → false ≡ is_some (get_member (string_bytes k) ns)
     → of_others ns s (members_view es) ≡ ask s (view v) ∷ of_others ns s (members_view left)
 other_next ns s k v es left e h = ap (λ l. of_others ns s (members_view l)) e ∙ sym (ap (λ b. if b then of_others ns s (members_view left) else (ask s (view v) ∷ of_others ns s (members_view left))) h)
+
+-- the next schema by name
+pub each_next : (t : Doc) (k : String Global) (v : Tree) (es left : List (String Global × Tree)) → es ≡ (k, v) ∷ left → by_each (members_view es) t ≡ ask (view v) t ∷ by_each (members_view left) t
+each_next t k v es left e = ap (λ l. by_each (members_view l) t) e
+
+abbrev pub presence : Doc → Doc → List (String Global × Tree) → Bool
+presence root t es = where_present (names_list (members_view es)) t (told (verdict root) (by_each (members_view es) t))
+
+pub presence_next : (root t : Doc) (k : String Global) (n : List ℕ) (v : Tree) (es left : List (String Global × Tree)) (m b whole : Bool) → es ≡ (k, v) ∷ left → n ≡ string_bytes k → m ≡ is_some (get_member n (members_in t)) → b ≡ verdict root (view v) t
+    → presence root t es ≡ whole → ((not m || b) && presence root t left) ≡ whole
+presence_next root t k n v es left m b whole e f g h inv =
+    ap₂ (λ x y. (not x || y) && presence root t left) (g ∙ ap (λ l. is_some (get_member l (members_in t))) f) h ∙ sym (ap (presence root t) e) ∙ inv
 
 -- the next name
 pub name_next : (s : Doc) (k : String Global) (n : List ℕ) (v : Tree) (es left : List (String Global × Tree)) → es ≡ (k, v) ∷ left → n ≡ string_bytes k → of_names s (members_view es) ≡ ask s (text n) ∷ of_names s (members_view left)

@@ -10,6 +10,7 @@ use Rattle.schema_rules.specs.Parts.{members_in}
 use Rattle.schema_rules.specs.Schemas.{schemas_in, schemas_each, schemas_named, schemas_below, schemas}
 use Rattle.schema_rules.specs.declared.keyword.Shape.{Shape}
 use Rattle.schema_rules.specs.declared.keyword.Shape.TheVariants.{One, Several, Named}
+use Rattle.schema_rules.specs.declared.profile.Profile.TheVariants.{Three}
 use Rattle.schema_levels.specs.declared.run.TheConstants.{MOST_WORDS}
 use Rattle.doc_schema.specs.Defects.{HasDefect, lacks_form, some_member, is_wrong, is_root}
 use Rattle.doc_schema.specs.Checked.{IsChecked}
@@ -78,7 +79,7 @@ mutual
 
 -- ---- of a schema whose schemas are truth values and objects
 
-pub formed : (s : Doc) → (HasDefect Form s → ⊥) → Formed (schemas s)
+pub formed : (s : Doc) → (HasDefect Three Form s → ⊥) → Formed (schemas s)
 formed s none d i = by_form (lacks_form Form d) refl
   where
     by_form : (b : Bool) → lacks_form Form d ≡ b → b ≡ false
@@ -86,18 +87,18 @@ formed s none d i = by_form (lacks_form Form d) refl
     by_form true e =
         let p = to_position s d i in
         let lacks : lacks_form Form p.0.schema ≡ true = ap (lacks_form Form) p.2 ∙ e in
-        absurd (none (p.0, p.1, ap (λ b. b || some_member (is_wrong Form s (is_root p.0.location)) (members_in p.0.schema)) lacks))
+        absurd (none (p.0, p.1, ap (λ b. b || some_member Three (is_wrong Form s (is_root p.0.location)) (members_in p.0.schema)) lacks))
 
-pub thirds : (s : Doc) → (HasDefect Form s → ⊥) → 3 * length (schemas s) ≤ size s + 1
+pub thirds : (s : Doc) → (HasDefect Three Form s → ⊥) → 3 * length (schemas s) ≤ size s + 1
 thirds s none = third_in One s (formed s none)
 
 -- so each has a place in the largest sets
-pub fits : (s : Doc) → IsChecked s → length (schemas s) ≤ 64 * MOST_WORDS
+pub fits : (s : Doc) → IsChecked Three s → length (schemas s) ≤ 64 * MOST_WORDS
 fits s f = by_size (cases (size s) MOST_BYTES)
   where
     cases : (a b : ℕ) → (a ≤ b) ⊎ (b < a)
     cases a b = grind arith
 
     by_size : (size s ≤ MOST_BYTES) ⊎ (MOST_BYTES < size s) → length (schemas s) ≤ 64 * MOST_WORDS
-    by_size (inl le) = omega (arith, thirds s f.form, le)
-    by_size (inr more) = absurd (f.size (inl more))
+    by_size (inl le) = omega (arith, thirds s (λ h. f.form (inl h)), le)
+    by_size (inr more) = absurd (f.size (inl (inl more)))

@@ -14,6 +14,7 @@ use Rattle.schema_rules.specs.declared.keyword.Keyword.{Keyword}
 use Rattle.schema_rules.specs.declared.keyword.Keyword.TheVariants as keywords
 use Rattle.schema_rules.specs.declared.keyword.Shape.{Shape}
 use Rattle.schema_rules.specs.declared.keyword.Shape.TheVariants.{One, Several, Named}
+use Rattle.schema_rules.specs.declared.profile.Profile.TheVariants.{Three}
 use Rattle.schema_levels.specs.Counters.{HaveRoom}
 use Rattle.schema_nodes.specs.Wants.{keyword_wants, members_want, schemas_want}
 use Rattle.doc_schema.specs.Checked.{IsChecked}
@@ -79,7 +80,7 @@ core_long k = found_long ((codes "$defs", keywords.Defs) ∷ (codes "$ref", keyw
 
 left_long : (k : List ℕ) → Long k (not_offered k)
 unfolding not_offered escape_byte
-left_long k = found_long ((codes "pattern", keywords.LeftOut) ∷ (codes "patternProperties", keywords.LeftOut) ∷ (codes "unevaluatedItems", keywords.LeftOut) ∷ (codes "unevaluatedProperties", keywords.LeftOut) ∷ (codes "dependentSchemas", keywords.LeftOut) ∷ (codes "$anchor", keywords.LeftOut) ∷ (codes "$dynamicRef", keywords.LeftOut) ∷ (codes "$dynamicAnchor", keywords.LeftOut) ∷ (codes "$vocabulary", keywords.LeftOut) ∷ []) k refl
+left_long k = found_long ((codes "pattern", keywords.Pattern) ∷ (codes "patternProperties", keywords.LeftOut) ∷ (codes "unevaluatedItems", keywords.LeftOut) ∷ (codes "unevaluatedProperties", keywords.LeftOut) ∷ (codes "dependentSchemas", keywords.DependentSchemas) ∷ (codes "$anchor", keywords.LeftOut) ∷ (codes "$dynamicRef", keywords.LeftOut) ∷ (codes "$dynamicAnchor", keywords.LeftOut) ∷ (codes "$vocabulary", keywords.LeftOut) ∷ []) k refl
 
 name_long : (k : List ℕ) → is_long k (keyword_of k) ≡ true
 unfolding keyword_of
@@ -138,12 +139,12 @@ mutual
 
 -- ---- of a schema that isn't too large
 
-pub room : (s : Doc) → IsChecked s → HaveRoom (schemas_want (schemas s))
+pub room : (s : Doc) → IsChecked Three s → HaveRoom (schemas_want (schemas s))
 room s f = by_size (cases (size s) MOST_BYTES)
   where
     cases : (a b : ℕ) → (a ≤ b) ⊎ (b < a)
     cases a b = grind arith
 
     by_size : (size s ≤ MOST_BYTES) ⊎ (MOST_BYTES < size s) → HaveRoom (schemas_want (schemas s))
-    by_size (inl le) = let all = room_in One s (formed s f.form) in omega (arith, all, le)
-    by_size (inr more) = absurd (f.size (inl more))
+    by_size (inl le) = let all = room_in One s (formed s (λ h. f.form (inl h))) in omega (arith, all, le)
+    by_size (inr more) = absurd (f.size (inl (inl more)))

@@ -5,9 +5,11 @@ use Rattle.schema_graph.specs.Walks.{In}
 use Rattle.schema_rules.specs.Forms.{has_form, is_left_out}
 use Rattle.schema_rules.specs.Keywords.{keyword_of}
 use Rattle.schema_rules.specs.Parts.{members_in}
+use Rattle.schema_rules.specs.Profiles.{offered}
 use Rattle.schema_rules.specs.References.{is_dangling}
 use Rattle.schema_rules.specs.declared.keyword.Keyword.{Keyword}
-use Rattle.doc_schema.specs.Positions.{Position, positions}
+use Rattle.schema_rules.specs.declared.profile.Profile.{Profile}
+use Rattle.doc_schema.specs.Positions.{Position, offered_positions}
 use Rattle.doc_schema.specs.declared.defects.Defect.{Defect}
 use Rattle.doc_schema.specs.declared.defects.Defect.TheVariants.{Form, LeftOut, Reference}
 
@@ -17,10 +19,10 @@ is_wrong Form root at_root k v = not (has_form at_root k v)
 is_wrong LeftOut root at_root k v = is_left_out at_root k v
 is_wrong Reference root at_root k v = is_dangling root k v
 
--- some member passes the test
-abbrev pub some_member : (Keyword → Doc → Bool) → Members → Bool
-some_member test no_members = false
-some_member test (member k v ms) = test (keyword_of k) v || some_member test ms
+-- some member passes the test, a keyword that the profile doesn't offer as one that is left out
+abbrev pub some_member : Profile → (Keyword → Doc → Bool) → Members → Bool
+some_member profile test no_members = false
+some_member profile test (member k v ms) = test (offered profile (keyword_of k)) v || some_member profile test ms
 
 -- a schema is a boolean or an object (Core, section 4.3)
 abbrev pub lacks_form : Defect → Doc → Bool
@@ -30,17 +32,17 @@ lacks_form Form _ = true
 lacks_form _ _ = false
 
 -- a schema, at the root or below it, has the defect: by itself or by a member
-abbrev pub is_defective : Defect → Doc → Bool → Doc → Bool
-is_defective defect root at_root s = lacks_form defect s || some_member (is_wrong defect root at_root) (members_in s)
+abbrev pub is_defective : Profile → Defect → Doc → Bool → Doc → Bool
+is_defective profile defect root at_root s = lacks_form defect s || some_member profile (is_wrong defect root at_root) (members_in s)
 
 abbrev pub is_root : List Place → Bool
 is_root [] = true
 is_root (p ∷ ps) = false
 
 -- the position has the defect
-abbrev pub has_defect : Defect → Doc → Position → Bool
-has_defect defect root p = is_defective defect root (is_root p.location) p.schema
+abbrev pub has_defect : Profile → Defect → Doc → Position → Bool
+has_defect profile defect root p = is_defective profile defect root (is_root p.location) p.schema
 
--- some position of the schema has it
-abbrev pub HasDefect : Defect → Doc → Type 0
-HasDefect defect root = (p : Position) × In p (positions root) × (has_defect defect root p ≡ true)
+-- some position that the profile offers has it
+abbrev pub HasDefect : Profile → Defect → Doc → Type 0
+HasDefect profile defect root = (p : Position) × In p (offered_positions profile root) × (has_defect profile defect root p ≡ true)

@@ -8,7 +8,7 @@ use Rattle.schema_rules.specs.Keywords.{keyword_of}
 use Rattle.schema_rules.specs.Parts.{elements_in, members_in}
 use Rattle.schema_rules.specs.References.{target, without_front}
 use Rattle.schema_rules.specs.declared.keyword.Keyword.{Keyword}
-use Rattle.schema_rules.specs.declared.keyword.Keyword.TheVariants.{AllOf, AnyOf, OneOf, Not, If, Then, Else, Ref}
+use Rattle.schema_rules.specs.declared.keyword.Keyword.TheVariants.{AllOf, AnyOf, OneOf, Not, If, Then, Else, DependentSchemas, Ref}
 use Rattle.doc_schema.specs.Positions.{Position, position, positions}
 
 -- the location of a definition of that name
@@ -30,6 +30,11 @@ abbrev pub elements_at : List Place → ℕ → Elements → List Position
 elements_at here n no_elements = []
 elements_at here n (element d ds) = position (here ++ index n ∷ []) d ∷ elements_at here (suc n) ds
 
+-- the schemas of an object by name
+abbrev pub members_at : List Place → Members → List Position
+members_at here no_members = []
+members_at here (member k d ms) = position (here ++ name k ∷ []) d ∷ members_at here ms
+
 -- the schemas that a keyword applies to the instance itself, with the location of the keyword's value (Core, sections 8.2.3.1 and 10.2)
 abbrev pub led_by : Doc → List Place → Keyword → Doc → List Position
 led_by root here AllOf v = elements_at here 0 (elements_in v)
@@ -39,6 +44,7 @@ led_by root here Not v = position here v ∷ []
 led_by root here If v = position here v ∷ []
 led_by root here Then v = position here v ∷ []
 led_by root here Else v = position here v ∷ []
+led_by root here DependentSchemas v = members_at here (members_in v)
 led_by root here Ref v = targets root v
 led_by root here _ v = []
 

@@ -4,12 +4,14 @@ ghost use Rattle.std.specs.Prelude.{◌≡◌, false};
 ghost use Rattle.std.specs.List.{list_any};
 ghost use Rattle.doc_tree.specs.TreeView.{view, elements_view, members_view};
 ghost use Rattle.doc_schema.specs.Defects.{has_defect, is_defective, is_wrong, some_member};
-ghost use Rattle.doc_schema.specs.Positions.{positions};
-ghost use Rattle.doc_schema.specs.Schemas.{schemas_in, schemas_each, schemas_named, schemas_below};
+ghost use Rattle.doc_schema.specs.Positions.{offered_positions};
+ghost use Rattle.schema_rules.specs.Schemas.{offered_in, offered_each, offered_named, offered_below};
 
 use doc_tree::Tree;
 use name_map::NameMap;
-use schema_rules::{Keyword, Shape, has_form, is_dangling, is_left_out, keyword_named, shape_of};
+use schema_rules::{
+    Keyword, Profile, Shape, has_form, is_dangling, is_left_out, keyword_named, shape_of,
+};
 
 /// A defect of a position.
 #[derive(Clone, Copy, Drop, PartialEq, Eq)]
@@ -22,35 +24,42 @@ pub enum Defect {
     Reference,
 }
 
-/// Whether some position of the schema has the defect.
-pub(crate) fn some_position_has(defect: Defect, root: &Tree) -> bool
-    ensures { result ≡ list_any (has_defect defect (view root.now)) (positions (view root.now)) }
+/// Whether some position that the profile offers has the defect.
+pub(crate) fn some_position_has(profile: Profile, defect: Defect, root: &Tree) -> bool
+    ensures { result ≡ list_any (has_defect profile defect (view root.now)) (offered_positions profile (view root.now)) }
 {
     match root {
         Tree::Object(members) => {
-            some_member_is_wrong(defect, root, true, members)
-                || defective_below(members, defect, root)
+            some_member_is_wrong(profile, defect, root, true, members)
+                || defective_below(members, profile, defect, root)
         }
-        _ => is_defective(defect, root, true, root),
+        _ => is_defective(profile, defect, root, true, root),
     }
 }
 
 // Whether a schema, at the root or below it, has the defect, whatever those below it have.
-fn is_defective(defect: Defect, root: &Tree, at_root: bool, schema: &Tree) -> bool
-    ensures { result ≡ is_defective defect (view root.now) at_root (view schema.now) }
+fn is_defective(profile: Profile, defect: Defect, root: &Tree, at_root: bool, schema: &Tree) -> bool
+    ensures { result ≡ is_defective profile defect (view root.now) at_root (view schema.now) }
 {
     match schema {
         Tree::Bool(_) => false,
-        Tree::Object(members) => some_member_is_wrong(defect, root, at_root, members),
+        Tree::Object(members) => some_member_is_wrong(profile, defect, root, at_root, members),
         _ => defect == Defect::Form,
     }
 }
 
-fn some_member_is_wrong(defect: Defect, root: &Tree, at_root: bool, members: &NameMap<Tree>) -> bool
-    ensures { result ≡ some_member (is_wrong defect (view root.now) at_root) (members_view members.now.entries) }
+fn some_member_is_wrong(
+    profile: Profile,
+    defect: Defect,
+    root: &Tree,
+    at_root: bool,
+    members: &NameMap<Tree>,
+) -> bool
+    ensures { result ≡ some_member profile (is_wrong defect (view root.now) at_root) (members_view members.now.entries) }
 {
     for (name, value) in members.iter() {
-        if is_wrong(defect, root, at_root, keyword_named(name.as_str()), value) {
+        let keyword = profile.offered(keyword_named(name.as_str()));
+        if is_wrong(defect, root, at_root, keyword, value) {
             return true;
         }
     }
@@ -70,22 +79,23 @@ fn is_wrong(defect: Defect, root: &Tree, at_root: bool, keyword: Keyword, value:
 // Whether some schema in a value of that shape has the defect.
 #[cycle(defects)]
 #[tactic(auto, using(crate::proofs::Anywhere::any_append))]
-fn defective_in(value: &Tree, shape: Shape, defect: Defect, root: &Tree) -> bool
-    ensures { result ≡ list_any (is_defective defect (view root.now) false) (schemas_in shape (view value.now)) }
+fn defective_in(value: &Tree, shape: Shape, profile: Profile, defect: Defect, root: &Tree) -> bool
+    ensures { result ≡ list_any (is_defective profile defect (view root.now) false) (offered_in profile shape (view value.now)) }
 {
     match shape {
         Shape::One => match value {
             Tree::Object(members) => {
-                is_defective(defect, root, false, value) || defective_below(members, defect, root)
+                is_defective(profile, defect, root, false, value)
+                    || defective_below(members, profile, defect, root)
             }
-            _ => is_defective(defect, root, false, value),
+            _ => is_defective(profile, defect, root, false, value),
         },
         Shape::Several => match value {
-            Tree::List(schemas) => defective_each(schemas, defect, root),
+            Tree::List(schemas) => defective_each(schemas, profile, defect, root),
             _ => false,
         },
         Shape::Named => match value {
-            Tree::Object(schemas) => defective_named(schemas, defect, root),
+            Tree::Object(schemas) => defective_named(schemas, profile, defect, root),
             _ => false,
         },
         Shape::Plain => false,
@@ -94,11 +104,11 @@ fn defective_in(value: &Tree, shape: Shape, defect: Defect, root: &Tree) -> bool
 
 #[cycle(defects)]
 #[tactic(auto, using(crate::proofs::Anywhere::any_append))]
-fn defective_each(schemas: &Vec<Tree>, defect: Defect, root: &Tree) -> bool
-    ensures { result ≡ list_any (is_defective defect (view root.now) false) (schemas_each (elements_view schemas.now.items)) }
+fn defective_each(schemas: &Vec<Tree>, profile: Profile, defect: Defect, root: &Tree) -> bool
+    ensures { result ≡ list_any (is_defective profile defect (view root.now) false) (offered_each profile (elements_view schemas.now.items)) }
 {
     for schema in schemas {
-        if defective_in(schema, Shape::One, defect, root) {
+        if defective_in(schema, Shape::One, profile, defect, root) {
             return true;
         }
     }
@@ -107,11 +117,11 @@ fn defective_each(schemas: &Vec<Tree>, defect: Defect, root: &Tree) -> bool
 
 #[cycle(defects)]
 #[tactic(auto, using(crate::proofs::Anywhere::any_append))]
-fn defective_named(schemas: &NameMap<Tree>, defect: Defect, root: &Tree) -> bool
-    ensures { result ≡ list_any (is_defective defect (view root.now) false) (schemas_named (members_view schemas.now.entries)) }
+fn defective_named(schemas: &NameMap<Tree>, profile: Profile, defect: Defect, root: &Tree) -> bool
+    ensures { result ≡ list_any (is_defective profile defect (view root.now) false) (offered_named profile (members_view schemas.now.entries)) }
 {
     for (_, schema) in schemas.iter() {
-        if defective_in(schema, Shape::One, defect, root) {
+        if defective_in(schema, Shape::One, profile, defect, root) {
             return true;
         }
     }
@@ -121,11 +131,12 @@ fn defective_named(schemas: &NameMap<Tree>, defect: Defect, root: &Tree) -> bool
 // Whether some schema below a schema object with these members has the defect.
 #[cycle(defects)]
 #[tactic(auto, using(crate::proofs::Anywhere::any_append))]
-fn defective_below(members: &NameMap<Tree>, defect: Defect, root: &Tree) -> bool
-    ensures { result ≡ list_any (is_defective defect (view root.now) false) (schemas_below (members_view members.now.entries)) }
+fn defective_below(members: &NameMap<Tree>, profile: Profile, defect: Defect, root: &Tree) -> bool
+    ensures { result ≡ list_any (is_defective profile defect (view root.now) false) (offered_below profile (members_view members.now.entries)) }
 {
     for (name, value) in members.iter() {
-        if defective_in(value, shape_of(keyword_named(name.as_str())), defect, root) {
+        let keyword = profile.offered(keyword_named(name.as_str()));
+        if defective_in(value, shape_of(keyword), profile, defect, root) {
             return true;
         }
     }

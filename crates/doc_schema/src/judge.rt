@@ -1,14 +1,16 @@
-//! The judgement of an instance, by recursion over the schema and the instance. No memory is taken.
+//! The judgement of an instance under a schema without patterns, by recursion over both. No memory is taken.
 
-ghost use Rattle.std.specs.Prelude.{◌≡◌, ◌==◌, Some, option_map, codes, if◌then◌else◌};
+ghost use Rattle.std.specs.Prelude.{◌≡◌, [], ◌==◌, Some, option_map, codes, if◌then◌else◌};
 ghost use Rattle.doc_tree.specs.Doc.{get_member, object};
+ghost use Rattle.doc_tree.specs.Lists.{names_list};
 ghost use Rattle.doc_tree.specs.TreeView.{view, elements_view, members_view};
 ghost use Rattle.schema_graph.specs.Walks.{In};
 ghost use Rattle.schema_rules.specs.Instances.{seen};
 ghost use Rattle.schema_rules.specs.Assertions.{at_least, at_most, on_list};
 ghost use Rattle.schema_rules.specs.Parts.{beside, elements_in, members_in};
-ghost use Rattle.schema_rules.specs.Rules.{asks, at_each, of_each, by_place, by_name, each_named, of_names, of_others, of_contained, at_target, after_if, every, some, how_many, where_true, where_false, with_if, with_schema, or_one};
-ghost use Rattle.doc_schema.specs.Schemas.{schemas, IsLoopedSchema};
+ghost use Rattle.schema_rules.specs.Rules.{asks, at_each, by_each, of_each, by_place, by_name, each_named, of_names, of_others, of_contained, at_target, after_if, every, some, how_many, where_true, where_false, where_present, with_if, with_schema, or_one};
+ghost use Rattle.schema_rules.specs.PatternTexts.{texts_of};
+ghost use Rattle.doc_schema.specs.Schemas.{schemas, IsPlain};
 ghost use Rattle.doc_schema.specs.Steps.{verdict, all_hold, holds, told, ArePlaced};
 
 use crate::parts::{
@@ -16,12 +18,12 @@ use crate::parts::{
 };
 use doc_tree::Tree;
 use name_map::NameMap;
-use schema_rules::{Instance, Keyword, asserts, keyword_named, member_named, target};
+use schema_rules::{Instance, Keyword, asserts, has_member, keyword_named, member_named, target};
 
 /// Whether the instance passes a schema of the whole one, `root`.
 #[cycle(judge)]
 pub(crate) fn accepts_at(root: &Tree, schema: &Tree, instance: Instance<'_>) -> bool
-    requires no_loop { IsLoopedSchema (view root.now) → ⊥ }
+    requires plain { IsPlain (view root.now) }
     requires placed { In (view schema.now) (schemas (view root.now)) }
     ensures { result ≡ verdict (view root.now) (view schema.now) (seen instance.entry) }
 {
@@ -34,8 +36,9 @@ pub(crate) fn accepts_at(root: &Tree, schema: &Tree, instance: Instance<'_>) -> 
 
 // All members of a schema object apply together.
 #[cycle(judge)]
+#[tactic(auto, using(crate::proofs::Searchless::searchless_object))]
 fn members_hold(root: &Tree, members: &NameMap<Tree>, instance: Instance<'_>) -> bool
-    requires no_loop { IsLoopedSchema (view root.now) → ⊥ }
+    requires plain { IsPlain (view root.now) }
     requires placed { In (object (members_view members.now.entries)) (schemas (view root.now)) }
     ensures { let ms = members_view members.now.entries in
         result ≡ all_hold (verdict (view root.now)) (view root.now) ms ms (seen instance.entry) }
@@ -57,8 +60,9 @@ fn member_holds(
     value: &Tree,
     instance: Instance<'_>,
 ) -> bool
-    requires no_loop { IsLoopedSchema (view root.now) → ⊥ }
+    requires plain { IsPlain (view root.now) }
     requires placed { ArePlaced (view root.now) (asks (view root.now) (members_view siblings.now.entries) keyword (view value.now) (seen instance)) }
+    requires searchless { texts_of keyword (view value.now) ≡ [] }
     ensures { result ≡ holds (verdict (view root.now)) (view root.now) (members_view siblings.now.entries) keyword (view value.now) (seen instance.entry) }
 {
     match keyword {
@@ -93,7 +97,12 @@ fn member_holds(
         Keyword::Not => !accepts_at(root, value, instance),
         Keyword::Then => accepts_where(root, member_named(siblings, "if"), true, value, instance),
         Keyword::Else => accepts_where(root, member_named(siblings, "if"), false, value, instance),
+        Keyword::DependentSchemas => match value {
+            Tree::Object(schemas) => present_accept(root, schemas, instance),
+            _ => true,
+        },
         Keyword::Ref => found_accepts(root, target(root, value), instance),
+        Keyword::Pattern => true,
         _ => asserts(keyword, value, instance),
     }
 }
@@ -101,7 +110,7 @@ fn member_holds(
 // Whether each schema accepts.
 #[cycle(judge)]
 fn all_accept(root: &Tree, schemas: &[Tree], instance: Instance<'_>) -> bool
-    requires no_loop { IsLoopedSchema (view root.now) → ⊥ }
+    requires plain { IsPlain (view root.now) }
     requires placed { ArePlaced (view root.now) (at_each (elements_view schemas.now) (seen instance)) }
     ensures { result ≡ every (told (verdict (view root.now)) (at_each (elements_view schemas.now) (seen instance.entry))) }
 {
@@ -116,7 +125,7 @@ fn all_accept(root: &Tree, schemas: &[Tree], instance: Instance<'_>) -> bool
 // Whether at least one schema accepts.
 #[cycle(judge)]
 fn some_accepts(root: &Tree, schemas: &[Tree], instance: Instance<'_>) -> bool
-    requires no_loop { IsLoopedSchema (view root.now) → ⊥ }
+    requires plain { IsPlain (view root.now) }
     requires placed { ArePlaced (view root.now) (at_each (elements_view schemas.now) (seen instance)) }
     ensures { result ≡ some (told (verdict (view root.now)) (at_each (elements_view schemas.now) (seen instance.entry))) }
 {
@@ -131,7 +140,7 @@ fn some_accepts(root: &Tree, schemas: &[Tree], instance: Instance<'_>) -> bool
 // Whether exactly one schema accepts.
 #[cycle(judge)]
 fn one_accepts(root: &Tree, schemas: &[Tree], instance: Instance<'_>) -> bool
-    requires no_loop { IsLoopedSchema (view root.now) → ⊥ }
+    requires plain { IsPlain (view root.now) }
     requires placed { ArePlaced (view root.now) (at_each (elements_view schemas.now) (seen instance)) }
     ensures { result ≡ (how_many (told (verdict (view root.now)) (at_each (elements_view schemas.now) (seen instance.entry))) == 1) }
 {
@@ -150,7 +159,7 @@ fn one_accepts(root: &Tree, schemas: &[Tree], instance: Instance<'_>) -> bool
 // Whether the schema accepts each element.
 #[cycle(judge)]
 fn each_accepted(root: &Tree, schema: &Tree, items: &[Tree]) -> bool
-    requires no_loop { IsLoopedSchema (view root.now) → ⊥ }
+    requires plain { IsPlain (view root.now) }
     requires placed { ArePlaced (view root.now) (of_each (view schema.now) (elements_view items.now)) }
     ensures { result ≡ every (told (verdict (view root.now)) (of_each (view schema.now) (elements_view items.now))) }
 {
@@ -165,7 +174,7 @@ fn each_accepted(root: &Tree, schema: &Tree, items: &[Tree]) -> bool
 // How many elements the schema accepts.
 #[cycle(judge)]
 fn how_many_accepted(root: &Tree, schema: &Tree, items: &[Tree]) -> usize
-    requires no_loop { IsLoopedSchema (view root.now) → ⊥ }
+    requires plain { IsPlain (view root.now) }
     requires placed { ArePlaced (view root.now) (of_each (view schema.now) (elements_view items.now)) }
     ensures { result ≡ how_many (told (verdict (view root.now)) (of_each (view schema.now) (elements_view items.now))) }
 {
@@ -186,7 +195,7 @@ fn contains_accepted(
     schema: &Tree,
     instance: Instance<'_>,
 ) -> bool
-    requires no_loop { IsLoopedSchema (view root.now) → ⊥ }
+    requires plain { IsPlain (view root.now) }
     requires placed { ArePlaced (view root.now) (of_each (view schema.now) (elements_in (seen instance))) }
     ensures { let many = how_many (told (verdict (view root.now)) (of_each (view schema.now) (elements_in (seen instance.entry)))) in
         result ≡ on_list (λ _. at_least (or_one (get_member (codes "minContains") (members_view siblings.now.entries))) many) (seen instance.entry) }
@@ -203,7 +212,7 @@ fn limit_accepted(
     most: &Tree,
     instance: Instance<'_>,
 ) -> bool
-    requires no_loop { IsLoopedSchema (view root.now) → ⊥ }
+    requires plain { IsPlain (view root.now) }
     requires placed { ArePlaced (view root.now) (of_contained (option_map (λ t. view t.now) contained) (elements_in (seen instance))) }
     ensures { let o = option_map (λ t. view t.now) contained.entry in
         let many = how_many (told (verdict (view root.now)) (of_contained o (elements_in (seen instance.entry)))) in
@@ -221,7 +230,7 @@ fn limit_accepted(
 // Whether each schema accepts the element at its place, as far as both go.
 #[cycle(judge)]
 fn placed_accepted(root: &Tree, schemas: &[Tree], items: &[Tree]) -> bool
-    requires no_loop { IsLoopedSchema (view root.now) → ⊥ }
+    requires plain { IsPlain (view root.now) }
     requires placed { ArePlaced (view root.now) (by_place (elements_view schemas.now) (elements_view items.now)) }
     ensures { result ≡ every (told (verdict (view root.now)) (by_place (elements_view schemas.now) (elements_view items.now))) }
 {
@@ -236,7 +245,7 @@ fn placed_accepted(root: &Tree, schemas: &[Tree], items: &[Tree]) -> bool
 // Whether each member that this value of `properties` names passes the schema of its name.
 #[cycle(judge)]
 fn properties_accepted(root: &Tree, value: &Tree, members: &NameMap<Tree>) -> bool
-    requires no_loop { IsLoopedSchema (view root.now) → ⊥ }
+    requires plain { IsPlain (view root.now) }
     requires placed { ArePlaced (view root.now) (each_named (view value.now) (members_view members.now.entries)) }
     ensures { result ≡ every (told (verdict (view root.now)) (each_named (view value.now) (members_view members.now.entries))) }
 {
@@ -249,7 +258,7 @@ fn properties_accepted(root: &Tree, value: &Tree, members: &NameMap<Tree>) -> bo
 // Whether the schema accepts each member's name.
 #[cycle(judge)]
 fn names_accepted(root: &Tree, schema: &Tree, members: &NameMap<Tree>) -> bool
-    requires no_loop { IsLoopedSchema (view root.now) → ⊥ }
+    requires plain { IsPlain (view root.now) }
     requires placed { ArePlaced (view root.now) (of_names (view schema.now) (members_view members.now.entries)) }
     ensures { result ≡ every (told (verdict (view root.now)) (of_names (view schema.now) (members_view members.now.entries))) }
 {
@@ -264,7 +273,7 @@ fn names_accepted(root: &Tree, schema: &Tree, members: &NameMap<Tree>) -> bool
 // Whether each member that is named passes the schema of its name.
 #[cycle(judge)]
 fn named_accepted(root: &Tree, schemas: &NameMap<Tree>, members: &NameMap<Tree>) -> bool
-    requires no_loop { IsLoopedSchema (view root.now) → ⊥ }
+    requires plain { IsPlain (view root.now) }
     requires placed { ArePlaced (view root.now) (by_name (members_view schemas.now.entries) (members_view members.now.entries)) }
     ensures { result ≡ every (told (verdict (view root.now)) (by_name (members_view schemas.now.entries) (members_view members.now.entries))) }
 {
@@ -288,7 +297,7 @@ fn others_accepted(
     schema: &Tree,
     members: &NameMap<Tree>,
 ) -> bool
-    requires no_loop { IsLoopedSchema (view root.now) → ⊥ }
+    requires plain { IsPlain (view root.now) }
     requires placed { ArePlaced (view root.now) (of_others (members_in (beside (codes "properties") (members_view siblings.now.entries))) (view schema.now) (members_view members.now.entries)) }
     ensures { result ≡ every (told (verdict (view root.now))
         (of_others (members_in (beside (codes "properties") (members_view siblings.now.entries))) (view schema.now) (members_view members.now.entries))) }
@@ -303,10 +312,26 @@ fn others_accepted(
     true
 }
 
+// Whether each schema accepts whose name is that of a member.
+#[cycle(judge)]
+fn present_accept(root: &Tree, schemas: &NameMap<Tree>, instance: Instance<'_>) -> bool
+    requires plain { IsPlain (view root.now) }
+    requires placed { ArePlaced (view root.now) (by_each (members_view schemas.now.entries) (seen instance)) }
+    ensures { let ss = members_view schemas.now.entries in
+        result ≡ where_present (names_list ss) (seen instance.entry) (told (verdict (view root.now)) (by_each ss (seen instance.entry))) }
+{
+    for (name, schema) in schemas.iter() {
+        if has_member(instance, name.as_str()) && !accepts_at(root, schema, instance) {
+            return false;
+        }
+    }
+    true
+}
+
 // Whether the schema, if there is one, accepts.
 #[cycle(judge)]
 fn found_accepts(root: &Tree, found: Option<&Tree>, instance: Instance<'_>) -> bool
-    requires no_loop { IsLoopedSchema (view root.now) → ⊥ }
+    requires plain { IsPlain (view root.now) }
     requires placed { ArePlaced (view root.now) (at_target (option_map (λ t. view t.now) found) (seen instance)) }
     ensures { result ≡ every (told (verdict (view root.now)) (at_target (option_map (λ t. view t.now) found.entry) (seen instance.entry))) }
 {
@@ -325,7 +350,7 @@ fn accepts_where(
     schema: &Tree,
     instance: Instance<'_>,
 ) -> bool
-    requires no_loop { IsLoopedSchema (view root.now) → ⊥ }
+    requires plain { IsPlain (view root.now) }
     requires placed { ArePlaced (view root.now) (after_if (option_map (λ t. view t.now) condition) (view schema.now) (seen instance)) }
     ensures { let o = option_map (λ t. view t.now) condition.entry in
         let answers = told (verdict (view root.now)) (after_if o (view schema.now) (seen instance.entry)) in

@@ -1,11 +1,14 @@
 //! Laws of the definitions: most functions do nothing, and their contract is the law. `judge_source` judges by the schema's
 //! own tree, with nothing compiled.
 
-ghost use Rattle.std.specs.Prelude.{◌≡◌, ◌↔◌, ℕ, Bool, true, None, Some};
+ghost use Rattle.std.specs.Prelude.{◌≡◌, ◌↔◌, ℕ, [], Bool, MatchOption, true, None, Some};
 ghost use Rattle.doc_tree.specs.Doc.{Doc, at};
 ghost use Rattle.doc_tree.specs.Sound.{IsSound};
 ghost use Rattle.schema_graph.specs.Walks.{In, IsLooped};
 ghost use Rattle.doc_tree.specs.TreeView.{view};
+ghost use Rattle.schema_rules.specs.PatternTexts.{pattern_texts};
+ghost use Rattle.schema_rules.specs.declared.profile.Profile.{Profile};
+ghost use Rattle.schema_rules.specs.declared.profile.Profile.TheVariants.{Two, Three};
 ghost use Rattle.doc_schema.specs.Faults.{IsFaultless, IsFirstFault, first_fault};
 ghost use Rattle.doc_schema.specs.Judge.{IsSettledFor, Judges, judge};
 ghost use Rattle.doc_schema.specs.Loops.{HasSchemaLoop, leads};
@@ -17,6 +20,7 @@ ghost use Rattle.doc_schema.specs.Schemas.{IsLoopedSchema};
 ghost use Rattle.doc_schema.specs.Steps.{verdict};
 
 use crate::judge::accepts_at;
+use crate::schema::Schema;
 use doc_tree::Tree;
 use schema_rules::Instance;
 
@@ -50,34 +54,50 @@ pub fn numbered_nodes_judge_alike()
 
 /// The tests find a number exactly when it is that of the first fault, and none exactly when nothing is wrong.
 pub fn first_faults_are_found()
-    ensures fault { (schema : Doc) (n : ℕ) → (first_fault schema ≡ Some n) ↔ IsFirstFault schema n }
-    ensures none { (schema : Doc) → (first_fault schema ≡ None) ↔ IsFaultless schema }
+    ensures fault { (profile : Profile) (schema : Doc) (n : ℕ) → (first_fault profile schema ≡ Some n) ↔ IsFirstFault profile schema n }
+    ensures none { (profile : Profile) (schema : Doc) → (first_fault profile schema ≡ None) ↔ IsFaultless profile schema }
 {}
 
-/// A schema that profile 1 accepts is accepted, and the same instances are valid under it: no name in it became a keyword.
+/// A schema that profile 1 accepts is accepted by each profile, and the same instances are valid under it: no name in it
+/// became a keyword.
 pub fn schemas_of_profile_1_stay()
-    ensures accepted { (schema : Doc) → IsFaultless_1 schema → IsFaultless schema }
+    ensures accepted { (profile : Profile) (schema : Doc) → IsFaultless_1 schema → IsFaultless profile schema }
     ensures alike { (schema : Doc) → IsFaultless_1 schema → (instance : Doc) (b : Bool) → (Judges_1 schema instance b ↔ Judges schema instance b) }
+{}
+
+/// A schema that a profile accepts is accepted by profile 3. The same instances are valid under it, since validity knows
+/// of no profile.
+pub fn schemas_of_earlier_profiles_stay()
+    ensures { (profile : Profile) (schema : Doc) → IsFaultless profile schema → IsFaultless Three schema }
+{}
+
+/// A schema that profile 2 accepts has no patterns.
+pub fn schemas_of_profile_2_have_no_patterns()
+    ensures { (schema : Doc) → IsFaultless Two schema → pattern_texts schema ≡ [] }
 {}
 
 /// A schema that must hold of a part of a valid document holds of that part in every document.
 pub fn what_must_hold_holds()
-    ensures { (schema document : Doc) → IsFaultless schema → Judges schema document true →
+    ensures { (schema document : Doc) → IsFaultless Three schema → Judges schema document true →
         (s t : Doc) → MustHold schema document s t → verdict schema s t ≡ true }
 {}
 
 /// A document that came from a valid one is valid exactly when each schema that must hold of a part had to hold of the
 /// same part before, or holds itself: what those of its keywords say that aren't answered by other parts alone.
 pub fn changes_are_judged_where_they_reach()
-    ensures { (schema old new : Doc) → IsFaultless schema → Judges schema old true → IsJudgedByChange schema old new }
+    ensures { (schema old new : Doc) → IsFaultless Three schema → Judges schema old true → IsJudgedByChange schema old new }
 {}
 
 /// Whether the instance is valid under the schema, by recursion over the schema's tree: what `Schema::accepts` answers by
-/// what was compiled. Takes no memory. Its calls nest as deep as the instance's height times the longest chain of
-/// schemas, and it may judge a schema of a value more than once: for short schemas, and to compare with.
-pub fn judge_source(schema: &Tree, doc: &Tree) -> bool
-    requires { IsFaultless (view schema.now) }
-    ensures { Judges (view schema.now) (view doc.now) result }
+/// what was compiled. None if the schema has patterns. Takes no memory. Its calls nest as deep as the instance's height
+/// times the longest chain of schemas, and it may judge a schema of a value more than once: for short schemas, and to
+/// compare with.
+pub fn judge_source(schema: &Schema, doc: &Tree) -> Option<bool>
+    ensures { MatchOption result (pattern_texts (view schema.now) ≡ [] → ⊥) (Judges (view schema.now) (view doc.now)) }
 {
-    accepts_at(schema, schema, Instance::Value(doc))
+    if schema.has_patterns() {
+        return None;
+    }
+    let source = schema.source();
+    Some(accepts_at(source, source, Instance::Value(doc)))
 }

@@ -1,25 +1,31 @@
 //! A schema that was read, and what it accepts.
 
-ghost use Rattle.std.specs.Prelude.{◌≡◌, ◌↔◌, IfErr, IfOk, IsTrue, map, true};
+ghost use Rattle.std.specs.Prelude.{◌≡◌, ◌↔◌, [], IfErr, IfOk, IsTrue, MatchOption, false, map, true};
 ghost use Rattle.doc_tree.specs.Doc.{Doc};
 ghost use Rattle.doc_tree.specs.Place.{place_of};
 ghost use Rattle.doc_tree.specs.Sound.{IsSound};
 ghost use Rattle.doc_tree.specs.TreeView.{view};
 ghost use Rattle.doc_schema.specs.Checked.{IsChecked};
-ghost use Rattle.doc_schema.specs.Faults.{IsFaultless, IsFaultOf, IsTooLarge};
+ghost use Rattle.doc_schema.specs.Faults.{IsFaultless, IsFaultOf, IsTooLong};
 ghost use Rattle.doc_schema.specs.Judge.{Judges};
 ghost use Rattle.schema_changes.specs.Agree.{AgreeOff};
 ghost use Rattle.schema_nodes.specs.Compiled.{IsFound};
+ghost use Rattle.schema_pattern.specs.Tables.{pattern_sources, sources};
+ghost use Rattle.schema_rules.specs.PatternTexts.{offered_texts, pattern_texts};
+ghost use Rattle.schema_rules.specs.declared.profile.Profile.TheVariants.{Two, Three};
 
 use crate::defects::{Defect, some_position_has};
 use crate::fault::SchemaFault;
 use crate::limits::{MOST_BYTES, MOST_HEIGHT};
+use crate::patterns::{are_too_large, patterns_of, texts_of_patterns};
+use crate::trial::Trial;
 use doc_tree::{Step, Tree};
 use refusals::numbers::{SCHEMA_FORM, SCHEMA_KEYWORD, SCHEMA_LOOP, SCHEMA_REF, SCHEMA_SIZE};
 use schema_changes::passes_again;
 use schema_levels::passes;
 use schema_nodes::{Compiled, compile};
-use schema_rules::Instance;
+use schema_pattern::{Pattern, Search, searches_of};
+use schema_rules::{Instance, Profile};
 use std::alloc::{AllocError, Global};
 use std::marker::Model;
 
@@ -28,6 +34,7 @@ use std::marker::Model;
 pub struct Schema {
     source: Tree,
     nodes: Compiled,
+    patterns: Vec<Pattern>,
 }
 
 impl Model for Schema {
@@ -35,6 +42,9 @@ impl Model for Schema {
     ghost use Rattle.doc_tree.specs.TreeView as seen;
     ghost use Rattle.schema_levels.specs.Counters.{AreCounted};
     ghost use Rattle.schema_nodes.specs.Compiled.{IsCompiled};
+    ghost use Rattle.schema_pattern.specs.Tables.{pattern_sources};
+    ghost use Rattle.schema_rules.specs.PatternTexts.{pattern_texts};
+    ghost use Rattle.std.specs.Prelude.{◌≡◌};
     ghost use Rattle.doc_tree.specs.contracts.tree.Tree as tree;
     ghost use Rattle.doc_tree.specs.declared.tree.Tree.{Tree};
 
@@ -44,51 +54,118 @@ impl Model for Schema {
 
     ghost view = { λ s. s.source };
 
-    ghost invariant = { λ s. IsSchema s.source × IsCompiled (seen.view s.source) s.nodes.nodes.items s.nodes.whole × AreCounted s.nodes.nodes.items s.nodes.counters };
+    ghost invariant = { λ s. IsSchema s.source × IsCompiled (seen.view s.source) s.nodes.nodes.items s.nodes.whole × AreCounted s.nodes.nodes.items s.nodes.counters × (pattern_sources s.patterns.items ≡ pattern_texts (seen.view s.source)) };
 }
 
 impl Schema {
-    /// The schema that the document is (JSON Schema 2020-12).
+    /// The schema that the document is (JSON Schema 2020-12), in profile 2.
     ///
     /// Answers the number of the first of these that holds of the whole schema: `refusals::numbers::SCHEMA_SIZE`,
     /// `SCHEMA_FORM`, `SCHEMA_KEYWORD`, `SCHEMA_REF`, `SCHEMA_LOOP`; and `refusals::numbers::MEMORY` if there was no
     /// memory.
     pub fn read(alloc: Global, source: &Tree) -> Result<Schema, SchemaFault>
-        ensures ok { IfOk result (λ s. (view s ≡ view source.now) × IsFaultless (view s)) }
+        ensures ok { IfOk result (λ s. (view s ≡ view source.now) × IsFaultless Two (view s)) }
         ensures sound { IfOk result (λ s. IsSound (view s)) }
-        ensures err { IfErr result (IsFaultOf (view source.now)) }
+        ensures err { IfErr result (IsFaultOf Two (view source.now)) }
     {
-        check(source)?;
+        Schema::read_in(Profile::Two, alloc, source)
+    }
+
+    /// The same in a profile, which says what is refused.
+    pub fn read_in(profile: Profile, alloc: Global, source: &Tree) -> Result<Schema, SchemaFault>
+        ensures ok { IfOk result (λ s. (view s ≡ view source.now) × IsFaultless profile (view s)) }
+        ensures sound { IfOk result (λ s. IsSound (view s)) }
+        ensures err { IfErr result (IsFaultOf profile (view source.now)) }
+    {
+        let checked = check(profile, source, alloc)?;
         let source = source.copy(alloc)?;
-        match nodes_of(&source, alloc)? {
-            Some(nodes) => Ok(Schema { source, nodes }),
+        match nodes_of(&source, &checked.texts, alloc)? {
+            Some(nodes) => Ok(Schema {
+                source,
+                nodes,
+                patterns: checked.patterns,
+            }),
             None => Err(SchemaFault {
                 number: SCHEMA_LOOP,
             }),
         }
     }
 
-    /// Whether the instance is valid under the schema (JSON Schema Core, section 4.3). Takes no memory.
-    pub fn accepts(&self, instance: &Tree) -> bool
-        ensures { Judges (view self.now) (view instance.now) result }
+    /// Whether it has patterns, so that a trial is needed to judge under it. Takes no memory.
+    pub fn has_patterns(&self) -> bool
+        ensures { (result ≡ false) ↔ (pattern_texts (view self.now) ≡ []) }
+    {
+        !self.patterns.as_slice().is_empty()
+    }
+
+    /// What judges instances under it, patterns and all. An error means that memory ran out; none is taken without
+    /// patterns.
+    pub fn trial(&self, alloc: Global) -> Result<Trial<'_>, AllocError>
+        ensures { IfOk result (λ t. t.schema.now ≡ self.now) }
+    {
+        Ok(Trial {
+            schema: self,
+            searches: searches_of(alloc, &self.patterns)?,
+        })
+    }
+
+    /// Whether the instance is valid under the schema (JSON Schema Core, section 4.3). None if the schema has patterns,
+    /// under which a trial judges. Takes no memory.
+    pub fn accepts(&self, instance: &Tree) -> Option<bool>
+        ensures { MatchOption result (pattern_texts (view self.now) ≡ [] → ⊥) (Judges (view self.now) (view instance.now)) }
+    {
+        if self.has_patterns() {
+            return None;
+        }
+        let mut none: [Search<'_>; 0] = [];
+        Some(self.judged(&mut none, instance))
+    }
+
+    /// The same of an instance that agrees with a valid one off the location of these steps: only the values along the
+    /// location are judged again, and what `anyOf`, `oneOf`, `not`, `if` and `contains` say at them. Takes no memory.
+    pub fn accepts_change(&self, instance: &Tree, path: &[Step]) -> Option<bool>
+        ensures { MatchOption result (pattern_texts (view self.now) ≡ [] → ⊥)
+            (λ b. (valid : Doc) → Judges (view self.now) valid true → AgreeOff (map place_of path.now) valid (view instance.now)
+            → Judges (view self.now) (view instance.now) b) }
+    {
+        if self.has_patterns() {
+            return None;
+        }
+        let mut none: [Search<'_>; 0] = [];
+        Some(self.judged_again(&mut none, instance, path))
+    }
+
+    /// Whether the instance is valid, with the searches for its patterns.
+    pub(crate) fn judged(&self, searches: &mut [Search<'_>], instance: &Tree) -> bool
+        requires { sources searches.old ≡ pattern_texts (view self.now) }
+        ensures judged { Judges (view self.now) (view instance.now) result }
+        ensures same { sources searches.new ≡ sources searches.old }
     {
         passes(
             &self.nodes.nodes,
             &self.nodes.counters,
+            searches,
             self.nodes.whole,
             Instance::Value(instance),
         )
     }
 
-    /// The same of an instance that agrees with a valid one off the location of these steps: only the values along the
-    /// location are judged again, and what `anyOf`, `oneOf`, `not`, `if` and `contains` say at them. Takes no memory.
-    pub fn accepts_change(&self, instance: &Tree, path: &[Step]) -> bool
-        ensures { (valid : Doc) → Judges (view self.now) valid true → AgreeOff (map place_of path.now) valid (view instance.now)
+    /// The same of an instance that agrees with a valid one off the location of these steps.
+    pub(crate) fn judged_again(
+        &self,
+        searches: &mut [Search<'_>],
+        instance: &Tree,
+        path: &[Step],
+    ) -> bool
+        requires { sources searches.old ≡ pattern_texts (view self.now) }
+        ensures judged { (valid : Doc) → Judges (view self.now) valid true → AgreeOff (map place_of path.now) valid (view instance.now)
             → Judges (view self.now) (view instance.now) result }
+        ensures same { sources searches.new ≡ sources searches.old }
     {
         passes_again(
             &self.nodes.nodes,
             &self.nodes.counters,
+            searches,
             self.nodes.whole,
             instance,
             path,
@@ -98,50 +175,67 @@ impl Schema {
     /// The document that was read. Takes no memory.
     pub fn source(&self) -> &Tree
         ensures same { result.now ≡ self.now }
-        ensures faultless { IsFaultless (view self.now) }
+        ensures faultless { IsFaultless Three (view self.now) }
     {
         &self.source
     }
 }
 
-// The nodes of a schema; none if it leads back to itself. There are at most a third as many as bytes of its text, and
-// at most a thirteenth as many counters.
-fn nodes_of(source: &Tree, alloc: Global) -> Result<Option<Compiled>, AllocError>
-    requires { IsChecked (view source.now) }
-    ensures { IfOk result (λ found. IsFound (view source.now) found) }
-{
-    compile(source, alloc)
+// The texts of a schema's patterns, and the patterns.
+#[derive(Drop)]
+struct Checked<'s> {
+    texts: Vec<&'s str>,
+    patterns: Vec<Pattern>,
 }
 
-// The first fault of the document as a schema that isn't a loop, if it has one.
-fn check(source: &Tree) -> Result<(), SchemaFault>
-    ensures ok { IfOk result (λ _. IsChecked (view source.now)) }
-    ensures err { IfErr result (IsFaultOf (view source.now)) }
+// The nodes of a schema; none if it leads back to itself. There are at most a third as many as bytes of its text, and
+// at most a thirteenth as many counters.
+fn nodes_of(source: &Tree, texts: &[&str], alloc: Global) -> Result<Option<Compiled>, AllocError>
+    requires checked { IsChecked Three (view source.now) }
+    requires texts { map (λ s. s.now) texts.now ≡ pattern_texts (view source.now) }
+    ensures { IfOk result (λ found. IsFound (view source.now) found) }
 {
-    if is_too_large(source) {
+    compile(source, texts, alloc)
+}
+
+// What a schema's patterns are, if it has no fault but for loops; or else its first fault.
+fn check<'s>(profile: Profile, source: &'s Tree, alloc: Global) -> Result<Checked<'s>, SchemaFault>
+    ensures ok { IfOk result (λ _. IsChecked profile (view source.now)) }
+    ensures texts { IfOk result (λ c. map (λ s. s.now) c.texts.items ≡ offered_texts profile (view source.now)) }
+    ensures patterns { IfOk result (λ c. pattern_sources c.patterns.items ≡ offered_texts profile (view source.now)) }
+    ensures err { IfErr result (IsFaultOf profile (view source.now)) }
+{
+    if is_too_long(source) {
         return Err(SchemaFault {
             number: SCHEMA_SIZE,
         });
     }
-    if some_position_has(Defect::Form, source) {
+    let texts = texts_of_patterns(profile, source, alloc)?;
+    if are_too_large(&texts) {
+        return Err(SchemaFault {
+            number: SCHEMA_SIZE,
+        });
+    }
+    if some_position_has(profile, Defect::Form, source) {
         return Err(SchemaFault {
             number: SCHEMA_FORM,
         });
     }
-    if some_position_has(Defect::LeftOut, source) {
+    let patterns = patterns_of(&texts, alloc)?;
+    if some_position_has(profile, Defect::LeftOut, source) {
         return Err(SchemaFault {
             number: SCHEMA_KEYWORD,
         });
     }
-    if some_position_has(Defect::Reference, source) {
+    if some_position_has(profile, Defect::Reference, source) {
         return Err(SchemaFault { number: SCHEMA_REF });
     }
-    Ok(())
+    Ok(Checked { texts, patterns })
 }
 
 // Whether the text is too long, or it nests too deep.
-fn is_too_large(source: &Tree) -> bool
-    ensures { IsTrue result ↔ IsTooLarge (view source.now) }
+fn is_too_long(source: &Tree) -> bool
+    ensures { IsTrue result ↔ IsTooLong (view source.now) }
 {
     match source.text_len_within(MOST_BYTES) {
         Some(_) => source.height() > MOST_HEIGHT,

@@ -17,7 +17,7 @@ use Rattle.store_commits.specs.Account.{Account, Copy, StoreView, account_broken
 use Rattle.store_commits.specs.Batch.{FailedCommit, PassedCommit, to_snapshot}
 use Rattle.store_commits.specs.Copying.{IsBegun, IsCopied, IsCopying, Target, copy_of, count_of, HasStepped, IsPumped, PumpAnswers, account_stepped, calls_of_pump, calls_of_step, copy_at, standing_after}
 use Rattle.store_commits.specs.Inside.{IsHeld, IsStored, account_of}
-use Rattle.store_commits.specs.Images.{Holds}
+use Rattle.store_commits.specs.Images.{Holds, profile_in}
 use Rattle.store_commits.specs.Run.{to_step}
 use Rattle.store_commits.specs.Snapshot.{RemakesAll, snapshot_bytes, account_with_snapshot}
 use Rattle.store_commits.specs.Folds.{StandsAfter}
@@ -47,33 +47,35 @@ module _ {D : Type 0} (disk : Disk) (journal : JournalView D) (state : State) wh
 
 -- the committed bytes and their numbers are as before
 pub held_so : {D : Type 0} (old new : Disk) (before now : JournalView D) (state : State) → IsHeld old before state → (new.honest → old.honest) → IsKept new now
-    → now.version ≡ before.version → now.seq ≡ before.seq → (old.honest → now.bytes ≡ before.bytes) → now.settled ≡ true → IsHeld new now state
-held_so old new before now state held back kept version seq bytes settled = record {
+    → now.version ≡ before.version → now.seq ≡ before.seq → now.rides ≡ before.rides → (old.honest → now.bytes ≡ before.bytes) → now.settled ≡ true → IsHeld new now state
+held_so old new before now state held back kept version seq rides bytes settled = record {
   kept = kept;
   version = version ∙ held.version;
   settled = settled;
   seq = seq ∙ held.seq;
+  profile = ap profile_in rides ∙ held.profile;
   good = held.good;
-  held = λ honest. subst (λ (l : List ℕ). Holds 2 state.seq l state.documents) (sym (bytes (back honest))) (held.held (back honest));
+  held = λ honest. subst (λ (l : List ℕ). Holds state.profile 2 state.seq l state.documents) (sym (bytes (back honest))) (held.held (back honest));
 }
 
 module _ {D : Type 0} (old new : Disk) (before now : JournalView D) (state : State) (t : Target) (held : IsHeld old before state) (copying : IsCopying old before state t) (same : old.honest ↔ new.honest) (kept : IsKept new now) where
   either_stands : old.honest → (image : Image) → EitherCarried (carried_of before) (switched (carried_of before) t.bytes) image → StandsAfter state [] image
-  either_stands honest image (inl carries) = stands_now state [] image (stands_by state (carried_of before) held.version held.seq (held.held honest) image carries)
-  either_stands honest image (inr carries) = stands_now state [] image (stands_by state (switched (carried_of before) t.bytes) held.version held.seq copying.holds image carries)
+  either_stands honest image (inl carries) = stands_now state [] image (stands_by state (carried_of before) held.version held.seq held.profile (held.held honest) image carries)
+  either_stands honest image (inr carries) = stands_now state [] image (stands_by state (switched (carried_of before) t.bytes) held.version held.seq held.profile copying.holds image carries)
 
   pub step_moments : old.honest → LeavesOnly old new (EitherCarried (carried_of before) (switched (carried_of before) t.bytes)) → LeavesOnly old new (StandsAfter state [])
   step_moments honest leaves = leaves_weaker old new (EitherCarried (carried_of before) (switched (carried_of before) t.bytes)) (StandsAfter state []) (either_stands honest) leaves
 
   pub step_held : (most : ℕ) (p : Pump) (left : Option Target) → HasStepped old new before now t most p left → IsHeld new now state
-  step_held most p left (inl on) = held_so old new before now state held same.1 kept on.stepped.stays.version on.stepped.stays.seq on.stepped.stays.bytes (on.stepped.stays.settled ∙ held.settled)
+  step_held most p left (inl on) = held_so old new before now state held same.1 kept on.stepped.stays.version on.stepped.stays.seq on.stepped.stays.rides on.stepped.stays.bytes (on.stepped.stays.settled ∙ held.settled)
   step_held most p left (inr over) = record {
     kept = kept;
     version = over.counts.version ∙ held.version;
     settled = over.counts.settled;
     seq = over.counts.seq ∙ held.seq;
+    profile = ap profile_in over.counts.rides ∙ held.profile;
     good = held.good;
-    held = λ honest. subst (λ (l : List ℕ). Holds 2 state.seq l state.documents) (sym (over.counts.bytes (same.1 honest))) copying.holds;
+    held = λ honest. subst (λ (l : List ℕ). Holds state.profile 2 state.seq l state.documents) (sym (over.counts.bytes (same.1 honest))) copying.holds;
   }
 
   pub step_copied : (most : ℕ) (p : Pump) (left : Option Target) → HasStepped old new before now t most p left → IsCopied new now state left
@@ -181,7 +183,7 @@ module _ {D : Type 0} (disk : D → Disk) (coherent : (device : D) → (disk dev
         (switched_as disk coherent before now state held same kept was.1.stays.sectors bytes (snapshot_holds state state.seq refl remakes) leaves honest image left);
   }
 
-  pub step_failed : (most : ℕ) (t : Target) → Broke (disk before.device) (disk now.device) (calls_of_step (count_of t) most) before now → Holds 2 state.seq t.bytes state.documents → copy_at a ≡ count_of t
+  pub step_failed : (most : ℕ) (t : Target) → Broke (disk before.device) (disk now.device) (calls_of_step (count_of t) most) before now → Holds state.profile 2 state.seq t.bytes state.documents → copy_at a ≡ count_of t
       → length t.bytes ≤ capacity_of before.sectors → ((disk before.device).honest → LeavesOnly (disk before.device) (disk now.device) (EitherCarried (carried_of before) (switched (carried_of before) t.bytes)))
       → ((disk before.device).honest → standing_after (count_of t) most < length t.bytes → LeavesOnly (disk before.device) (disk now.device) (Carries (carried_of before)))
       → FailedCommit disk before.device now.device (to_step a most) (with_copy (account_of now state) None)

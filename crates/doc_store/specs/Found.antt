@@ -6,7 +6,7 @@ use Rattle.store_journal.specs.Carries.{Carried}
 use Rattle.store_journal.specs.Opening.{Loaded}
 use Rattle.store_journal.specs.JournalView.{JournalView, carried_of}
 use Rattle.doc_changes.specs.State.{Good, State}
-use Rattle.store_commits.specs.Images.{Holds}
+use Rattle.store_commits.specs.Images.{Holds, profile_in}
 use Rattle.store_journal.specs.Layout.{capacity_of}
 use Rattle.store_journal.specs.Calls.{Became, Broke}
 use Rattle.refusals.specs.declared.numbers.TheConstants.{DEVICE, MEMORY, NO_ROOM}
@@ -27,8 +27,9 @@ pub record WasFound {D : Type 0} (disk : D → Disk) (device : D) (journal : Jou
   pub sectors_are : journal.sectors ≡ (disk device).sectors
   pub works : journal.broken ≡ false
   pub seq_is : state.seq ≡ journal.seq
+  pub profile_is : profile_in journal.rides ≡ state.profile
   pub good : Good state
-  pub holds : Holds journal.version journal.seq bytes state.documents
+  pub holds : Holds state.profile journal.version journal.seq bytes state.documents
   pub keeps : (disk journal.device).honest → KeepsImages (disk device) (disk journal.device)
   pub honest : (disk journal.device).honest → (disk device).honest
 

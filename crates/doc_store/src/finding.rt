@@ -1,10 +1,11 @@
 //! The reading of a device, by which its documents are made again.
-ghost use Rattle.std.specs.Prelude.{IfOk, IfErr};
+ghost use Rattle.std.specs.Prelude.{◌≡◌, IfOk, IfErr};
 ghost use Rattle.sector_device.specs.Sectors.{KeepsImages};
+ghost use Rattle.store_commits.specs.Images.{profile_in};
 ghost use Rattle.doc_store.specs.Found.{WasFound};
 ghost use Rattle.doc_store.specs.Opening.{NotOpened};
 
-use doc_machine::Machine;
+use doc_machine::{Machine, Profile};
 use sector_device::SectorDevice;
 use std::alloc::Global;
 use store_commits::replay;
@@ -26,11 +27,19 @@ pub(crate) fn find<D: SectorDevice>(
         Err(fault) => return Err(fault),
         Ok(opened) => opened,
     };
-    match replay(alloc, &bytes, journal.version(), journal.seq()) {
+    let profile = profile_of(journal.rides());
+    match replay(alloc, &bytes, journal.version(), journal.seq(), profile) {
         Err(fault) => Err(OpenFault {
             number: fault.number(),
             device: journal.into_device(),
         }),
         Ok(machine) => Ok((journal, bytes, machine)),
     }
+}
+
+// The profile of schemas in a store, by whether small commits ride.
+fn profile_of(rides: bool) -> Profile
+    ensures { result ≡ profile_in rides }
+{
+    if rides { Profile::Three } else { Profile::Two }
 }

@@ -31,6 +31,7 @@ stands_empty image carries = record {
   carried = nothing_in false;
   carries = carries;
   seq_is = refl;
+  profile_is = refl;
   holds = record { entries = []; framed = tt; dated = λ _. tt; spelled = refl; taken = tt; documents_are = refl };
 }
 

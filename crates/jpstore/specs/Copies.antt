@@ -5,6 +5,8 @@ use Rattle.file_device.specs.declared.file.FileDevice.{FileDevice}
 use Rattle.file_device.specs.File.{file_disk}
 use Rattle.store_journal.specs.Filling.{NoneOrAll}
 use Rattle.store_journal.specs.Opening.{HasMagic}
+use Rattle.schema_rules.specs.declared.profile.Profile.TheVariants.{Two}
+use Rattle.doc_changes.specs.State.{in_profile}
 use Rattle.store_commits.specs.Account.{Account}
 use Rattle.doc_store.specs.Opening.{IsCopyOf}
 use Rattle.store_commits.specs.Snapshot.{snapshot_bytes}
@@ -26,4 +28,4 @@ pub record IsFilled (old new : Disk) (a : Account) : Type 0 where
 
 -- the account of the copy, in format 2, before it is opened
 abbrev pub account_copied : Account → ℕ → Account
-account_copied a sectors = record { state = a.state; used = length (snapshot_bytes a.state.documents); half = 0; opens = a.opens; sectors = sectors; rides = false; broken = false; copy = None }
+account_copied a sectors = record { state = in_profile Two a.state; used = length (snapshot_bytes a.state.documents); half = 0; opens = a.opens; sectors = sectors; rides = false; broken = false; copy = None }

@@ -23,6 +23,10 @@ mod patches;
 #[cfg(test)]
 mod paths;
 #[cfg(test)]
+mod patterns;
+#[cfg(test)]
 mod plain_patches;
 #[cfg(test)]
 mod pointers;
+#[cfg(test)]
+mod profiles;

@@ -46,6 +46,7 @@ names =
     ∷ (72, codes "not-a-store")
     ∷ (73, codes "damaged")
     ∷ (74, codes "no-room")
+    ∷ (76, codes "newer-schema")
     ∷ []
 
 -- what a table has at a number, or the empty text

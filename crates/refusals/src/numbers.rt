@@ -130,3 +130,6 @@ pub const DAMAGED: u16 = 73;
 
 /// A device holds a store of format 1 whose documents don't fit it in format 2.
 pub const NO_ROOM: u16 = 74;
+
+/// A store has a document whose schema an earlier format doesn't allow.
+pub const NEWER_SCHEMA: u16 = 76;

@@ -7,3 +7,4 @@ pub mod Location
 pub mod Alone
 pub mod Values
 pub mod Told
+pub mod Holding

@@ -13,7 +13,7 @@ use Rattle.schema_levels.specs.PlaceInValue.{PlaceInValue}
 use Rattle.schema_levels.specs.Table.{Child, rules_lower, rules_together}
 use Rattle.schema_levels.specs.declared.node.Node.{Node}
 use Rattle.schema_levels.specs.declared.node.Rule.{Rule}
-use Rattle.schema_levels.specs.declared.node.Rule.TheVariants.{Says, Asserts, All, Any, One, Not, Then, Else, Refers, Properties, Others, Names, ByPlace, Rest, Contains, AtLeast, AtMost}
+use Rattle.schema_levels.specs.declared.node.Rule.TheVariants.{Says, Asserts, Matches, All, Any, One, Not, Then, Else, Dependent, Refers, Properties, Others, Names, ByPlace, Rest, Contains, AtLeast, AtMost}
 use Rattle.schema_levels.proofs.Sweeps.{rule_agrees}
 use Rattle.schema_changes.specs.Again.{anew_here, counts, is_list, must_below, must_all_below, must_here, must_all_here, rule_again, rules_again, some_counts}
 use Rattle.schema_changes.proofs.Marking.{anew_all_here}
@@ -41,6 +41,8 @@ module _ (f : ℕ → Bool) (t : Doc) where
   here_from (Not j) h e = e
   here_from (Then c j) h e = e
   here_from (Else c j) h e = e
+  here_from (Dependent ns v) h e = e
+  here_from (Matches n v) h e = e
   here_from Properties h e = e
   here_from (Others j) h e = e
   here_from (Names j) h e = e
@@ -60,6 +62,8 @@ module _ (f : ℕ → Bool) (t : Doc) where
   again_from (Not j) e = e
   again_from (Then c j) e = e
   again_from (Else c j) e = e
+  again_from (Dependent ns v) e = e
+  again_from (Matches n v) e = e
   again_from Properties e = e
   again_from (Others j) e = e
   again_from (Names j) e = e
@@ -80,6 +84,8 @@ module _ (f : ℕ → Bool) (t : Doc) where
   must_from (Not k) j e i = none_in j i
   must_from (Then c k) j e i = none_in j i
   must_from (Else c k) j e i = none_in j i
+  must_from (Dependent ns v) j e i = none_in j i
+  must_from (Matches n v) j e i = none_in j i
   must_from Properties j e i = none_in j i
   must_from (Others k) j e i = none_in j i
   must_from (Names k) j e i = none_in j i
@@ -118,6 +124,8 @@ again_agrees f g t (One v) h = rule_agrees f g t (One v) h
 again_agrees f g t (Not j) h = rule_agrees f g t (Not j) h
 again_agrees f g t (Then c j) h = rule_agrees f g t (Then c j) h
 again_agrees f g t (Else c j) h = rule_agrees f g t (Else c j) h
+again_agrees f g t (Dependent ns v) h = rule_agrees f g t (Dependent ns v) h
+again_agrees f g t (Matches n v) h = refl
 again_agrees f g t Properties h = refl
 again_agrees f g t (Others j) h = refl
 again_agrees f g t (Names j) h = refl
@@ -153,7 +161,9 @@ module _ (f : ℕ → Bool) (x : Node) (p : PlaceInValue) where
   rule_below_is (Not j) = refl
   rule_below_is (Then c j) = refl
   rule_below_is (Else c j) = refl
+  rule_below_is (Dependent ns v) = refl
   rule_below_is (Refers j) = refl
+  rule_below_is (Matches n v) = refl
   rule_below_is Properties = refl
   rule_below_is (Others j) = refl
   rule_below_is (Names j) = refl
@@ -199,7 +209,9 @@ module _ (found : ℕ → Bool) (many : ℕ → ℕ) where
   says_alone (Not j) e = refl
   says_alone (Then c j) e = refl
   says_alone (Else c j) e = refl
+  says_alone (Dependent ns v) e = refl
   says_alone (Refers j) e = refl
+  says_alone (Matches n v) e = refl
   says_alone Properties e = refl
   says_alone (Others j) e = refl
   says_alone (Names j) e = refl

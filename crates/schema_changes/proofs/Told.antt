@@ -10,7 +10,7 @@ use Rattle.schema_levels.specs.Nodes.{asked_here, node_get, AreOrdered}
 use Rattle.schema_levels.specs.Table.{IsTable}
 use Rattle.schema_levels.specs.declared.node.Node.{Node}
 use Rattle.schema_levels.specs.declared.node.Rule.{Rule}
-use Rattle.schema_levels.specs.declared.node.Rule.TheVariants.{Says, Asserts, All, Any, One, Not, Then, Else, Refers, Properties, Others, Names, ByPlace, Rest, Contains, AtLeast, AtMost}
+use Rattle.schema_levels.specs.declared.node.Rule.TheVariants.{Says, Asserts, Matches, All, Any, One, Not, Then, Else, Dependent, Refers, Properties, Others, Names, ByPlace, Rest, Contains, AtLeast, AtMost}
 use Rattle.schema_levels.proofs.Marks.{mark_append}
 use Rattle.schema_levels.proofs.Tables.{within_get}
 use Rattle.schema_changes.specs.Again.{AllAgain, AllPass, Tells, anew_here, collect_anew, is_list, mark_anew, node_again, one_if, rules_again, some_counts}
@@ -24,10 +24,12 @@ in_here (One v) j at = at
 in_here (Not k) j at = at
 in_here (Then c k) j at = at
 in_here (Else c k) j at = at
+in_here (Dependent ns v) j at = at
 in_here (All v) j at = none_in j at
 in_here (Refers k) j at = none_in j at
 in_here (Says b) j at = none_in j at
 in_here (Asserts a) j at = none_in j at
+in_here (Matches n v) j at = none_in j at
 in_here Properties j at = none_in j at
 in_here (Others k) j at = none_in j at
 in_here (Names k) j at = none_in j at

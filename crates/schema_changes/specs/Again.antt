@@ -14,7 +14,7 @@ use Rattle.schema_levels.specs.PlaceInValue.{PlaceInValue}
 use Rattle.schema_levels.specs.EachInSet.{walk}
 use Rattle.schema_levels.specs.declared.node.Node.{Node}
 use Rattle.schema_levels.specs.declared.node.Rule.{Rule}
-use Rattle.schema_levels.specs.declared.node.Rule.TheVariants.{All, Any, One, Not, Then, Else, Refers, Contains, AtLeast, AtMost}
+use Rattle.schema_levels.specs.declared.node.Rule.TheVariants.{All, Any, One, Not, Then, Else, Dependent, Refers, Contains, AtLeast, AtMost}
 use Rattle.schema_changes.specs.Agree.{AgreeOff}
 
 -- ---- what must hold
@@ -73,6 +73,7 @@ anew_here (One v) = v.items
 anew_here (Not j) = j ∷ []
 anew_here (Then c j) = c ∷ j ∷ []
 anew_here (Else c j) = c ∷ j ∷ []
+anew_here (Dependent names v) = v.items
 anew_here _ = []
 
 -- the rule speaks of the elements together

@@ -5,7 +5,9 @@ ghost use Rattle.doc_tree.specs.TreeView.{view};
 ghost use Rattle.schema_levels.specs.Bits.{bit, mark_all};
 ghost use Rattle.schema_levels.specs.Counters.{AreCounted};
 ghost use Rattle.schema_levels.specs.Nodes.{AreOrdered};
+ghost use Rattle.schema_levels.specs.Searched.{AreRulesSearched, AreSearched, IsSearched};
 ghost use Rattle.schema_levels.specs.Table.{IsTable};
+ghost use Rattle.schema_pattern.specs.Tables.{sources};
 ghost use Rattle.schema_changes.specs.Again.{AllAgain, Tells, anew_here, collect_anew, counts, is_list, mark_anew, mark_anew_rules, node_again, rule_again, rules_again, some_counts};
 
 use crate::whole::judge_marked;
@@ -13,6 +15,7 @@ use doc_tree::Tree;
 use schema_levels::bits::{bit, fill, mark_each, next, write};
 use schema_levels::conclude::rule_here;
 use schema_levels::{Counters, Node, Rule};
+use schema_pattern::Search;
 use schema_rules::Instance;
 
 /// Whether each node of the set holds of the value, if the nodes that it needs at the value and at its children pass.
@@ -20,6 +23,7 @@ use schema_rules::Instance;
 pub(crate) fn all_hold(
     nodes: &[Node],
     counters: &Counters,
+    searches: &mut [Search<'_>],
     value: &Tree,
     asked: &[u64],
     judging: &mut [u64],
@@ -28,12 +32,14 @@ pub(crate) fn all_hold(
 ) -> bool
     requires order { AreOrdered nodes.now }
     requires counted { AreCounted nodes.now counters.now }
+    requires searched { AreSearched (sources searches.old) nodes.now }
     requires room { length nodes.now ≤ 64 * length asked.now }
     requires short { length asked.now ≤ 1366 }
     requires judging_len { length judging.old ≡ length asked.now }
     requires passed_len { length passed.old ≡ length asked.now }
-    ensures { (known : ℕ → Doc → Bool) → IsTable nodes.now known
+    ensures value { (known : ℕ → Doc → Bool) → IsTable nodes.now known
         → Tells result (AllAgain (λ j. known j (view value.now)) (is_list (view value.now)) (view value.now) nodes.now asked.now) }
+    ensures same { sources searches.new ≡ sources searches.old }
 {
     let in_list = is_list(value);
     fill(judging, 0);
@@ -41,12 +47,13 @@ pub(crate) fn all_hold(
     judge_marked(
         nodes,
         counters,
+        searches,
         Instance::Value(value),
         judging,
         passed,
         free,
     );
-    each_holds(nodes, in_list, value, asked, passed)
+    each_holds(nodes, searches, in_list, value, asked, passed)
 }
 
 fn is_list(value: &Tree) -> bool
@@ -102,6 +109,7 @@ fn mark_rule(rule: &Rule, found: &mut [u64])
     match rule {
         Rule::Any(numbers) => mark_each(numbers, found),
         Rule::One(numbers) => mark_each(numbers, found),
+        Rule::Dependent(_, numbers) => mark_each(numbers, found),
         Rule::Not(number) => write(found, *number, true),
         Rule::Then(condition, number) => {
             write(found, *condition, true);
@@ -137,13 +145,24 @@ fn counts(rule: &Rule) -> bool
 
 // ---- Whether it holds.
 
-fn each_holds(nodes: &[Node], in_list: bool, value: &Tree, asked: &[u64], passed: &[u64]) -> bool
-    requires { length asked.now < 2 ^ 32 }
-    ensures { Tells result (AllAgain (bit passed.now) in_list (view value.now) nodes.now asked.now) }
+fn each_holds(
+    nodes: &[Node],
+    searches: &mut [Search<'_>],
+    in_list: bool,
+    value: &Tree,
+    asked: &[u64],
+    passed: &[u64],
+) -> bool
+    requires short { length asked.now < 2 ^ 32 }
+    requires searched { AreSearched (sources searches.old) nodes.now }
+    ensures value { Tells result (AllAgain (bit passed.now) in_list (view value.now) nodes.now asked.now) }
+    ensures same { sources searches.new ≡ sources searches.old }
 {
     let mut number = next(asked, 0);
     while number < nodes.len() {
-        if bit(asked, number) && !node_holds(&nodes[number], in_list, value, number, passed) {
+        if bit(asked, number)
+            && !node_holds(&nodes[number], searches, in_list, value, number, passed)
+        {
             return false;
         }
         number = next(asked, number + 1);
@@ -151,32 +170,45 @@ fn each_holds(nodes: &[Node], in_list: bool, value: &Tree, asked: &[u64], passed
     true
 }
 
-fn node_holds(node: &Node, in_list: bool, value: &Tree, number: usize, passed: &[u64]) -> bool
-    ensures { result ≡ node_again (bit passed.now) in_list (view value.now) number node.now }
+fn node_holds(
+    node: &Node,
+    searches: &mut [Search<'_>],
+    in_list: bool,
+    value: &Tree,
+    number: usize,
+    passed: &[u64],
+) -> bool
+    requires { AreRulesSearched (sources searches.old) node.now.rules.items }
+    ensures value { result ≡ node_again (bit passed.now) in_list (view value.now) number node.now }
+    ensures same { sources searches.new ≡ sources searches.old }
 {
     if in_list && some_counts(&node.rules) {
         bit(passed, number)
     } else {
-        rules_hold(&node.rules, value, passed)
+        rules_hold(&node.rules, searches, value, passed)
     }
 }
 
-fn rules_hold(rules: &[Rule], value: &Tree, passed: &[u64]) -> bool
-    ensures { result ≡ rules_again (bit passed.now) (view value.now) rules.now }
+fn rules_hold(rules: &[Rule], searches: &mut [Search<'_>], value: &Tree, passed: &[u64]) -> bool
+    requires { AreRulesSearched (sources searches.old) rules.now }
+    ensures value { result ≡ rules_again (bit passed.now) (view value.now) rules.now }
+    ensures same { sources searches.new ≡ sources searches.old }
 {
     for rule in rules {
-        if !rule_holds(rule, value, passed) {
+        if !rule_holds(rule, searches, value, passed) {
             return false;
         }
     }
     true
 }
 
-fn rule_holds(rule: &Rule, value: &Tree, passed: &[u64]) -> bool
-    ensures { result ≡ rule_again (bit passed.now) (view value.now) rule.now }
+fn rule_holds(rule: &Rule, searches: &mut [Search<'_>], value: &Tree, passed: &[u64]) -> bool
+    requires { IsSearched (sources searches.old) rule.now }
+    ensures value { result ≡ rule_again (bit passed.now) (view value.now) rule.now }
+    ensures same { sources searches.new ≡ sources searches.old }
 {
     match rule {
         Rule::All(_) | Rule::Refers(_) => true,
-        _ => rule_here(rule, Instance::Value(value), passed),
+        _ => rule_here(rule, searches, Instance::Value(value), passed),
     }
 }

@@ -5,7 +5,9 @@ ghost use Rattle.doc_tree.specs.Place.{place_of};
 ghost use Rattle.doc_tree.specs.TreeView.{view};
 ghost use Rattle.schema_levels.specs.Counters.{AreCounted};
 ghost use Rattle.schema_levels.specs.Nodes.{AreOrdered};
+ghost use Rattle.schema_levels.specs.Searched.{AreSearched};
 ghost use Rattle.schema_levels.specs.Table.{IsTable};
+ghost use Rattle.schema_pattern.specs.Tables.{sources};
 ghost use Rattle.schema_changes.specs.Again.{AllPass, NamePasses, PassBelow, PassedBefore, PassedBelow, Tells};
 
 use crate::again::all_hold;
@@ -15,6 +17,7 @@ use crate::whole::all_pass;
 use doc_tree::{Step, Tree};
 use schema_levels::bits::fill;
 use schema_levels::{ChildPlace, Counters, Node};
+use schema_pattern::Search;
 use schema_rules::Instance;
 
 /// Whether the value passes each node of the set, if it did before it changed at the location. All sets are written
@@ -23,6 +26,7 @@ use schema_rules::Instance;
 pub(crate) fn along(
     nodes: &[Node],
     counters: &Counters,
+    searches: &mut [Search<'_>],
     value: &Tree,
     path: &[Step],
     asked: &mut [u64],
@@ -33,6 +37,7 @@ pub(crate) fn along(
 ) -> bool
     requires order { AreOrdered nodes.now }
     requires counted { AreCounted nodes.now counters.now }
+    requires searched { AreSearched (sources searches.old) nodes.now }
     requires room { length nodes.now ≤ 64 * length asked.old }
     requires short { length asked.old ≤ 1366 }
     requires below_len { length below.old ≡ length asked.old }
@@ -41,11 +46,13 @@ pub(crate) fn along(
     ensures sound { result ≡ true → (known : ℕ → Doc → Bool) → IsTable nodes.now known
         → PassedBefore known asked.old (map place_of path.now) (view value.now) → AllPass known asked.old (view value.now) }
     ensures complete { (known : ℕ → Doc → Bool) → IsTable nodes.now known → AllPass known asked.old (view value.now) → result ≡ true }
+    ensures same { sources searches.new ≡ sources searches.old }
 {
     match path.split_first() {
         None => all_pass(
             nodes,
             counters,
+            searches,
             Instance::Value(value),
             asked,
             judging,
@@ -55,19 +62,21 @@ pub(crate) fn along(
         Some((step, rest)) => {
             close(nodes, asked);
             open_members(value);
-            all_hold(nodes, counters, value, asked, judging, passed, free)
-                && child_passes(
-                    nodes,
-                    counters,
-                    child(value, step),
-                    step,
-                    rest,
-                    asked,
-                    below,
-                    judging,
-                    passed,
-                    free,
-                )
+            all_hold(
+                nodes, counters, searches, value, asked, judging, passed, free,
+            ) && child_passes(
+                nodes,
+                counters,
+                searches,
+                child(value, step),
+                step,
+                rest,
+                asked,
+                below,
+                judging,
+                passed,
+                free,
+            )
         }
     }
 }
@@ -77,6 +86,7 @@ pub(crate) fn along(
 fn child_passes(
     nodes: &[Node],
     counters: &Counters,
+    searches: &mut [Search<'_>],
     found: Option<&Tree>,
     step: &Step,
     rest: &[Step],
@@ -88,6 +98,7 @@ fn child_passes(
 ) -> bool
     requires order { AreOrdered nodes.now }
     requires counted { AreCounted nodes.now counters.now }
+    requires searched { AreSearched (sources searches.old) nodes.now }
     requires room { length nodes.now ≤ 64 * length asked.old }
     requires short { length asked.old ≤ 1366 }
     requires below_len { length below.old ≡ length asked.old }
@@ -97,17 +108,20 @@ fn child_passes(
         → PassedBelow known nodes.now asked.old (place_of step.now) (map place_of rest.now) d → PassBelow known nodes.now asked.old (place_of step.now) d }
     ensures complete { (known : ℕ → Doc → Bool) → IsTable nodes.now known
         → ((d : Doc) → option_map (λ t. view t.now) found.entry ≡ Some d → PassBelow known nodes.now asked.old (place_of step.now) d) → result ≡ true }
+    ensures same { sources searches.new ≡ sources searches.old }
 {
     match found {
         None => true,
         Some(value) => {
-            if !name_passes(nodes, counters, step, asked, below, judging, passed, free) {
+            if !name_passes(
+                nodes, counters, searches, step, asked, below, judging, passed, free,
+            ) {
                 return false;
             }
             fill(below, 0);
             collect(nodes, asked, spot_of(step), below);
             along(
-                nodes, counters, value, rest, below, asked, judging, passed, free,
+                nodes, counters, searches, value, rest, below, asked, judging, passed, free,
             )
         }
     }
@@ -117,6 +131,7 @@ fn child_passes(
 fn name_passes(
     nodes: &[Node],
     counters: &Counters,
+    searches: &mut [Search<'_>],
     step: &Step,
     asked: &[u64],
     below: &mut [u64],
@@ -126,12 +141,14 @@ fn name_passes(
 ) -> bool
     requires order { AreOrdered nodes.now }
     requires counted { AreCounted nodes.now counters.now }
+    requires searched { AreSearched (sources searches.old) nodes.now }
     requires room { length nodes.now ≤ 64 * length asked.now }
     requires short { length asked.now ≤ 1366 }
     requires below_len { length below.old ≡ length asked.now }
     requires judging_len { length judging.old ≡ length asked.now }
     requires passed_len { length passed.old ≡ length asked.now }
-    ensures { (known : ℕ → Doc → Bool) → IsTable nodes.now known → Tells result (NamePasses known nodes.now asked.now (place_of step.now)) }
+    ensures value { (known : ℕ → Doc → Bool) → IsTable nodes.now known → Tells result (NamePasses known nodes.now asked.now (place_of step.now)) }
+    ensures same { sources searches.new ≡ sources searches.old }
 {
     match step {
         Step::Name(name) => {
@@ -140,6 +157,7 @@ fn name_passes(
             all_pass(
                 nodes,
                 counters,
+                searches,
                 Instance::Name(name.as_str()),
                 below,
                 judging,

@@ -5,39 +5,45 @@ ghost use Rattle.doc_tree.specs.Place.{place_of};
 ghost use Rattle.doc_tree.specs.TreeView.{view};
 ghost use Rattle.schema_levels.specs.Counters.{AreCounted};
 ghost use Rattle.schema_levels.specs.Nodes.{AreOrdered};
+ghost use Rattle.schema_levels.specs.Searched.{AreSearched};
 ghost use Rattle.schema_levels.specs.Table.{IsTable};
+ghost use Rattle.schema_pattern.specs.Tables.{sources};
 ghost use Rattle.schema_changes.specs.Again.{IsPassedAgain};
 
 use crate::along::along;
 use doc_tree::{Step, Tree};
 use schema_levels::bits::{fill, write};
 use schema_levels::{Counters, MOST_WORDS, Node};
+use schema_pattern::Search;
 
 /// Whether the node with that number passes the value, if it passed one that agrees with it off the location. Takes no
 /// memory: words for 64 levels, or fewer if the nodes are many.
 pub fn passes_again(
     nodes: &[Node],
     counters: &Counters,
+    searches: &mut [Search<'_>],
     number: usize,
     value: &Tree,
     path: &[Step],
 ) -> bool
     requires order { AreOrdered nodes.now }
     requires counted { AreCounted nodes.now counters.now }
+    requires searched { AreSearched (sources searches.old) nodes.now }
     requires number { number < length nodes.now }
     requires room { length nodes.now ≤ 64 * MOST_WORDS }
-    ensures { (known : ℕ → Doc → Bool) → IsTable nodes.now known → IsPassedAgain known number (map place_of path.now) (view value.now) result }
+    ensures value { (known : ℕ → Doc → Bool) → IsTable nodes.now known → IsPassedAgain known number (map place_of path.now) (view value.now) result }
+    ensures same { sources searches.new ≡ sources searches.old }
 {
     let words = (nodes.len() + 63) / 64;
     let level = 4 * words + counters.counted.as_slice().len() / 4;
     if level <= 9 {
-        passes_in::<512>(nodes, counters, number, value, path, words)
+        passes_in::<512>(nodes, counters, searches, number, value, path, words)
     } else if level <= 64 {
-        passes_in::<4096>(nodes, counters, number, value, path, words)
+        passes_in::<4096>(nodes, counters, searches, number, value, path, words)
     } else if level <= 256 {
-        passes_in::<16384>(nodes, counters, number, value, path, words)
+        passes_in::<16384>(nodes, counters, searches, number, value, path, words)
     } else {
-        passes_in::<36864>(nodes, counters, number, value, path, words)
+        passes_in::<36864>(nodes, counters, searches, number, value, path, words)
     }
 }
 
@@ -45,6 +51,7 @@ pub fn passes_again(
 fn passes_in<const N: usize>(
     nodes: &[Node],
     counters: &Counters,
+    searches: &mut [Search<'_>],
     number: usize,
     value: &Tree,
     path: &[Step],
@@ -52,20 +59,25 @@ fn passes_in<const N: usize>(
 ) -> bool
     requires order { AreOrdered nodes.now }
     requires counted { AreCounted nodes.now counters.now }
+    requires searched { AreSearched (sources searches.old) nodes.now }
     requires number { number < length nodes.now }
     requires room { length nodes.now ≤ 64 * words }
     requires short { words ≤ 1366 }
     requires enough { 4 * words ≤ N }
     requires few { N ≤ 36864 }
-    ensures { (known : ℕ → Doc → Bool) → IsTable nodes.now known → IsPassedAgain known number (map place_of path.now) (view value.now) result }
+    ensures value { (known : ℕ → Doc → Bool) → IsTable nodes.now known → IsPassedAgain known number (map place_of path.now) (view value.now) result }
+    ensures same { sources searches.new ≡ sources searches.old }
 {
     let mut block = [0u64; N];
-    passes_within(nodes, counters, number, value, path, words, &mut block)
+    passes_within(
+        nodes, counters, searches, number, value, path, words, &mut block,
+    )
 }
 
 fn passes_within(
     nodes: &[Node],
     counters: &Counters,
+    searches: &mut [Search<'_>],
     number: usize,
     value: &Tree,
     path: &[Step],
@@ -74,11 +86,13 @@ fn passes_within(
 ) -> bool
     requires order { AreOrdered nodes.now }
     requires counted { AreCounted nodes.now counters.now }
+    requires searched { AreSearched (sources searches.old) nodes.now }
     requires number { number < length nodes.now }
     requires room { length nodes.now ≤ 64 * words }
     requires short { words ≤ 1366 }
     requires enough { 4 * words ≤ length free.old }
-    ensures { (known : ℕ → Doc → Bool) → IsTable nodes.now known → IsPassedAgain known number (map place_of path.now) (view value.now) result }
+    ensures value { (known : ℕ → Doc → Bool) → IsTable nodes.now known → IsPassedAgain known number (map place_of path.now) (view value.now) result }
+    ensures same { sources searches.new ≡ sources searches.old }
 {
     let (asked, rest) = free.split_at_mut(words);
     let (below, others) = rest.split_at_mut(words);
@@ -87,6 +101,6 @@ fn passes_within(
     fill(asked, 0);
     write(asked, number, true);
     along(
-        nodes, counters, value, path, asked, below, judging, passed, left,
+        nodes, counters, searches, value, path, asked, below, judging, passed, left,
     )
 }

@@ -6,17 +6,21 @@ ghost use Rattle.schema_levels.specs.Bits.{bit};
 ghost use Rattle.schema_levels.specs.Counters.{AreCounted};
 ghost use Rattle.schema_levels.specs.Levels.{AreJudged};
 ghost use Rattle.schema_levels.specs.Nodes.{AreOrdered};
+ghost use Rattle.schema_levels.specs.Searched.{AreSearched};
 ghost use Rattle.schema_levels.specs.Table.{IsTable};
+ghost use Rattle.schema_pattern.specs.Tables.{sources};
 ghost use Rattle.schema_changes.specs.Again.{AllPass, Tells};
 
 use schema_levels::bits::{bit, next};
 use schema_levels::{Counters, Node, judge_instance};
+use schema_pattern::Search;
 use schema_rules::Instance;
 
 /// Whether the instance passes each node of the set. `judging` and `passed` are written over.
 pub(crate) fn all_pass(
     nodes: &[Node],
     counters: &Counters,
+    searches: &mut [Search<'_>],
     instance: Instance<'_>,
     asked: &[u64],
     judging: &mut [u64],
@@ -25,14 +29,16 @@ pub(crate) fn all_pass(
 ) -> bool
     requires order { AreOrdered nodes.now }
     requires counted { AreCounted nodes.now counters.now }
+    requires searched { AreSearched (sources searches.old) nodes.now }
     requires room { length nodes.now ≤ 64 * length asked.now }
     requires short { length asked.now ≤ 1366 }
     requires judging_len { length judging.old ≡ length asked.now }
     requires passed_len { length passed.old ≡ length asked.now }
-    ensures { (known : ℕ → Doc → Bool) → IsTable nodes.now known → Tells result (AllPass known asked.now (seen instance.entry)) }
+    ensures value { (known : ℕ → Doc → Bool) → IsTable nodes.now known → Tells result (AllPass known asked.now (seen instance.entry)) }
+    ensures same { sources searches.new ≡ sources searches.old }
 {
     judging.copy_from_slice(asked);
-    judge_marked(nodes, counters, instance, judging, passed, free);
+    judge_marked(nodes, counters, searches, instance, judging, passed, free);
     are_within(asked, passed, nodes.len())
 }
 
@@ -40,6 +46,7 @@ pub(crate) fn all_pass(
 pub(crate) fn judge_marked(
     nodes: &[Node],
     counters: &Counters,
+    searches: &mut [Search<'_>],
     instance: Instance<'_>,
     judging: &mut [u64],
     passed: &mut [u64],
@@ -47,13 +54,15 @@ pub(crate) fn judge_marked(
 )
     requires order { AreOrdered nodes.now }
     requires counted { AreCounted nodes.now counters.now }
+    requires searched { AreSearched (sources searches.old) nodes.now }
     requires room { length nodes.now ≤ 64 * length judging.old }
     requires short { length judging.old ≤ 1366 }
     requires passed_len { length passed.old ≡ length judging.old }
-    ensures { AreJudged nodes.now (seen instance.entry) judging.old passed.new }
+    ensures value { AreJudged nodes.now (seen instance.entry) judging.old passed.new }
+    ensures same { sources searches.new ≡ sources searches.old }
 {
     if !is_empty(judging, nodes.len()) {
-        judge_instance(nodes, counters, instance, judging, passed, free);
+        judge_instance(nodes, counters, searches, instance, judging, passed, free);
     }
 }
 

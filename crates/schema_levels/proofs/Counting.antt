@@ -21,7 +21,7 @@ use Rattle.schema_levels.specs.Table.{IsTable, items_from, lower, rules_together
 use Rattle.schema_levels.specs.declared.counters.Counters.{Counters}
 use Rattle.schema_levels.specs.declared.node.Node.{Node}
 use Rattle.schema_levels.specs.declared.node.Rule.{Rule}
-use Rattle.schema_levels.specs.declared.node.Rule.TheVariants.{Says, Asserts, All, Any, One, Not, Then, Else, Refers, Properties, Others, Names, ByPlace, Rest, Contains, AtLeast, AtMost}
+use Rattle.schema_levels.specs.declared.node.Rule.TheVariants.{Says, Asserts, Matches, All, Any, One, Not, Then, Else, Dependent, Refers, Properties, Others, Names, ByPlace, Rest, Contains, AtLeast, AtMost}
 use Rattle.schema_levels.proofs.Giving.{is_it}
 use Rattle.schema_levels.proofs.Marks.{bit_same, bit_other, set_len}
 use Rattle.schema_levels.proofs.Folding.{none_clear, zero_at}
@@ -252,12 +252,14 @@ looked_below : (x : Node) (n j : ℕ) (rs : List Rule) → In j (all_looked rs) 
 looked_below x n j [] i = none_in j i
 looked_below x n j (Says b ∷ rs) at = In-right j (option_to_list (below x (Says b) (index n))) _ (looked_below x n j rs at)
 looked_below x n j (Asserts a ∷ rs) at = In-right j (option_to_list (below x (Asserts a) (index n))) _ (looked_below x n j rs at)
+looked_below x n j (Matches m v ∷ rs) at = In-right j (option_to_list (below x (Matches m v) (index n))) _ (looked_below x n j rs at)
 looked_below x n j (All v ∷ rs) at = In-right j (option_to_list (below x (All v) (index n))) _ (looked_below x n j rs at)
 looked_below x n j (Any v ∷ rs) at = In-right j (option_to_list (below x (Any v) (index n))) _ (looked_below x n j rs at)
 looked_below x n j (One v ∷ rs) at = In-right j (option_to_list (below x (One v) (index n))) _ (looked_below x n j rs at)
 looked_below x n j (Not i ∷ rs) at = In-right j (option_to_list (below x (Not i) (index n))) _ (looked_below x n j rs at)
 looked_below x n j (Then m i ∷ rs) at = In-right j (option_to_list (below x (Then m i) (index n))) _ (looked_below x n j rs at)
 looked_below x n j (Else m i ∷ rs) at = In-right j (option_to_list (below x (Else m i) (index n))) _ (looked_below x n j rs at)
+looked_below x n j (Dependent ns v ∷ rs) at = In-right j (option_to_list (below x (Dependent ns v) (index n))) _ (looked_below x n j rs at)
 looked_below x n j (Refers i ∷ rs) at = In-right j (option_to_list (below x (Refers i) (index n))) _ (looked_below x n j rs at)
 looked_below x n j (Properties ∷ rs) at = In-right j (option_to_list (below x Properties (index n))) _ (looked_below x n j rs at)
 looked_below x n j (Others i ∷ rs) at = In-right j (option_to_list (below x (Others i) (index n))) _ (looked_below x n j rs at)
@@ -276,12 +278,14 @@ within_ranks : (cs : Counters) (j : ℕ) (rs : List Rule) → HaveCounters cs rs
 within_ranks cs j [] h i = none_in j i
 within_ranks cs j (Says b ∷ rs) h at = within_ranks cs j rs h.1 at
 within_ranks cs j (Asserts a ∷ rs) h at = within_ranks cs j rs h.1 at
+within_ranks cs j (Matches n v ∷ rs) h at = within_ranks cs j rs h.1 at
 within_ranks cs j (All v ∷ rs) h at = within_ranks cs j rs h.1 at
 within_ranks cs j (Any v ∷ rs) h at = within_ranks cs j rs h.1 at
 within_ranks cs j (One v ∷ rs) h at = within_ranks cs j rs h.1 at
 within_ranks cs j (Not i ∷ rs) h at = within_ranks cs j rs h.1 at
 within_ranks cs j (Then n i ∷ rs) h at = within_ranks cs j rs h.1 at
 within_ranks cs j (Else n i ∷ rs) h at = within_ranks cs j rs h.1 at
+within_ranks cs j (Dependent ns v ∷ rs) h at = within_ranks cs j rs h.1 at
 within_ranks cs j (Refers i ∷ rs) h at = within_ranks cs j rs h.1 at
 within_ranks cs j (Properties ∷ rs) h at = within_ranks cs j rs h.1 at
 within_ranks cs j (Others i ∷ rs) h at = within_ranks cs j rs h.1 at
@@ -384,12 +388,14 @@ rules_agree : (cs : Counters) (narrow : Bool) (found known_found : ℕ → Bool)
 rules_agree cs narrow found f counts m [] h agree = refl
 rules_agree cs narrow found f counts m (Says b ∷ rs) h agree = rules_agree cs narrow found f counts m rs h.1 agree
 rules_agree cs narrow found f counts m (Asserts a ∷ rs) h agree = rules_agree cs narrow found f counts m rs h.1 agree
+rules_agree cs narrow found f counts m (Matches n v ∷ rs) h agree = rules_agree cs narrow found f counts m rs h.1 agree
 rules_agree cs narrow found f counts m (All v ∷ rs) h agree = rules_agree cs narrow found f counts m rs h.1 agree
 rules_agree cs narrow found f counts m (Any v ∷ rs) h agree = rules_agree cs narrow found f counts m rs h.1 agree
 rules_agree cs narrow found f counts m (One v ∷ rs) h agree = rules_agree cs narrow found f counts m rs h.1 agree
 rules_agree cs narrow found f counts m (Not i ∷ rs) h agree = rules_agree cs narrow found f counts m rs h.1 agree
 rules_agree cs narrow found f counts m (Then n i ∷ rs) h agree = rules_agree cs narrow found f counts m rs h.1 agree
 rules_agree cs narrow found f counts m (Else n i ∷ rs) h agree = rules_agree cs narrow found f counts m rs h.1 agree
+rules_agree cs narrow found f counts m (Dependent ns v ∷ rs) h agree = rules_agree cs narrow found f counts m rs h.1 agree
 rules_agree cs narrow found f counts m (Refers i ∷ rs) h agree = rules_agree cs narrow found f counts m rs h.1 agree
 rules_agree cs narrow found f counts m (Properties ∷ rs) h agree = rules_agree cs narrow found f counts m rs h.1 agree
 rules_agree cs narrow found f counts m (Others i ∷ rs) h agree = rules_agree cs narrow found f counts m rs h.1 agree

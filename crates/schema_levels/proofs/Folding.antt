@@ -19,7 +19,7 @@ use Rattle.schema_levels.specs.Table.{Child, child_at, children, items_from, mem
 use Rattle.schema_levels.specs.Levels.{AreJudged, AreFolded, AreKept, AreLowered, AreTold, AskNothing}
 use Rattle.schema_levels.specs.declared.node.Node.{Node}
 use Rattle.schema_levels.specs.declared.node.Rule.{Rule}
-use Rattle.schema_levels.specs.declared.node.Rule.TheVariants.{Says, Asserts, All, Any, One, Not, Then, Else, Refers, Properties, Others, Names, ByPlace, Rest, Contains, AtLeast, AtMost}
+use Rattle.schema_levels.specs.declared.node.Rule.TheVariants.{Says, Asserts, Matches, All, Any, One, Not, Then, Else, Dependent, Refers, Properties, Others, Names, ByPlace, Rest, Contains, AtLeast, AtMost}
 use Rattle.schema_levels.proofs.Sweeps.{sweep_len, collect_in}
 use Rattle.schema_levels.proofs.Tables.{and_true, and_assoc, fold_is, lead_from, rules_at_get, within_get, settled_is}
 use Rattle.schema_levels.proofs.Closing.{Falls, LeadsIn, close_leads, close_keeps}
@@ -39,12 +39,14 @@ found_none (Some j) known h = absurd (h j first)
 rule_none : (x : Node) (p : PlaceInValue) (known : ℕ → Bool) (r : Rule) → ((j : ℕ) → In j (option_to_list (below x r p)) → ⊥) → rule_below known x r p ≡ true
 rule_none x p known (Says b) h = found_none (below x (Says b) p) known h
 rule_none x p known (Asserts a) h = found_none (below x (Asserts a) p) known h
+rule_none x p known (Matches n v) h = found_none (below x (Matches n v) p) known h
 rule_none x p known (All v) h = found_none (below x (All v) p) known h
 rule_none x p known (Any v) h = found_none (below x (Any v) p) known h
 rule_none x p known (One v) h = found_none (below x (One v) p) known h
 rule_none x p known (Not j) h = found_none (below x (Not j) p) known h
 rule_none x p known (Then n j) h = found_none (below x (Then n j) p) known h
 rule_none x p known (Else n j) h = found_none (below x (Else n j) p) known h
+rule_none x p known (Dependent ns v) h = found_none (below x (Dependent ns v) p) known h
 rule_none x p known (Refers j) h = found_none (below x (Refers j) p) known h
 rule_none x p known Properties h = found_none (below x Properties p) known h
 rule_none x p known (Others j) h = found_none (below x (Others j) p) known h

@@ -7,7 +7,7 @@ use Rattle.schema_levels.specs.Counters.{counter, is_number, owns, HasCounter, H
 use Rattle.schema_levels.specs.declared.counters.Counters.{Counters}
 use Rattle.schema_levels.specs.declared.node.Node.{Node}
 use Rattle.schema_levels.specs.declared.node.Rule.{Rule}
-use Rattle.schema_levels.specs.declared.node.Rule.TheVariants.{Says, Asserts, All, Any, One, Not, Then, Else, Refers, Properties, Others, Names, ByPlace, Rest, Contains, AtLeast, AtMost}
+use Rattle.schema_levels.specs.declared.node.Rule.TheVariants.{Says, Asserts, Matches, All, Any, One, Not, Then, Else, Dependent, Refers, Properties, Others, Names, ByPlace, Rest, Contains, AtLeast, AtMost}
 
 pub if_ok : {A E : Type 0} {P Q : A → Type 0} (r : Result A E) → ((a : A) → P a → Q a) → IfOk r P → IfOk r Q
 if_ok (Ok a) f h = f a h
@@ -25,12 +25,14 @@ rule_kept a b (AtLeast j v) h i = (omega (arith, i.0, h.ranks), h.owners j i.1)
 rule_kept a b (AtMost j v) h i = (omega (arith, i.0, h.ranks), h.owners j i.1)
 rule_kept a b (Says x) h i = tt
 rule_kept a b (Asserts s) h i = tt
+rule_kept a b (Matches n v) h i = tt
 rule_kept a b (All v) h i = tt
 rule_kept a b (Any v) h i = tt
 rule_kept a b (One v) h i = tt
 rule_kept a b (Not j) h i = tt
 rule_kept a b (Then n j) h i = tt
 rule_kept a b (Else n j) h i = tt
+rule_kept a b (Dependent ns v) h i = tt
 rule_kept a b (Refers j) h i = tt
 rule_kept a b Properties h i = tt
 rule_kept a b (Others j) h i = tt

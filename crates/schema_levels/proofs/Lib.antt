@@ -8,3 +8,5 @@ pub mod Words
 pub mod Skips
 pub mod Counting
 pub mod Giving
+pub mod Searching
+pub mod Presence

@@ -1,11 +1,11 @@
 -- What one way over the nodes makes of their answers.
-use Rattle.std.proofs.Common.{◌≡◌, ◌≢◌, ℕ, zero, suc, ◌+◌, ◌<◌, List, [], ◌∷◌, ◌++◌, map, Bool, true, false, ◌&&◌, length, Option, Some, None, refl, sym, ap, ap₂, subst, ◌∙◌, if◌then◌else◌, arith}
+use Rattle.std.proofs.Common.{◌≡◌, ◌≢◌, ℕ, zero, suc, ◌+◌, ◌<◌, List, [], ◌∷◌, ◌++◌, map, string_bytes, Bool, true, false, ◌&&◌, length, Option, Some, None, refl, sym, ap, ap₂, subst, ◌∙◌, if◌then◌else◌, arith}
 use Rattle.std.specs.Option.{option_to_list}
 use Rattle.doc_tree.specs.Doc.{Doc}
 use Rattle.schema_levels.specs.PlaceInValue.{PlaceInValue}
 use Rattle.schema_graph.specs.Walks.{In, first, later}
 use Rattle.schema_graph.proofs.Among.{In-left, In-right, none_in}
-use Rattle.schema_rules.specs.Rules.{every, some}
+use Rattle.schema_rules.specs.Rules.{every, some, where_present}
 use Rattle.schema_levels.specs.Bits.{bit, put, size}
 use Rattle.schema_levels.specs.Closure.{here}
 use Rattle.schema_levels.specs.Below.{below, found_passes, rule_below, rules_below, mark_found, collect_rules, collect}
@@ -14,7 +14,7 @@ use Rattle.schema_levels.specs.EachInSet.{sweep}
 use Rattle.schema_levels.specs.Nodes.{node_get, asked_here, asked_below}
 use Rattle.schema_levels.specs.declared.node.Node.{Node}
 use Rattle.schema_levels.specs.declared.node.Rule.{Rule}
-use Rattle.schema_levels.specs.declared.node.Rule.TheVariants.{Says, Asserts, All, Any, One, Not, Then, Else, Refers, Properties, Others, Names, ByPlace, Rest, Contains, AtLeast, AtMost}
+use Rattle.schema_levels.specs.declared.node.Rule.TheVariants.{Says, Asserts, Matches, All, Any, One, Not, Then, Else, Dependent, Refers, Properties, Others, Names, ByPlace, Rest, Contains, AtLeast, AtMost}
 use Rattle.schema_levels.proofs.Marks.{bit_same, bit_other, set_len, stays}
 
 module _ (says : List ℕ → Node → Bool) (asked : List ℕ) where
@@ -138,9 +138,11 @@ rule_agrees f g t (One v) h = rw (map_agree f g v.items h) refl
 rule_agrees f g t (Not j) h = rw (h j first) refl
 rule_agrees f g t (Then c j) h = rw (h c first, h j (later first)) refl
 rule_agrees f g t (Else c j) h = rw (h c first, h j (later first)) refl
+rule_agrees f g t (Dependent ns v) h = ap (where_present (map string_bytes ns.items) t) (map_agree f g v.items h)
 rule_agrees f g t (Refers j) h = h j first
 rule_agrees f g t (Says b) h = refl
 rule_agrees f g t (Asserts a) h = refl
+rule_agrees f g t (Matches n v) h = refl
 rule_agrees f g t Properties h = refl
 rule_agrees f g t (Others j) h = refl
 rule_agrees f g t (Names j) h = refl
@@ -161,12 +163,14 @@ found_agrees f g (Some j) h = h j first
 rule_below_agrees : (f g : ℕ → Bool) (x : Node) (p : PlaceInValue) (r : Rule) → ((j : ℕ) → In j (option_to_list (below x r p)) → f j ≡ g j) → rule_below f x r p ≡ rule_below g x r p
 rule_below_agrees f g x p (Says b) h = found_agrees f g (below x (Says b) p) h
 rule_below_agrees f g x p (Asserts a) h = found_agrees f g (below x (Asserts a) p) h
+rule_below_agrees f g x p (Matches n v) h = found_agrees f g (below x (Matches n v) p) h
 rule_below_agrees f g x p (All v) h = found_agrees f g (below x (All v) p) h
 rule_below_agrees f g x p (Any v) h = found_agrees f g (below x (Any v) p) h
 rule_below_agrees f g x p (One v) h = found_agrees f g (below x (One v) p) h
 rule_below_agrees f g x p (Not j) h = found_agrees f g (below x (Not j) p) h
 rule_below_agrees f g x p (Then n j) h = found_agrees f g (below x (Then n j) p) h
 rule_below_agrees f g x p (Else n j) h = found_agrees f g (below x (Else n j) p) h
+rule_below_agrees f g x p (Dependent ns v) h = found_agrees f g (below x (Dependent ns v) p) h
 rule_below_agrees f g x p (Refers j) h = found_agrees f g (below x (Refers j) p) h
 rule_below_agrees f g x p Properties h = found_agrees f g (below x Properties p) h
 rule_below_agrees f g x p (Others j) h = found_agrees f g (below x (Others j) p) h

@@ -1,5 +1,5 @@
 -- What the nodes say together of a value and of its children.
-use Rattle.std.proofs.Common.{◌≡◌, ◌≢◌, ℕ, zero, suc, ◌+◌, ◌==◌, ◌<◌, ◌≤◌, ⊎_elim, List, [], ◌∷◌, ◌++◌, map, Bool, true, false, not, ◌&&◌, length, Option, Some, None, refl, sym, ap, ap₂, subst, ◌∙◌, if◌then◌else◌, arith}
+use Rattle.std.proofs.Common.{◌≡◌, ◌≢◌, ℕ, zero, suc, ◌+◌, ◌==◌, ◌<◌, ◌≤◌, ⊎_elim, List, [], ◌∷◌, ◌++◌, map, string_bytes, Bool, true, false, not, ◌&&◌, length, Option, Some, None, refl, sym, ap, ap₂, subst, ◌∙◌, if◌then◌else◌, arith}
 use Rattle.doc_tree.specs.Doc.{Doc, null, boolean, int, text, list, object, Elements, no_elements, element}
 use Rattle.doc_tree.specs.Lists.{elements_list}
 use Rattle.doc_tree.specs.TreeView.{view}
@@ -9,7 +9,7 @@ use Rattle.schema_levels.specs.PlaceInValue.{PlaceInValue, index}
 use Rattle.schema_levels.specs.Counters.{rule_says}
 use Rattle.schema_graph.specs.Walks.{In}
 use Rattle.schema_graph.proofs.Numbers.{same_or_not}
-use Rattle.schema_rules.specs.Rules.{every, some, how_many, where_true, where_false}
+use Rattle.schema_rules.specs.Rules.{every, some, how_many, where_true, where_false, where_present}
 use Rattle.schema_levels.specs.Bits.{bit, put, size}
 use Rattle.schema_levels.specs.Closure.{here, rules_at}
 use Rattle.schema_levels.specs.Below.{below, found_passes, rule_below, rules_below, collect, fold}
@@ -18,7 +18,7 @@ use Rattle.schema_levels.specs.Nodes.{node_get, asked_here, AreOrdered}
 use Rattle.schema_levels.specs.Table.{Child, children, ask_found, ask_children, ask_here, joined_by, rule_of, told_by, rules_pass, node_passes, passes_at, IsTable, items_from, rules_lower, rules_together, lower, said}
 use Rattle.schema_levels.specs.declared.node.Node.{Node}
 use Rattle.schema_levels.specs.declared.node.Rule.{Rule}
-use Rattle.schema_levels.specs.declared.node.Rule.TheVariants.{Says, Asserts, All, Any, One, Not, Then, Else, Refers, Properties, Others, Names, ByPlace, Rest, Contains, AtLeast, AtMost}
+use Rattle.schema_levels.specs.declared.node.Rule.TheVariants.{Says, Asserts, Matches, All, Any, One, Not, Then, Else, Dependent, Refers, Properties, Others, Names, ByPlace, Rest, Contains, AtLeast, AtMost}
 use Rattle.schema_levels.proofs.Sweeps.{one_len, one_other, one_same, sweep_at, collect_in, here_agrees, below_agrees}
 use Rattle.schema_levels.proofs.Closing.{LeadsIn}
 
@@ -168,12 +168,14 @@ module _ (known : ℕ → Doc → Bool) (x : Node) where
     pub rule_join : (r : Rule) → joined_by r t (told_by known (ask_here (here r) t ++ ask_children x r (children t))) ≡ (rule_here (λ j. known j t) t r && (rule_lower known x r (children t) && rule_together known r t))
     rule_join (Says b) = child_by_child (Says b) _ (rule_here (λ j. known j t) t (Says b)) (λ f m. refl) (alone (Says b) b (λ f p. refl))
     rule_join (Asserts a) = child_by_child (Asserts a) _ (rule_here (λ j. known j t) t (Asserts a)) (λ f m. refl) (alone (Asserts a) _ (λ f p. refl))
+    rule_join (Matches n v) = child_by_child (Matches n v) _ (rule_here (λ j. known j t) t (Matches n v)) (λ f m. refl) (alone (Matches n v) _ (λ f p. refl))
     rule_join (All v) = child_by_child (All v) _ (rule_here (λ j. known j t) t (All v)) (λ f m. refl) (ap every (told_alone (All v) (λ p. refl)) ∙ alone (All v) _ (λ f p. refl))
     rule_join (Any v) = child_by_child (Any v) _ (rule_here (λ j. known j t) t (Any v)) (λ f m. refl) (ap some (told_alone (Any v) (λ p. refl)) ∙ alone (Any v) _ (λ f p. refl))
     rule_join (One v) = child_by_child (One v) _ (rule_here (λ j. known j t) t (One v)) (λ f m. refl) (ap (λ bs. how_many bs == 1) (told_alone (One v) (λ p. refl)) ∙ alone (One v) _ (λ f p. refl))
     rule_join (Not j) = child_by_child (Not j) _ (rule_here (λ j. known j t) t (Not j)) (λ f m. refl) (ap (λ bs. not (every bs)) (told_alone (Not j) (λ p. refl)) ∙ ap not (and_true (known j t)) ∙ alone (Not j) _ (λ f p. refl))
     rule_join (Then n j) = child_by_child (Then n j) _ (rule_here (λ j. known j t) t (Then n j)) (λ f m. refl) (ap where_true (told_alone (Then n j) (λ p. refl)) ∙ alone (Then n j) _ (λ f p. refl))
     rule_join (Else n j) = child_by_child (Else n j) _ (rule_here (λ j. known j t) t (Else n j)) (λ f m. refl) (ap where_false (told_alone (Else n j) (λ p. refl)) ∙ alone (Else n j) _ (λ f p. refl))
+    rule_join (Dependent ns v) = child_by_child (Dependent ns v) _ (rule_here (λ j. known j t) t (Dependent ns v)) (λ f m. refl) (ap (where_present (map string_bytes ns.items) t) (told_alone (Dependent ns v) (λ p. refl)) ∙ alone (Dependent ns v) _ (λ f p. refl))
     rule_join (Refers j) = child_by_child (Refers j) _ (rule_here (λ j. known j t) t (Refers j)) (λ f m. refl) (ap every (told_alone (Refers j) (λ p. refl)) ∙ and_true (known j t) ∙ alone (Refers j) _ (λ f p. refl))
     rule_join Properties = child_by_child Properties _ true (λ f m. refl) (every_lower Properties (λ f p. refl) (children t))
     rule_join (Others j) = child_by_child (Others j) _ true (λ f m. refl) (every_lower (Others j) (λ f p. refl) (children t))

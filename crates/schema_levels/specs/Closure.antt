@@ -3,7 +3,7 @@ use Rattle.std.specs.Prelude.{ℕ, zero, suc, List, [], ◌∷◌, if◌then◌e
 use Rattle.schema_levels.specs.Bits.{bit, mark_all}
 use Rattle.schema_levels.specs.declared.node.Node.{Node}
 use Rattle.schema_levels.specs.declared.node.Rule.{Rule}
-use Rattle.schema_levels.specs.declared.node.Rule.TheVariants.{All, Any, One, Not, Then, Else, Refers}
+use Rattle.schema_levels.specs.declared.node.Rule.TheVariants.{All, Any, One, Not, Then, Else, Dependent, Refers}
 
 -- the nodes that a rule asks of the value itself
 abbrev pub here : Rule → List ℕ
@@ -13,6 +13,7 @@ here (One v) = v.items
 here (Not j) = j ∷ []
 here (Then c j) = c ∷ j ∷ []
 here (Else c j) = c ∷ j ∷ []
+here (Dependent names v) = v.items
 here (Refers j) = j ∷ []
 here _ = []
 

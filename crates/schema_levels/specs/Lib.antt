@@ -7,5 +7,6 @@ pub mod Conclude
 pub mod Below
 pub mod Counters
 pub mod Nodes
+pub mod Searched
 pub mod Table
 pub mod Levels

@@ -1,19 +1,20 @@
 -- The answers of numbered nodes on a value, if it is known what each says of each value.
-use Rattle.std.specs.Prelude.{◌≡◌, ◌==◌, ℕ, zero, suc, List, [], ◌∷◌, ◌++◌, map, Bool, true, not, ◌&&◌, Option, Some, None}
+use Rattle.std.specs.Prelude.{◌≡◌, ◌==◌, ℕ, zero, suc, List, [], ◌∷◌, ◌++◌, map, string_bytes, Bool, true, not, ◌&&◌, Option, Some, None}
 use Rattle.doc_tree.specs.Doc.{Doc, text, list, object, Elements, no_elements, element, Members, no_members, member}
 use Rattle.schema_levels.specs.PlaceInValue.{PlaceInValue, name, index, member_name}
 use Rattle.doc_tree.specs.Lists.{elements_list}
 use Rattle.doc_tree.specs.TreeView.{view}
 use Rattle.schema_rules.specs.Holds.{holds}
+use Rattle.schema_rules.specs.Patterns.{fits}
 use Rattle.schema_rules.specs.Assertions.{at_least, at_most, on_list}
-use Rattle.schema_rules.specs.Rules.{every, some, how_many, where_true, where_false}
+use Rattle.schema_rules.specs.Rules.{every, some, how_many, where_true, where_false, where_present}
 use Rattle.schema_levels.specs.Counters.{rules_say}
 use Rattle.schema_levels.specs.Rules as alone
 use Rattle.schema_levels.specs.Closure.{here}
 use Rattle.schema_levels.specs.Below.{below, rules_below}
 use Rattle.schema_levels.specs.declared.node.Node.{Node}
 use Rattle.schema_levels.specs.declared.node.Rule.{Rule}
-use Rattle.schema_levels.specs.declared.node.Rule.TheVariants.{Says, Asserts, Any, One, Not, Then, Else, Contains, AtLeast, AtMost}
+use Rattle.schema_levels.specs.declared.node.Rule.TheVariants.{Says, Asserts, Matches, Any, One, Not, Then, Else, Dependent, Contains, AtLeast, AtMost}
 
 -- ---- children
 
@@ -60,11 +61,13 @@ ask_here (j ∷ js) t = (j, t) ∷ ask_here js t
 abbrev pub joined_by : Rule → Doc → List Bool → Bool
 joined_by (Says b) t answers = b
 joined_by (Asserts a) t answers = holds a t
+joined_by (Matches n v) t answers = fits (view v) t
 joined_by (Any v) t answers = some answers
 joined_by (One v) t answers = how_many answers == 1
 joined_by (Not j) t answers = not (every answers)
 joined_by (Then c j) t answers = where_true answers
 joined_by (Else c j) t answers = where_false answers
+joined_by (Dependent names v) t answers = where_present (map string_bytes names.items) t answers
 joined_by (Contains j) t answers = on_list (λ _. some answers) t
 joined_by (AtLeast j v) t answers = on_list (λ _. at_least (view v) (how_many answers)) t
 joined_by (AtMost j v) t answers = on_list (λ _. at_most (view v) (how_many answers)) t

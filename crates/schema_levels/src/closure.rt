@@ -41,6 +41,7 @@ fn mark_rule(rule: &Rule, asked: &mut [u64])
             write(asked, *condition, true);
             write(asked, *number, true);
         }
+        Rule::Dependent(_, numbers) => mark_each(numbers, asked),
         Rule::Refers(number) => write(asked, *number, true),
         _ => {}
     }

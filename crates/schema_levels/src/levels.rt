@@ -8,6 +8,8 @@ ghost use Rattle.schema_levels.specs.Below.{seen as place};
 ghost use Rattle.schema_levels.specs.Counters.{AreCounted, most, width};
 ghost use Rattle.schema_levels.specs.Levels.{AreJudged, AreKept, AreFolded, AreLowered, AreTold, AskNothing};
 ghost use Rattle.schema_levels.specs.Nodes.{AreOrdered};
+ghost use Rattle.schema_levels.specs.Searched.{AreSearched};
+ghost use Rattle.schema_pattern.specs.Tables.{sources};
 ghost use Rattle.schema_levels.specs.Table.{child_at, members_each};
 
 use crate::below::{collect, fold};
@@ -20,6 +22,7 @@ use crate::named::{fold_names, judge_name};
 use crate::node::{ChildPlace, Node};
 use doc_tree::Tree;
 use name_map::NameMap;
+use schema_pattern::Search;
 use schema_rules::Instance;
 
 // How many words a block has: enough for one level of any schema, and for eight of the largest.
@@ -32,6 +35,7 @@ const WIDE: usize = 65_536;
 pub fn judge_instance(
     nodes: &[Node],
     counters: &Counters,
+    searches: &mut [Search<'_>],
     instance: Instance<'_>,
     asked: &mut [u64],
     passed: &mut [u64],
@@ -39,14 +43,16 @@ pub fn judge_instance(
 )
     requires order { AreOrdered nodes.now }
     requires counted { AreCounted nodes.now counters.now }
+    requires searched { AreSearched (sources searches.old) nodes.now }
     requires room { length nodes.now ≤ 64 * length asked.old }
     requires short { length asked.old ≤ 1366 }
     requires passed_len { length passed.old ≡ length asked.old }
     ensures judged { AreJudged nodes.now (seen instance.entry) asked.old passed.new }
+    ensures same { sources searches.new ≡ sources searches.old }
 {
     match instance {
-        Instance::Value(value) => judge(nodes, counters, value, asked, passed, free),
-        Instance::Name(name) => judge_name(nodes, name, asked, passed),
+        Instance::Value(value) => judge(nodes, counters, searches, value, asked, passed, free),
+        Instance::Name(name) => judge_name(nodes, searches, name, asked, passed),
     }
 }
 
@@ -55,6 +61,7 @@ pub fn judge_instance(
 fn judge(
     nodes: &[Node],
     counters: &Counters,
+    searches: &mut [Search<'_>],
     instance: &Tree,
     asked: &mut [u64],
     passed: &mut [u64],
@@ -62,16 +69,18 @@ fn judge(
 )
     requires order { AreOrdered nodes.now }
     requires counted { AreCounted nodes.now counters.now }
+    requires searched { AreSearched (sources searches.old) nodes.now }
     requires room { length nodes.now ≤ 64 * length asked.old }
     requires short { length asked.old ≤ 1366 }
     requires passed_len { length passed.old ≡ length asked.old }
     ensures judged { AreJudged nodes.now (view instance.now) asked.old passed.new }
     ensures kept { AreKept nodes.now asked.old asked.new }
+    ensures same { sources searches.new ≡ sources searches.old }
 {
     close(nodes, asked);
     fill(passed, u64::MAX);
-    lower(nodes, counters, instance, asked, passed, free);
-    conclude(nodes, Instance::Value(instance), asked, passed);
+    lower(nodes, counters, searches, instance, asked, passed, free);
+    conclude(nodes, searches, Instance::Value(instance), asked, passed);
 }
 
 // Judges the children, and joins what is said of them to the answers of the asked nodes.
@@ -79,6 +88,7 @@ fn judge(
 fn lower(
     nodes: &[Node],
     counters: &Counters,
+    searches: &mut [Search<'_>],
     instance: &Tree,
     asked: &[u64],
     passed: &mut [u64],
@@ -86,21 +96,23 @@ fn lower(
 )
     requires order { AreOrdered nodes.now }
     requires counted { AreCounted nodes.now counters.now }
+    requires searched { AreSearched (sources searches.old) nodes.now }
     requires room { length nodes.now ≤ 64 * length asked.now }
     requires short { length asked.now ≤ 1366 }
     requires passed_len { length passed.old ≡ length asked.now }
     ensures lowered { AreLowered nodes.now asked.now (view instance.now) passed.old passed.new }
+    ensures same { sources searches.new ≡ sources searches.old }
 {
     match instance {
         Tree::List(items) => if free.len() < 3 * asked.len() + width(counters, items.len() < WIDE) {
-            lower_in_a_block(nodes, counters, instance, asked, passed)
+            lower_in_a_block(nodes, counters, searches, instance, asked, passed)
         } else {
-            lower_items(nodes, counters, items, asked, passed, free)
+            lower_items(nodes, counters, searches, items, asked, passed, free)
         },
         Tree::Object(members) => if free.len() < 2 * asked.len() {
-            lower_in_a_block(nodes, counters, instance, asked, passed)
+            lower_in_a_block(nodes, counters, searches, instance, asked, passed)
         } else {
-            lower_members(nodes, counters, members, asked, passed, free)
+            lower_members(nodes, counters, searches, members, asked, passed, free)
         },
         _ => {}
     }
@@ -113,21 +125,28 @@ fn lower(
 fn lower_in_a_block(
     nodes: &[Node],
     counters: &Counters,
+    searches: &mut [Search<'_>],
     instance: &Tree,
     asked: &[u64],
     passed: &mut [u64],
 )
     requires order { AreOrdered nodes.now }
     requires counted { AreCounted nodes.now counters.now }
+    requires searched { AreSearched (sources searches.old) nodes.now }
     requires room { length nodes.now ≤ 64 * length asked.now }
     requires short { length asked.now ≤ 1366 }
     requires passed_len { length passed.old ≡ length asked.now }
     ensures lowered { AreLowered nodes.now asked.now (view instance.now) passed.old passed.new }
+    ensures same { sources searches.new ≡ sources searches.old }
 {
     let mut block = [0u64; BLOCK];
     match instance {
-        Tree::List(items) => lower_items(nodes, counters, items, asked, passed, &mut block),
-        Tree::Object(members) => lower_members(nodes, counters, members, asked, passed, &mut block),
+        Tree::List(items) => lower_items(
+            nodes, counters, searches, items, asked, passed, &mut block,
+        ),
+        Tree::Object(members) => lower_members(
+            nodes, counters, searches, members, asked, passed, &mut block,
+        ),
         _ => {}
     }
 }
@@ -137,6 +156,7 @@ fn lower_in_a_block(
 fn lower_items(
     nodes: &[Node],
     counters: &Counters,
+    searches: &mut [Search<'_>],
     items: &Vec<Tree>,
     asked: &[u64],
     passed: &mut [u64],
@@ -144,16 +164,18 @@ fn lower_items(
 )
     requires order { AreOrdered nodes.now }
     requires counted { AreCounted nodes.now counters.now }
+    requires searched { AreSearched (sources searches.old) nodes.now }
     requires room { length nodes.now ≤ 64 * length asked.now }
     requires short { length asked.now ≤ 1366 }
     requires passed_len { length passed.old ≡ length asked.now }
     requires enough { 3 * length asked.now + width (nat_lt (length items.now.items) 65536) (length counters.now.counted.items) ≤ length free.old }
     ensures lowered { AreLowered nodes.now asked.now (list (elements_view items.now.items)) passed.old passed.new }
+    ensures same { sources searches.new ≡ sources searches.old }
 {
     if items.len() < WIDE {
-        fold_items(nodes, counters, true, items, asked, passed, free)
+        fold_items(nodes, counters, searches, true, items, asked, passed, free)
     } else {
-        fold_items(nodes, counters, false, items, asked, passed, free)
+        fold_items(nodes, counters, searches, false, items, asked, passed, free)
     }
 }
 
@@ -161,6 +183,7 @@ fn lower_items(
 fn fold_items(
     nodes: &[Node],
     counters: &Counters,
+    searches: &mut [Search<'_>],
     narrow: bool,
     items: &Vec<Tree>,
     asked: &[u64],
@@ -169,12 +192,14 @@ fn fold_items(
 )
     requires order { AreOrdered nodes.now }
     requires counted { AreCounted nodes.now counters.now }
+    requires searched { AreSearched (sources searches.old) nodes.now }
     requires room { length nodes.now ≤ 64 * length asked.now }
     requires short { length asked.now ≤ 1366 }
     requires passed_len { length passed.old ≡ length asked.now }
     requires many { length items.now.items ≤ most narrow }
     requires enough { 3 * length asked.now + width narrow (length counters.now.counted.items) ≤ length free.old }
     ensures lowered { AreLowered nodes.now asked.now (list (elements_view items.now.items)) passed.old passed.new }
+    ensures same { sources searches.new ≡ sources searches.old }
 {
     let words = asked.len();
     let (sets, rest) = free.split_at_mut(3 * words);
@@ -187,6 +212,7 @@ fn fold_items(
     fold_each_item(
         nodes,
         counters,
+        searches,
         narrow,
         items,
         asked,
@@ -204,6 +230,7 @@ fn fold_items(
 fn fold_each_item(
     nodes: &[Node],
     counters: &Counters,
+    searches: &mut [Search<'_>],
     narrow: bool,
     items: &Vec<Tree>,
     asked: &[u64],
@@ -216,6 +243,7 @@ fn fold_each_item(
 )
     requires order { AreOrdered nodes.now }
     requires counted { AreCounted nodes.now counters.now }
+    requires searched { AreSearched (sources searches.old) nodes.now }
     requires room { length nodes.now ≤ 64 * length asked.now }
     requires short { length asked.now ≤ 1366 }
     requires passed_len { length passed.old ≡ length asked.now }
@@ -225,11 +253,13 @@ fn fold_each_item(
     requires found { found.old ≡ replicate (length asked.now) 0 }
     requires counts { counts.old ≡ replicate (width narrow (length counters.now.counted.items)) 0 }
     ensures lowered { AreLowered nodes.now asked.now (list (elements_view items.now.items)) passed.old passed.new }
+    ensures same { sources searches.new ≡ sources searches.old }
 {
     for (index, item) in items.iter().enumerate() {
         if fold_child(
             nodes,
             counters,
+            searches,
             item,
             ChildPlace::Index(index),
             asked,
@@ -250,6 +280,7 @@ fn fold_each_item(
 fn lower_members(
     nodes: &[Node],
     counters: &Counters,
+    searches: &mut [Search<'_>],
     members: &NameMap<Tree>,
     asked: &[u64],
     passed: &mut [u64],
@@ -257,20 +288,23 @@ fn lower_members(
 )
     requires order { AreOrdered nodes.now }
     requires counted { AreCounted nodes.now counters.now }
+    requires searched { AreSearched (sources searches.old) nodes.now }
     requires room { length nodes.now ≤ 64 * length asked.now }
     requires short { length asked.now ≤ 1366 }
     requires passed_len { length passed.old ≡ length asked.now }
     requires enough { 2 * length asked.now ≤ length free.old }
     ensures lowered { AreLowered nodes.now asked.now (object (members_view members.now.entries)) passed.old passed.new }
+    ensures same { sources searches.new ≡ sources searches.old }
 {
-    fold_members(nodes, counters, members, asked, passed, free);
-    fold_names(nodes, members, asked, passed, free);
+    fold_members(nodes, counters, searches, members, asked, passed, free);
+    fold_names(nodes, searches, members, asked, passed, free);
 }
 
 #[cycle(levels)]
 fn fold_members(
     nodes: &[Node],
     counters: &Counters,
+    searches: &mut [Search<'_>],
     members: &NameMap<Tree>,
     asked: &[u64],
     passed: &mut [u64],
@@ -278,11 +312,13 @@ fn fold_members(
 )
     requires order { AreOrdered nodes.now }
     requires counted { AreCounted nodes.now counters.now }
+    requires searched { AreSearched (sources searches.old) nodes.now }
     requires room { length nodes.now ≤ 64 * length asked.now }
     requires short { length asked.now ≤ 1366 }
     requires passed_len { length passed.old ≡ length asked.now }
     requires enough { 2 * length asked.now ≤ length free.old }
     ensures folded { AreFolded nodes.now asked.now (members_each (members_view members.now.entries)) passed.old passed.new }
+    ensures same { sources searches.new ≡ sources searches.old }
 {
     let words = asked.len();
     let (below_asked, rest) = free.split_at_mut(words);
@@ -291,6 +327,7 @@ fn fold_members(
     fold_each_member(
         nodes,
         counters,
+        searches,
         members,
         asked,
         passed,
@@ -305,6 +342,7 @@ fn fold_members(
 fn fold_each_member(
     nodes: &[Node],
     counters: &Counters,
+    searches: &mut [Search<'_>],
     members: &NameMap<Tree>,
     asked: &[u64],
     passed: &mut [u64],
@@ -314,17 +352,20 @@ fn fold_each_member(
 )
     requires order { AreOrdered nodes.now }
     requires counted { AreCounted nodes.now counters.now }
+    requires searched { AreSearched (sources searches.old) nodes.now }
     requires room { length nodes.now ≤ 64 * length asked.now }
     requires short { length asked.now ≤ 1366 }
     requires passed_len { length passed.old ≡ length asked.now }
     requires below_asked { below_asked.old ≡ replicate (length asked.now) 0 }
     requires below_len { length below_passed.old ≡ length asked.now }
     ensures folded { AreFolded nodes.now asked.now (members_each (members_view members.now.entries)) passed.old passed.new }
+    ensures same { sources searches.new ≡ sources searches.old }
 {
     for (name, member) in members.iter() {
         if fold_child(
             nodes,
             counters,
+            searches,
             member,
             ChildPlace::Name(name.as_str()),
             asked,
@@ -343,6 +384,7 @@ fn fold_each_member(
 fn fold_child(
     nodes: &[Node],
     counters: &Counters,
+    searches: &mut [Search<'_>],
     child: &Tree,
     spot: ChildPlace<'_>,
     asked: &[u64],
@@ -353,6 +395,7 @@ fn fold_child(
 ) -> bool
     requires order { AreOrdered nodes.now }
     requires counted { AreCounted nodes.now counters.now }
+    requires searched { AreSearched (sources searches.old) nodes.now }
     requires room { length nodes.now ≤ 64 * length asked.now }
     requires short { length asked.now ≤ 1366 }
     requires passed_len { length passed.old ≡ length asked.now }
@@ -361,11 +404,20 @@ fn fold_child(
     ensures folded { AreFolded nodes.now asked.now (child_at (place spot.entry) (view child.now) ∷ []) passed.old passed.new }
     ensures told { result ≡ true → AreTold nodes.now asked.now (place spot.entry) (view child.now) below_asked.new below_passed.new }
     ensures none { result ≡ false → (below_asked.new ≡ replicate (length asked.now) 0) × AskNothing nodes.now asked.now (place spot.entry) }
+    ensures same { sources searches.new ≡ sources searches.old }
 {
     if !collect(nodes, asked, spot, below_asked) {
         return false;
     }
-    judge(nodes, counters, child, below_asked, below_passed, free);
+    judge(
+        nodes,
+        counters,
+        searches,
+        child,
+        below_asked,
+        below_passed,
+        free,
+    );
     fold(nodes, asked, spot, below_passed, passed);
     true
 }

@@ -1,8 +1,9 @@
 -- What was numbered, put in order and built is the schema, compiled.
-use Rattle.std.proofs.Common.{◌≡◌, ℕ, ◌*◌, ◌<◌, ◌≤◌, List, length, true, Some, Vec, Global, ap, arith}
+use Rattle.std.proofs.Common.{◌≡◌, ℕ, ◌*◌, ◌<◌, ◌≤◌, List, [], length, true, Some, Vec, Global, ap, arith}
 use Rattle.doc_tree.specs.Doc.{Doc, boolean}
 use Rattle.schema_graph.specs.Orders.{at, IsOrder}
 use Rattle.schema_rules.specs.Parts.{members_in}
+use Rattle.schema_rules.specs.PatternTexts.{pattern_texts}
 use Rattle.schema_rules.specs.Schemas.{schemas}
 use Rattle.schema_levels.specs.declared.node.Node.{Node}
 use Rattle.schema_levels.specs.declared.run.TheConstants.{MOST_WORDS}
@@ -11,11 +12,12 @@ use Rattle.schema_nodes.specs.declared.rules.Targets.{Targets}
 use Rattle.schema_nodes.specs.Compiled.{IsCompiled}
 use Rattle.schema_nodes.specs.Edges.{AreEdges}
 use Rattle.schema_nodes.specs.Entries.{doc_at, AreRows, AreEntries}
-use Rattle.schema_nodes.specs.Fits.{AreTargets, IsTargets, AreMade}
+use Rattle.schema_nodes.specs.Fits.{AreTargets, IsTargets, AreMade, patterns_of}
 use Rattle.schema_nodes.specs.Nodes.{schema_of, or_else}
 use Rattle.schema_nodes.proofs.Edging.{edges_many}
 use Rattle.schema_nodes.proofs.Making.{nodes_are, numbers_are, made_many, targets_are, back_is}
 use Rattle.schema_nodes.proofs.Ordering.{ordered}
+use Rattle.schema_nodes.proofs.Searches.{all_searched}
 use Rattle.schema_nodes.proofs.RuleKinds.{schema_back, have_rows, within_entries}
 
 module _ (root : Doc) (es : List Entry) (whole : ℕ) (rows : List (Vec ℕ Global)) (ts : Targets) (are : AreEntries root es) (here : doc_at es whole ≡ Some root) (rows_are : AreRows (doc_at es) (members_in root) rows) (is : IsTargets root whole rows ts) where
@@ -26,7 +28,7 @@ module _ (root : Doc) (es : List Entry) (whole : ℕ) (rows : List (Vec ℕ Glob
       targets_are (λ n. or_else x (doc_at es n)) root whole rows ts is (have_rows (λ n. or_else x (doc_at es n)) es same (members_in root) rows rows_are) (same whole root here)
 
   module _ (g : List (Vec ℕ Global)) (places ranks : List ℕ) (nodes : List Node) (edges : AreEdges ts root es g) (o : IsOrder g places ranks) (made : AreMade ts ranks root es places nodes)
-      (many : length es ≡ length (schemas root)) (room : length (schemas root) ≤ 64 * MOST_WORDS) where
+      (many : length es ≡ length (schemas root)) (room : length (schemas root) ≤ 64 * MOST_WORDS) (patterns : patterns_of ts ≡ pattern_texts root) where
     pub compiled : IsCompiled root nodes (at ranks whole)
     compiled =
         let many_edges = edges_many ts root es g edges in
@@ -40,10 +42,11 @@ module _ (root : Doc) (es : List Entry) (whole : ℕ) (rows : List (Vec ℕ Glob
         record {
           schema = schema;
           numbers = numbers_are root places es are;
-          says = nodes_are ts ranks root es places nodes are back targets made;
+          says = nodes_are ts ranks root es places nodes are back targets patterns made;
           is_whole = same whole root here;
           many = omega (arith, all, o.many_places, many_edges, many);
           order = ordered ts root es g places ranks are edges many_edges o back bound nodes made;
           within = omega (arith, lt, all);
           room = omega (arith, all, o.many_places, many_edges, many, room);
+          searched = all_searched (pattern_texts root) ts ranks root patterns es places nodes made;
         }

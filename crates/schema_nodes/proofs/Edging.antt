@@ -5,7 +5,7 @@ use Rattle.std.specs.Prelude.{MatchOption}
 use Rattle.schema_graph.specs.Orders.{IsOrder}
 use Rattle.schema_graph.specs.declared.walk.Order.{Order}
 use Rattle.doc_tree.specs.Doc.{Doc, null, boolean, Members, no_members, member}
-use Rattle.doc_tree.specs.Lists.{elements_list}
+use Rattle.doc_tree.specs.Lists.{elements_list, values_list}
 use Rattle.doc_tree.specs.TreeView.{view}
 use Rattle.schema_graph.specs.Numbered.{Graph, row_at, IsClosed, IsCyclic, numbers_of}
 use Rattle.schema_graph.specs.Walks.{In, first, later, Walk, IsLooped}
@@ -16,7 +16,7 @@ use Rattle.schema_rules.specs.Parts.{elements_in, members_in}
 use Rattle.schema_rules.specs.References.{target}
 use Rattle.schema_rules.specs.Schemas.{schemas, held_in, applied_by, applied_by_members, applied}
 use Rattle.schema_rules.specs.declared.keyword.Keyword.{Keyword}
-use Rattle.schema_rules.specs.declared.keyword.Keyword.TheVariants.{AllOf, AnyOf, OneOf, Not, If, Then, Else, Ref}
+use Rattle.schema_rules.specs.declared.keyword.Keyword.TheVariants.{AllOf, AnyOf, OneOf, Not, If, Then, Else, DependentSchemas, Ref}
 use Rattle.schema_nodes.specs.declared.entries.Entry.{Entry}
 use Rattle.schema_nodes.specs.declared.rules.Targets.{Targets}
 use Rattle.schema_nodes.specs.Edges.{edges_at, edges_in, AreEdges}
@@ -100,6 +100,7 @@ module _ (ts : Targets) (root : Doc) (es : List Entry) (targets : (x : Doc) → 
   member_leads If v row h b i = stands_in row (v ∷ []) h b i
   member_leads Then v row h b i = stands_in row (v ∷ []) h b i
   member_leads Else v row h b i = stands_in row (v ∷ []) h b i
+  member_leads DependentSchemas v row h b i = stands_in row (values_list (members_in v)) h b i
   member_leads Ref v row h b i = reference_leads v (target_number ts root v) refl b i
   member_leads _ v row h b i = none_in b i
 

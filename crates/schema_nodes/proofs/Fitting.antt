@@ -22,6 +22,11 @@ use Rattle.schema_rules.specs.declared.assertion.Assertion.{Assertion}
 use Rattle.schema_rules.proofs.Others.{AsksNone}
 use Rattle.schema_nodes.specs.Rules.{AreRulesOf}
 use Rattle.schema_graph.specs.Orders.{at}
+use Rattle.schema_graph.specs.Walks.{In, first}
+use Rattle.schema_graph.proofs.Among.{In-left, In-right}
+use Rattle.schema_rules.specs.declared.profile.Profile.TheVariants.{Three}
+use Rattle.schema_rules.specs.Patterns.{fits}
+use Rattle.schema_rules.specs.PatternTexts.{texts_of, texts_by}
 use Rattle.schema_rules.specs.Schemas.{held_in}
 use Rattle.schema_levels.specs.Below.{number_named}
 use Rattle.schema_levels.specs.Table.{rule_of}
@@ -30,9 +35,9 @@ use Rattle.schema_levels.specs.declared.node.Rule.{Rule}
 use Rattle.schema_levels.specs.declared.node.Rule.TheVariants.{Asserts, Then, Else}
 use Rattle.schema_nodes.specs.declared.rules.Targets.{Targets}
 use Rattle.schema_nodes.specs.Nodes.{Suits, IsRule, IsNodeFor, Finds, HaveRows}
-use Rattle.schema_nodes.specs.Fits.{AreTargets, IsBuilt, number_by, if_found, target_number, first_of, IsReference, IsChoice, IsCount, IsLimit, AsksNoSchema, Around, Fits, around, AreFitting, AsMany, AreSorted}
+use Rattle.schema_nodes.specs.Fits.{AreTargets, IsBuilt, IsMatch, number_in, pattern_number, patterns_of, number_by, if_found, target_number, first_of, IsReference, IsChoice, IsCount, IsLimit, AsksNoSchema, Around, Fits, around, AreFitting, AsMany, AreSorted}
 use Rattle.schema_nodes.proofs.Conditions.{contains_held, if_held, single_is}
-use Rattle.schema_nodes.proofs.RuleKinds.{is_all, is_any, is_one, is_not, is_then, is_no_then, is_else, is_no_else, is_reference, is_no_reference, is_assertion, is_nothing, is_properties, is_others, is_names, is_by_place, is_rest}
+use Rattle.schema_nodes.proofs.RuleKinds.{is_all, is_any, is_one, is_dependent, is_not, is_then, is_no_then, is_else, is_no_else, is_reference, is_no_reference, is_match, is_no_match, is_assertion, is_nothing, is_properties, is_others, is_names, is_by_place, is_rest}
 use Rattle.schema_nodes.proofs.Counting.{is_contains, is_at_least, is_at_most, is_no_limit}
 
 -- ---- the loop over the members
@@ -126,9 +131,29 @@ first_is : (schema : ℕ → Doc) (row : List ℕ) (d : Doc) → map schema row 
 first_is schema [] d e = absurd cc
 first_is schema (j ∷ row) d e = cc
 
+-- ---- patterns
+
+-- each of these texts has a number
+abbrev pub HaveNumbers : List (List ℕ) → List (List ℕ) → Type 0
+HaveNumbers ps ss = (s : List ℕ) → In s ss → number_in ps s ≡ None → ⊥
+
+-- without a number the value is no text
+unnumbered : (ps : List (List ℕ)) (v : Doc) → HaveNumbers ps (texts_of keywords.Pattern v) → pattern_number ps v ≡ None → (t : Doc) → fits v t ≡ true
+unnumbered ps (text s) known e t = absurd (known s first e)
+unnumbered ps null known e t = refl
+unnumbered ps (boolean b) known e t = refl
+unnumbered ps (int z) known e t = refl
+unnumbered ps (list ds) known e t = refl
+unnumbered ps (object ms) known e t = refl
+
+match_rule : (schema : ℕ → Doc) (root : Doc) (ms : Members) (v : Doc) (o : Option ℕ) (r : Rule) → (o ≡ None → (t : Doc) → fits v t ≡ true) → IsMatch o v r → IsRule schema root ms keywords.Pattern v r
+match_rule schema root ms v None r none h = subst (IsRule schema root ms keywords.Pattern v) (sym h) (is_no_match schema root ms v (none refl))
+match_rule schema root ms v (Some n) r none h = subst (IsRule schema root ms keywords.Pattern v) (sym h.1) (is_match schema root ms v n h.0 h.2)
+
 -- ---- a keyword that asks no schema
 
 pub fits_alone : (ts : Targets) (ranks : List ℕ) (root : Doc) (near : Around) (k : Keyword) (v : Doc) (row : List ℕ) (r : Rule) → AsksNone k → AsksNoSchema k v r → Fits ts ranks root near k v row r
+fits_alone ts ranks root near keywords.Pattern v row r none h = absurd (none.not_pattern refl)
 fits_alone ts ranks root near keywords.Properties v row r none h = absurd (none.not_properties refl)
 fits_alone ts ranks root near keywords.AdditionalProperties v row r none h = absurd (none.not_additional_properties refl)
 fits_alone ts ranks root near keywords.PropertyNames v row r none h = absurd (none.not_property_names refl)
@@ -142,6 +167,7 @@ fits_alone ts ranks root near keywords.OneOf v row r none h = absurd (none.not_o
 fits_alone ts ranks root near keywords.Not v row r none h = absurd (none.not_not refl)
 fits_alone ts ranks root near keywords.Then v row r none h = absurd (none.not_then refl)
 fits_alone ts ranks root near keywords.Else v row r none h = absurd (none.not_else refl)
+fits_alone ts ranks root near keywords.DependentSchemas v row r none h = absurd (none.not_dependent_schemas refl)
 fits_alone ts ranks root near keywords.Ref v row r none h = absurd (none.not_ref refl)
 fits_alone ts ranks root near _ v row r none h = h
 
@@ -168,6 +194,7 @@ asserts_alone _ v r is a e h = (a, e, h)
 -- ---- a member's rule
 
 abbrev is_plain : Keyword → Bool
+is_plain keywords.Pattern = false
 is_plain keywords.Properties = false
 is_plain keywords.AdditionalProperties = false
 is_plain keywords.PropertyNames = false
@@ -181,11 +208,13 @@ is_plain keywords.OneOf = false
 is_plain keywords.Not = false
 is_plain keywords.Then = false
 is_plain keywords.Else = false
+is_plain keywords.DependentSchemas = false
 is_plain keywords.Ref = false
 is_plain _ = true
 
 plain : (k : Keyword) → is_plain k ≡ true → AsksNone k
 plain k h = record {
+  not_pattern = λ e. (let b : false ≡ true = sym (ap is_plain e) ∙ h in absurd cc);
   not_properties = λ e. (let b : false ≡ true = sym (ap is_plain e) ∙ h in absurd cc);
   not_additional_properties = λ e. (let b : false ≡ true = sym (ap is_plain e) ∙ h in absurd cc);
   not_property_names = λ e. (let b : false ≡ true = sym (ap is_plain e) ∙ h in absurd cc);
@@ -199,75 +228,78 @@ plain k h = record {
   not_not = λ e. (let b : false ≡ true = sym (ap is_plain e) ∙ h in absurd cc);
   not_then = λ e. (let b : false ≡ true = sym (ap is_plain e) ∙ h in absurd cc);
   not_else = λ e. (let b : false ≡ true = sym (ap is_plain e) ∙ h in absurd cc);
+  not_dependent_schemas = λ e. (let b : false ≡ true = sym (ap is_plain e) ∙ h in absurd cc);
   not_ref = λ e. (let b : false ≡ true = sym (ap is_plain e) ∙ h in absurd cc);
 }
 
 module _ (schema : ℕ → Doc) (ranks : List ℕ) (root : Doc) (ts : Targets) (targets : AreTargets (λ c. schema (at ranks c)) root ts) (ms : Members) (near : Around) (chosen : Finds schema near.condition (get_member (codes "if") ms))
     (contained : Finds schema near.contained (get_member (codes "contains") ms)) (least : get_member (codes "minContains") ms ≡ near.least) where
-  pub fits_is : (k : Keyword) (v : Doc) (row : List ℕ) (r : Rule) → map schema row ≡ held_in (shape_of k) v → (k ≡ keywords.Properties → beside (codes "properties") ms ≡ v) → Fits ts ranks root near k v row r → IsRule schema root ms k v r
-  fits_is keywords.Properties v row r e p h = subst (IsRule schema root ms keywords.Properties v) (sym h) (is_properties schema root ms v (p refl))
-  fits_is keywords.AdditionalProperties v row r e p h = subst (IsRule schema root ms keywords.AdditionalProperties v) (sym h) (is_others schema root ms v (first_of row) (first_is schema row v e))
-  fits_is keywords.PropertyNames v row r e p h = subst (IsRule schema root ms keywords.PropertyNames v) (sym h) (is_names schema root ms v (first_of row) (first_is schema row v e))
-  fits_is keywords.Items v row r e p h = subst (IsRule schema root ms keywords.Items v) (sym h) (is_rest schema root ms v (first_of row) (first_is schema row v e))
-  fits_is keywords.Not v row r e p h = subst (IsRule schema root ms keywords.Not v) (sym h) (is_not schema root ms v (first_of row) (first_is schema row v e))
-  fits_is keywords.PrefixItems v row r e p h = subst (IsRule schema root ms keywords.PrefixItems v) (sym h.1) (is_by_place schema root ms v h.0 (ap (map schema) h.2 ∙ e))
-  fits_is keywords.AllOf v row r e p h = subst (IsRule schema root ms keywords.AllOf v) (sym h.1) (is_all schema root ms v h.0 (ap (map schema) h.2 ∙ e))
-  fits_is keywords.AnyOf v row r e p h = subst (IsRule schema root ms keywords.AnyOf v) (sym h.1) (is_any schema root ms v h.0 (ap (map schema) h.2 ∙ e))
-  fits_is keywords.OneOf v row r e p h = subst (IsRule schema root ms keywords.OneOf v) (sym h.1) (is_one schema root ms v h.0 (ap (map schema) h.2 ∙ e))
-  fits_is keywords.Then v row r e p h = then_rule schema root ms v row near.condition r chosen (first_is schema row v e) h
-  fits_is keywords.Else v row r e p h = else_rule schema root ms v row near.condition r chosen (first_is schema row v e) h
-  fits_is keywords.Ref v row r e p h = is_reference_rule schema root ms v (option_map (at ranks) (target_number ts root v)) r (fuse schema ranks (target_number ts root v) ∙ finds (λ c. schema (at ranks c)) root ts targets v) h
-  fits_is keywords.OfType v row r e p h = subst (IsRule schema root ms keywords.OfType v) (sym h.1) (is_assertion schema root ms v keywords.OfType h.0 (plain keywords.OfType refl) h.2)
-  fits_is keywords.Enumeration v row r e p h = subst (IsRule schema root ms keywords.Enumeration v) (sym h.1) (is_assertion schema root ms v keywords.Enumeration h.0 (plain keywords.Enumeration refl) h.2)
-  fits_is keywords.Constant v row r e p h = subst (IsRule schema root ms keywords.Constant v) (sym h.1) (is_assertion schema root ms v keywords.Constant h.0 (plain keywords.Constant refl) h.2)
-  fits_is keywords.MultipleOf v row r e p h = subst (IsRule schema root ms keywords.MultipleOf v) (sym h.1) (is_assertion schema root ms v keywords.MultipleOf h.0 (plain keywords.MultipleOf refl) h.2)
-  fits_is keywords.Minimum v row r e p h = subst (IsRule schema root ms keywords.Minimum v) (sym h.1) (is_assertion schema root ms v keywords.Minimum h.0 (plain keywords.Minimum refl) h.2)
-  fits_is keywords.Maximum v row r e p h = subst (IsRule schema root ms keywords.Maximum v) (sym h.1) (is_assertion schema root ms v keywords.Maximum h.0 (plain keywords.Maximum refl) h.2)
-  fits_is keywords.ExclusiveMinimum v row r e p h = subst (IsRule schema root ms keywords.ExclusiveMinimum v) (sym h.1) (is_assertion schema root ms v keywords.ExclusiveMinimum h.0 (plain keywords.ExclusiveMinimum refl) h.2)
-  fits_is keywords.ExclusiveMaximum v row r e p h = subst (IsRule schema root ms keywords.ExclusiveMaximum v) (sym h.1) (is_assertion schema root ms v keywords.ExclusiveMaximum h.0 (plain keywords.ExclusiveMaximum refl) h.2)
-  fits_is keywords.MinLength v row r e p h = subst (IsRule schema root ms keywords.MinLength v) (sym h.1) (is_assertion schema root ms v keywords.MinLength h.0 (plain keywords.MinLength refl) h.2)
-  fits_is keywords.MaxLength v row r e p h = subst (IsRule schema root ms keywords.MaxLength v) (sym h.1) (is_assertion schema root ms v keywords.MaxLength h.0 (plain keywords.MaxLength refl) h.2)
-  fits_is keywords.MinItems v row r e p h = subst (IsRule schema root ms keywords.MinItems v) (sym h.1) (is_assertion schema root ms v keywords.MinItems h.0 (plain keywords.MinItems refl) h.2)
-  fits_is keywords.MaxItems v row r e p h = subst (IsRule schema root ms keywords.MaxItems v) (sym h.1) (is_assertion schema root ms v keywords.MaxItems h.0 (plain keywords.MaxItems refl) h.2)
-  fits_is keywords.UniqueItems v row r e p h = subst (IsRule schema root ms keywords.UniqueItems v) (sym h.1) (is_assertion schema root ms v keywords.UniqueItems h.0 (plain keywords.UniqueItems refl) h.2)
-  fits_is keywords.MinProperties v row r e p h = subst (IsRule schema root ms keywords.MinProperties v) (sym h.1) (is_assertion schema root ms v keywords.MinProperties h.0 (plain keywords.MinProperties refl) h.2)
-  fits_is keywords.MaxProperties v row r e p h = subst (IsRule schema root ms keywords.MaxProperties v) (sym h.1) (is_assertion schema root ms v keywords.MaxProperties h.0 (plain keywords.MaxProperties refl) h.2)
-  fits_is keywords.Required v row r e p h = subst (IsRule schema root ms keywords.Required v) (sym h.1) (is_assertion schema root ms v keywords.Required h.0 (plain keywords.Required refl) h.2)
-  fits_is keywords.DependentRequired v row r e p h = subst (IsRule schema root ms keywords.DependentRequired v) (sym h.1) (is_assertion schema root ms v keywords.DependentRequired h.0 (plain keywords.DependentRequired refl) h.2)
-  fits_is keywords.Contains v row r e p h = count_rule schema root ms v row near.least r least (first_is schema row v e) h
-  fits_is keywords.MaxContains v row r e p h = limit_rule schema root ms v near.contained r contained h
-  fits_is keywords.MinContains v row r e p h = subst (IsRule schema root ms keywords.MinContains v) (sym h) (is_nothing schema root ms v keywords.MinContains (plain keywords.MinContains refl) (λ t. refl))
-  fits_is keywords.If v row r e p h = subst (IsRule schema root ms keywords.If v) (sym h) (is_nothing schema root ms v keywords.If (plain keywords.If refl) (λ t. refl))
-  fits_is keywords.Defs v row r e p h = subst (IsRule schema root ms keywords.Defs v) (sym h) (is_nothing schema root ms v keywords.Defs (plain keywords.Defs refl) (λ t. refl))
-  fits_is keywords.Id v row r e p h = subst (IsRule schema root ms keywords.Id v) (sym h) (is_nothing schema root ms v keywords.Id (plain keywords.Id refl) (λ t. refl))
-  fits_is keywords.Dialect v row r e p h = subst (IsRule schema root ms keywords.Dialect v) (sym h) (is_nothing schema root ms v keywords.Dialect (plain keywords.Dialect refl) (λ t. refl))
-  fits_is keywords.LeftOut v row r e p h = subst (IsRule schema root ms keywords.LeftOut v) (sym h) (is_nothing schema root ms v keywords.LeftOut (plain keywords.LeftOut refl) (λ t. refl))
-  fits_is keywords.Unknown v row r e p h = subst (IsRule schema root ms keywords.Unknown v) (sym h) (is_nothing schema root ms v keywords.Unknown (plain keywords.Unknown refl) (λ t. refl))
+  pub fits_is : (k : Keyword) (v : Doc) (row : List ℕ) (r : Rule) → map schema row ≡ held_in (shape_of k) v → (k ≡ keywords.Properties → beside (codes "properties") ms ≡ v) → HaveNumbers (patterns_of ts) (texts_of k v) → Fits ts ranks root near k v row r → IsRule schema root ms k v r
+  fits_is keywords.Properties v row r e p known h = subst (IsRule schema root ms keywords.Properties v) (sym h) (is_properties schema root ms v (p refl))
+  fits_is keywords.AdditionalProperties v row r e p known h = subst (IsRule schema root ms keywords.AdditionalProperties v) (sym h) (is_others schema root ms v (first_of row) (first_is schema row v e))
+  fits_is keywords.PropertyNames v row r e p known h = subst (IsRule schema root ms keywords.PropertyNames v) (sym h) (is_names schema root ms v (first_of row) (first_is schema row v e))
+  fits_is keywords.Items v row r e p known h = subst (IsRule schema root ms keywords.Items v) (sym h) (is_rest schema root ms v (first_of row) (first_is schema row v e))
+  fits_is keywords.Not v row r e p known h = subst (IsRule schema root ms keywords.Not v) (sym h) (is_not schema root ms v (first_of row) (first_is schema row v e))
+  fits_is keywords.PrefixItems v row r e p known h = subst (IsRule schema root ms keywords.PrefixItems v) (sym h.1) (is_by_place schema root ms v h.0 (ap (map schema) h.2 ∙ e))
+  fits_is keywords.AllOf v row r e p known h = subst (IsRule schema root ms keywords.AllOf v) (sym h.1) (is_all schema root ms v h.0 (ap (map schema) h.2 ∙ e))
+  fits_is keywords.AnyOf v row r e p known h = subst (IsRule schema root ms keywords.AnyOf v) (sym h.1) (is_any schema root ms v h.0 (ap (map schema) h.2 ∙ e))
+  fits_is keywords.OneOf v row r e p known h = subst (IsRule schema root ms keywords.OneOf v) (sym h.1) (is_one schema root ms v h.0 (ap (map schema) h.2 ∙ e))
+  fits_is keywords.Then v row r e p known h = then_rule schema root ms v row near.condition r chosen (first_is schema row v e) h
+  fits_is keywords.Else v row r e p known h = else_rule schema root ms v row near.condition r chosen (first_is schema row v e) h
+  fits_is keywords.DependentSchemas v row r e p known h = subst (IsRule schema root ms keywords.DependentSchemas v) (sym h.2) (is_dependent schema root ms v h.0 h.1 h.3 (ap (map schema) h.4 ∙ e))
+  fits_is keywords.Ref v row r e p known h = is_reference_rule schema root ms v (option_map (at ranks) (target_number ts root v)) r (fuse schema ranks (target_number ts root v) ∙ finds (λ c. schema (at ranks c)) root ts targets v) h
+  fits_is keywords.OfType v row r e p known h = subst (IsRule schema root ms keywords.OfType v) (sym h.1) (is_assertion schema root ms v keywords.OfType h.0 (plain keywords.OfType refl) h.2)
+  fits_is keywords.Enumeration v row r e p known h = subst (IsRule schema root ms keywords.Enumeration v) (sym h.1) (is_assertion schema root ms v keywords.Enumeration h.0 (plain keywords.Enumeration refl) h.2)
+  fits_is keywords.Constant v row r e p known h = subst (IsRule schema root ms keywords.Constant v) (sym h.1) (is_assertion schema root ms v keywords.Constant h.0 (plain keywords.Constant refl) h.2)
+  fits_is keywords.MultipleOf v row r e p known h = subst (IsRule schema root ms keywords.MultipleOf v) (sym h.1) (is_assertion schema root ms v keywords.MultipleOf h.0 (plain keywords.MultipleOf refl) h.2)
+  fits_is keywords.Minimum v row r e p known h = subst (IsRule schema root ms keywords.Minimum v) (sym h.1) (is_assertion schema root ms v keywords.Minimum h.0 (plain keywords.Minimum refl) h.2)
+  fits_is keywords.Maximum v row r e p known h = subst (IsRule schema root ms keywords.Maximum v) (sym h.1) (is_assertion schema root ms v keywords.Maximum h.0 (plain keywords.Maximum refl) h.2)
+  fits_is keywords.ExclusiveMinimum v row r e p known h = subst (IsRule schema root ms keywords.ExclusiveMinimum v) (sym h.1) (is_assertion schema root ms v keywords.ExclusiveMinimum h.0 (plain keywords.ExclusiveMinimum refl) h.2)
+  fits_is keywords.ExclusiveMaximum v row r e p known h = subst (IsRule schema root ms keywords.ExclusiveMaximum v) (sym h.1) (is_assertion schema root ms v keywords.ExclusiveMaximum h.0 (plain keywords.ExclusiveMaximum refl) h.2)
+  fits_is keywords.MinLength v row r e p known h = subst (IsRule schema root ms keywords.MinLength v) (sym h.1) (is_assertion schema root ms v keywords.MinLength h.0 (plain keywords.MinLength refl) h.2)
+  fits_is keywords.MaxLength v row r e p known h = subst (IsRule schema root ms keywords.MaxLength v) (sym h.1) (is_assertion schema root ms v keywords.MaxLength h.0 (plain keywords.MaxLength refl) h.2)
+  fits_is keywords.MinItems v row r e p known h = subst (IsRule schema root ms keywords.MinItems v) (sym h.1) (is_assertion schema root ms v keywords.MinItems h.0 (plain keywords.MinItems refl) h.2)
+  fits_is keywords.MaxItems v row r e p known h = subst (IsRule schema root ms keywords.MaxItems v) (sym h.1) (is_assertion schema root ms v keywords.MaxItems h.0 (plain keywords.MaxItems refl) h.2)
+  fits_is keywords.UniqueItems v row r e p known h = subst (IsRule schema root ms keywords.UniqueItems v) (sym h.1) (is_assertion schema root ms v keywords.UniqueItems h.0 (plain keywords.UniqueItems refl) h.2)
+  fits_is keywords.MinProperties v row r e p known h = subst (IsRule schema root ms keywords.MinProperties v) (sym h.1) (is_assertion schema root ms v keywords.MinProperties h.0 (plain keywords.MinProperties refl) h.2)
+  fits_is keywords.MaxProperties v row r e p known h = subst (IsRule schema root ms keywords.MaxProperties v) (sym h.1) (is_assertion schema root ms v keywords.MaxProperties h.0 (plain keywords.MaxProperties refl) h.2)
+  fits_is keywords.Required v row r e p known h = subst (IsRule schema root ms keywords.Required v) (sym h.1) (is_assertion schema root ms v keywords.Required h.0 (plain keywords.Required refl) h.2)
+  fits_is keywords.DependentRequired v row r e p known h = subst (IsRule schema root ms keywords.DependentRequired v) (sym h.1) (is_assertion schema root ms v keywords.DependentRequired h.0 (plain keywords.DependentRequired refl) h.2)
+  fits_is keywords.Pattern v row r e p known h = match_rule schema root ms v (pattern_number (patterns_of ts) v) r (unnumbered (patterns_of ts) v known) h
+  fits_is keywords.Contains v row r e p known h = count_rule schema root ms v row near.least r least (first_is schema row v e) h
+  fits_is keywords.MaxContains v row r e p known h = limit_rule schema root ms v near.contained r contained h
+  fits_is keywords.MinContains v row r e p known h = subst (IsRule schema root ms keywords.MinContains v) (sym h) (is_nothing schema root ms v keywords.MinContains (plain keywords.MinContains refl) (λ t. refl))
+  fits_is keywords.If v row r e p known h = subst (IsRule schema root ms keywords.If v) (sym h) (is_nothing schema root ms v keywords.If (plain keywords.If refl) (λ t. refl))
+  fits_is keywords.Defs v row r e p known h = subst (IsRule schema root ms keywords.Defs v) (sym h) (is_nothing schema root ms v keywords.Defs (plain keywords.Defs refl) (λ t. refl))
+  fits_is keywords.Id v row r e p known h = subst (IsRule schema root ms keywords.Id v) (sym h) (is_nothing schema root ms v keywords.Id (plain keywords.Id refl) (λ t. refl))
+  fits_is keywords.Dialect v row r e p known h = subst (IsRule schema root ms keywords.Dialect v) (sym h) (is_nothing schema root ms v keywords.Dialect (plain keywords.Dialect refl) (λ t. refl))
+  fits_is keywords.LeftOut v row r e p known h = subst (IsRule schema root ms keywords.LeftOut v) (sym h) (is_nothing schema root ms v keywords.LeftOut (plain keywords.LeftOut refl) (λ t. refl))
+  fits_is keywords.Unknown v row r e p known h = subst (IsRule schema root ms keywords.Unknown v) (sym h) (is_nothing schema root ms v keywords.Unknown (plain keywords.Unknown refl) (λ t. refl))
 
   -- of all members, in a node that suits
   pub rules_are : (x : Node) → Suits schema ms x → (left : Members) (rows : List (Vec ℕ Global)) (rules : List Rule) → HaveRows schema left rows → ((k : List ℕ) (v : Doc) → get_member k left ≡ Some v → get_member k ms ≡ Some v) → AreSorted left
-      → AreFitting ts ranks root near left rows rules → AreRulesOf root schema ms (map (rule_of x) rules) left
-  rules_are x suits no_members [] [] h found order fits = tt
-  rules_are x suits (member k v left) (row ∷ rows) (r ∷ rules) h found order fits =
-      let one = fits_is (keyword_of k) v row.items r h.0 (λ e. beside_is (found k v (get_member-first k v left)) (properties_name k e)) fits.0 x suits in
-      (one.0, one.1, rules_are x suits left rows rules h.1 (λ l w g. found l w (get_later l k w v left order.0 g)) order.1 fits.1)
+      → HaveNumbers (patterns_of ts) (texts_by Three left) → AreFitting ts ranks root near left rows rules → AreRulesOf root schema ms (map (rule_of x) rules) left
+  rules_are x suits no_members [] [] h found order known fits = tt
+  rules_are x suits (member k v left) (row ∷ rows) (r ∷ rules) h found order known fits =
+      let one = fits_is (keyword_of k) v row.items r h.0 (λ e. beside_is (found k v (get_member-first k v left)) (properties_name k e)) (λ s i. known s (In-left s _ _ i)) fits.0 x suits in
+      (one.0, one.1, rules_are x suits left rows rules h.1 (λ l w g. found l w (get_later l k w v left order.0 g)) order.1 (λ s i. known s (In-right s (texts_of (keyword_of k) v) _ i)) fits.1)
     where
       beside_is : get_member k ms ≡ Some v → k ≡ codes "properties" → beside (codes "properties") ms ≡ v
       beside_is e same = ap (λ n. beside n ms) (sym same) ∙ ap or_null e
-  rules_are x suits no_members (row ∷ rows) rules h found order fits = absurd h
-  rules_are x suits (member k v left) [] rules h found order fits = absurd h
-  rules_are x suits no_members [] (r ∷ rules) h found order fits = absurd fits
-  rules_are x suits (member k v left) (row ∷ rows) [] h found order fits = absurd fits
+  rules_are x suits no_members (row ∷ rows) rules h found order known fits = absurd h
+  rules_are x suits (member k v left) [] rules h found order known fits = absurd h
+  rules_are x suits no_members [] (r ∷ rules) h found order known fits = absurd fits
+  rules_are x suits (member k v left) (row ∷ rows) [] h found order known fits = absurd fits
 
 -- ---- a node that is built
 
 module _ (schema : ℕ → Doc) (ranks : List ℕ) (root : Doc) (ts : Targets) (targets : AreTargets (λ c. schema (at ranks c)) root ts) where
-  pub built_node : (d : Doc) (rows : List (Vec ℕ Global)) (x : Node) → HaveRows schema (members_in d) rows → IsBuilt ts ranks root rows x d → IsNodeFor root schema x d
-  built_node (object ms) rows x have b =
+  pub built_node : (d : Doc) (rows : List (Vec ℕ Global)) (x : Node) → HaveRows schema (members_in d) rows → HaveNumbers (patterns_of ts) (texts_by Three (members_in d)) → IsBuilt ts ranks root rows x d → IsNodeFor root schema x d
+  built_node (object ms) rows x have known b =
       let suits : Suits schema ms x = record { named = b.named schema have; prefix = b.prefix } in
-      rules_are schema ranks root ts targets ms (around ms rows) (single_is schema (codes "if") ms rows if_held have) (single_is schema (codes "contains") ms rows contains_held have) refl x suits ms rows x.rules.items have (λ k v g. g) b.sorted b.fits
-  built_node (boolean b) rows x have h = h
-  built_node null rows x have h = h
-  built_node (int z) rows x have h = h
-  built_node (text s) rows x have h = h
-  built_node (list ds) rows x have h = h
+      rules_are schema ranks root ts targets ms (around ms rows) (single_is schema (codes "if") ms rows if_held have) (single_is schema (codes "contains") ms rows contains_held have) refl x suits ms rows x.rules.items have (λ k v g. g) b.sorted known b.fits
+  built_node (boolean b) rows x have known h = h
+  built_node null rows x have known h = h
+  built_node (int z) rows x have known h = h
+  built_node (text s) rows x have known h = h
+  built_node (list ds) rows x have known h = h

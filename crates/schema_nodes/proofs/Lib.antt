@@ -12,3 +12,4 @@ mod Wanting
 pub mod Ordering
 pub mod Compiling
 pub mod Looping
+mod Searches

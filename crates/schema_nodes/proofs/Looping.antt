@@ -15,7 +15,7 @@ use Rattle.schema_rules.specs.Parts.{elements_in, members_in}
 use Rattle.schema_rules.specs.References.{target}
 use Rattle.schema_rules.specs.Schemas.{schemas, schemas_in, schemas_each, schemas_named, schemas_below, held_in, applied_by, applied_by_members, applied}
 use Rattle.schema_rules.specs.declared.keyword.Keyword.{Keyword}
-use Rattle.schema_rules.specs.declared.keyword.Keyword.TheVariants.{AllOf, AnyOf, OneOf, Not, If, Then, Else, Ref}
+use Rattle.schema_rules.specs.declared.keyword.Keyword.TheVariants.{AllOf, AnyOf, OneOf, Not, If, Then, Else, DependentSchemas, Ref}
 use Rattle.schema_rules.specs.declared.keyword.Shape.{Shape}
 use Rattle.schema_rules.specs.declared.keyword.Shape.TheVariants.{One, Several, Named}
 use Rattle.schema_nodes.specs.declared.entries.Entry.{Entry}
@@ -57,6 +57,7 @@ module _ (ts : Targets) (root : Doc) (es : List Entry) (targets : (x : Doc) → 
   member_number If v row h d i = number_in row (v ∷ []) h d i
   member_number Then v row h d i = number_in row (v ∷ []) h d i
   member_number Else v row h d i = number_in row (v ∷ []) h d i
+  member_number DependentSchemas v row h d i = number_in row (values_list (members_in v)) h d i
   member_number Ref v row h d i = reference_number v d (target_number ts root v) refl i
   member_number _ v row h d i = none_in d i
 

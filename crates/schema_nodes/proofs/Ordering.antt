@@ -19,12 +19,12 @@ use Rattle.schema_levels.specs.Closure.{here}
 use Rattle.schema_levels.specs.Nodes.{AreOrdered, asked_here, asked_below}
 use Rattle.schema_levels.specs.declared.node.Node.{Node}
 use Rattle.schema_levels.specs.declared.node.Rule.{Rule}
-use Rattle.schema_levels.specs.declared.node.Rule.TheVariants.{Says, Asserts, All, Any, One, Then, Else, Properties, Others, Names, ByPlace, Rest, Contains, AtLeast, AtMost}
+use Rattle.schema_levels.specs.declared.node.Rule.TheVariants.{Says, Asserts, Matches, All, Any, One, Then, Else, Dependent, Properties, Others, Names, ByPlace, Rest, Contains, AtLeast, AtMost}
 use Rattle.schema_nodes.specs.declared.entries.Entry.{Entry}
 use Rattle.schema_nodes.specs.declared.rules.Targets.{Targets}
 use Rattle.schema_nodes.specs.Edges.{edges_at, edges_in, AreEdges}
 use Rattle.schema_nodes.specs.Entries.{doc_at, StandFor, AreRows, AreEntries}
-use Rattle.schema_nodes.specs.Fits.{target_number, first_of, IsReference, IsChoice, IsCount, IsLimit, Around, Fits, around, single_number, AreFitting, IsBuilt, IsBuiltOf, AreMade}
+use Rattle.schema_nodes.specs.Fits.{pattern_number, patterns_of, target_number, first_of, IsMatch, IsReference, IsChoice, IsCount, IsLimit, Around, Fits, around, single_number, AreFitting, IsBuilt, IsBuiltOf, AreMade}
 use Rattle.schema_nodes.specs.Nodes.{Moved, AreMoved, or_else}
 use Rattle.schema_nodes.proofs.Conditions.{condition_edge, single_rank}
 use Rattle.schema_nodes.proofs.Edging.{both, edges_is}
@@ -166,6 +166,11 @@ module _ (ts : Targets) (ranks : List ℕ) (root : Doc) (near : Around) (at' : �
       only_one _ first = contained c is
       only_one j (later i) = none_in j i
 
+  -- `pattern`
+  at_match : (o : Option ℕ) (v : Doc) (r : Rule) → IsMatch o v r → OfRule ranks near.condition n [] r
+  at_match None v r h = subst (OfRule ranks near.condition n []) (sym h) (asks_nothing (Says true) refl refl)
+  at_match (Some m) v r h = subst (OfRule ranks near.condition n []) (sym h.1) (asks_nothing (Matches m h.0) refl refl)
+
   pub fits_of : (k : Keyword) (v : Doc) (row js : List ℕ) (r : Rule) → StandFor at' row (held_in (shape_of k) v) → Moved ranks row js → Fits ts ranks root near k v js r → OfRule ranks near.condition n (edges_at ts root k v row) r
   fits_of keywords.Properties v row js r stand moved h = subst (OfRule ranks near.condition n []) (sym h) (asks_nothing Properties refl refl)
   fits_of keywords.AdditionalProperties v row js r stand moved h = subst (OfRule ranks near.condition n []) (sym h) (below_all row js _ (Others (first_of js)) stand moved refl (one_in js (first_of js) (first_in row js v stand moved)))
@@ -181,6 +186,7 @@ module _ (ts : Targets) (ranks : List ℕ) (root : Doc) (near : Around) (at' : �
   })
   fits_of keywords.Then v row js r stand moved h = at_choice Then (λ c j. refl) (λ c j. refl) near.condition refl v row js r stand moved h
   fits_of keywords.Else v row js r stand moved h = at_choice Else (λ c j. refl) (λ c j. refl) near.condition refl v row js r stand moved h
+  fits_of keywords.DependentSchemas v row js r stand moved h = subst (OfRule ranks near.condition n row) (sym h.2) (at_all row js _ (Dependent h.0 h.1) stand moved h.4 refl)
   fits_of keywords.Ref v row js r stand moved h = at_reference (target_number ts root v) r h
   fits_of keywords.OfType v row js r stand moved h = subst (OfRule ranks near.condition n []) (sym h.1) (asks_nothing (Asserts h.0) refl refl)
   fits_of keywords.Enumeration v row js r stand moved h = subst (OfRule ranks near.condition n []) (sym h.1) (asks_nothing (Asserts h.0) refl refl)
@@ -201,6 +207,7 @@ module _ (ts : Targets) (ranks : List ℕ) (root : Doc) (near : Around) (at' : �
   fits_of keywords.DependentRequired v row js r stand moved h = subst (OfRule ranks near.condition n []) (sym h.1) (asks_nothing (Asserts h.0) refl refl)
   fits_of keywords.Contains v row js r stand moved h = at_count near.least v row js r stand moved h
   fits_of keywords.MaxContains v row js r stand moved h = at_limit near.contained refl v r h
+  fits_of keywords.Pattern v row js r stand moved h = at_match (pattern_number (patterns_of ts) v) v r h
   fits_of keywords.MinContains v row js r stand moved h = subst (OfRule ranks near.condition n []) (sym h) (asks_nothing (Says true) refl refl)
   fits_of keywords.If v row js r stand moved h = subst (OfRule ranks near.condition n row) (sym h) (asks_nothing_of row (Says true) refl refl)
   fits_of keywords.Defs v row js r stand moved h = subst (OfRule ranks near.condition n []) (sym h) (asks_nothing (Says true) refl refl)

@@ -1,18 +1,20 @@
 -- Each kind of rule asks and joins as its keyword does.
-use Rattle.std.proofs.Common.{◌≡◌, ℕ, zero, suc, ◌+◌, ◌-◌, ◌<◌, ◌≤◌, List, [], ◌∷◌, ◌++◌, map, length, Bool, true, false, is_some, Option, Some, None, option_map, refl, sym, ap, ap₂, subst, ◌∙◌, arith, if◌then◌else◌, codes, append-nil, slice_get, Vec, Global}
+use Rattle.std.proofs.Common.{◌≡◌, ℕ, zero, suc, ◌+◌, ◌-◌, ◌<◌, ◌≤◌, List, [], ◌∷◌, ◌++◌, map, length, Bool, true, false, is_some, Option, Some, None, option_map, refl, sym, ap, ap₂, subst, ◌∙◌, arith, if◌then◌else◌, codes, append-nil, slice_get, String, Vec, Global, string_bytes}
 use Rattle.std.specs.Prelude.{nat_lt}
 use Rattle.doc_tree.specs.Doc.{Doc, null, boolean, int, text, list, object, Elements, no_elements, element, Members, no_members, member, get_member}
 use Rattle.schema_levels.specs.PlaceInValue.{name, index, member_name}
-use Rattle.doc_tree.specs.Lists.{elements_list}
+use Rattle.doc_tree.specs.Lists.{elements_list, names_list, values_list}
 use Rattle.doc_tree.specs.TreeView.{view}
+use Rattle.doc_tree.specs.declared.tree.Tree.{Tree}
 use Rattle.schema_rules.specs.Holds.{holds}
 use Rattle.schema_rules.specs.Assertions.{asserts}
+use Rattle.schema_rules.specs.Patterns.{fits}
 use Rattle.schema_rules.specs.Parts.{elements_in, members_in, beside, after}
 use Rattle.schema_rules.specs.References.{target}
-use Rattle.schema_rules.specs.Rules.{Ask, ask, at_each, of_each, by_place, by_name, each_named, of_names, of_others, if_named, at_target, after_if, with_if, where_true, where_false}
+use Rattle.schema_rules.specs.Rules.{Ask, ask, at_each, by_each, of_each, by_place, by_name, each_named, of_names, of_others, if_named, at_target, after_if, with_if, where_true, where_false, where_present}
 use Rattle.schema_rules.specs.declared.assertion.Assertion.{Assertion}
 use Rattle.schema_rules.specs.declared.keyword.Keyword.{Keyword}
-use Rattle.schema_rules.specs.declared.keyword.Keyword.TheVariants.{Properties as properties, AdditionalProperties, PropertyNames, PrefixItems, Items, AllOf, AnyOf, OneOf, Not as negates, Then as then_keyword, Else as else_keyword, Ref}
+use Rattle.schema_rules.specs.declared.keyword.Keyword.TheVariants.{Pattern, Properties as properties, AdditionalProperties, PropertyNames, PrefixItems, Items, AllOf, AnyOf, OneOf, Not as negates, Then as then_keyword, Else as else_keyword, DependentSchemas, Ref}
 use Rattle.schema_rules.proofs.Others.{AsksNone, asks-none, joins-none}
 use Rattle.schema_nodes.specs.Rules.{schemas_asked}
 use Rattle.schema_levels.specs.Below.{below, number_named, unless}
@@ -20,7 +22,7 @@ use Rattle.schema_levels.specs.Closure.{here}
 use Rattle.schema_levels.specs.Table.{Child, children, items_from, members_each, titles, ask_children, ask_found, ask_here, rule_of}
 use Rattle.schema_levels.specs.declared.node.Node.{Node}
 use Rattle.schema_levels.specs.declared.node.Rule.{Rule}
-use Rattle.schema_levels.specs.declared.node.Rule.TheVariants.{Says, Asserts, All, Any, One, Not, Then, Else, Refers, Properties, Others, Names, ByPlace, Rest}
+use Rattle.schema_levels.specs.declared.node.Rule.TheVariants.{Says, Asserts, Matches, All, Any, One, Not, Then, Else, Dependent, Refers, Properties, Others, Names, ByPlace, Rest}
 use Rattle.schema_rules.specs.Keywords.{keyword_of, shape_of}
 use Rattle.schema_graph.specs.Orders.{at}
 use Rattle.schema_graph.specs.Walks.{In}
@@ -44,6 +46,15 @@ at_each_join schema (j ∷ row) (element s ss) t e =
     ap₂ (λ d l. ask d t ∷ l) h (at_each_join schema row ss t r)
 at_each_join schema [] (element s ss) t e = absurd cc
 at_each_join schema (j ∷ row) no_elements t e = absurd cc
+
+by_each_join : (schema : ℕ → Doc) (row : List ℕ) (ss : Members) (t : Doc) → map schema row ≡ values_list ss → schemas_asked schema (ask_here row t) ≡ by_each ss t
+by_each_join schema [] no_members t e = refl
+by_each_join schema (j ∷ row) (member k s ss) t e =
+    let h : schema j ≡ s = cc in
+    let r : map schema row ≡ values_list ss = cc in
+    ap₂ (λ d l. ask d t ∷ l) h (by_each_join schema row ss t r)
+by_each_join schema [] (member k s ss) t e = absurd cc
+by_each_join schema (j ∷ row) no_members t e = absurd cc
 
 -- ---- at children: nothing is asked of elements, or of members
 
@@ -98,6 +109,12 @@ module _ (schema : ℕ → Doc) (root : Doc) (ms : Members) (v : Doc) where
   pub is_one : (row : Vec ℕ Global) → map schema row.items ≡ elements_list (elements_in v) → IsRule schema root ms OneOf v (One row)
   is_one row e x suits = (λ t. in_place schema x (One row) t _ (λ n. refl) (λ k. refl) refl (at_each_join schema row.items (elements_in v) t e), λ t bs. refl)
 
+  pub is_dependent : (names : Vec (String Global) Global) (row : Vec ℕ Global) → map string_bytes names.items ≡ names_list (members_in v) → map schema row.items ≡ values_list (members_in v) → IsRule schema root ms DependentSchemas v (Dependent names row)
+  is_dependent names row n e x suits = (
+    λ t. in_place schema x (Dependent names row) t _ (λ n. refl) (λ k. refl) refl (by_each_join schema row.items (members_in v) t e),
+    λ t bs. ap (λ l. where_present l t bs) n,
+  )
+
   pub is_not : (j : ℕ) → schema j ≡ v → IsRule schema root ms negates v (Not j)
   is_not j e x suits = (λ t. in_place schema x (Not j) t _ (λ n. refl) (λ k. refl) refl (ap (λ d. ask d t ∷ []) e), λ t bs. refl)
 
@@ -125,6 +142,13 @@ module _ (schema : ℕ → Doc) (root : Doc) (ms : Members) (v : Doc) where
 
   pub is_no_reference : (row : Vec ℕ Global) → row.items ≡ [] → target root v ≡ None → IsRule schema root ms Ref v (All row)
   is_no_reference row none e x suits = (λ t. in_place schema x (All row) t _ (λ n. refl) (λ k. refl) refl (ap (λ l. schemas_asked schema (ask_here l t)) none ∙ sym (ap (λ o. at_target o t) e)), λ t bs. refl)
+
+  pub is_match : (n : ℕ) (a : Tree) → view a ≡ v → IsRule schema root ms Pattern v (Matches n a)
+  is_match n a e x suits = (λ t. in_place schema x (Matches n a) t _ (λ n. refl) (λ k. refl) refl refl, λ t bs. ap (λ d. fits d t) e)
+
+  -- of a value in which nothing is searched for
+  pub is_no_match : ((t : Doc) → fits v t ≡ true) → IsRule schema root ms Pattern v (Says true)
+  is_no_match passes x suits = (λ t. in_place schema x (Says true) t _ (λ n. refl) (λ k. refl) refl refl, λ t bs. sym (passes t))
 
   pub is_assertion : (k : Keyword) (a : Assertion) → AsksNone k → ((t : Doc) → holds a t ≡ asserts k v t) → IsRule schema root ms k v (Asserts a)
   is_assertion k a none is x suits = (λ t. in_place schema x (Asserts a) t _ (λ n. refl) (λ k. refl) refl (sym (asks-none k none root ms v t)), λ t bs. is t ∙ sym (joins-none k none ms v t bs))

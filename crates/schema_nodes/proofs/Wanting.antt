@@ -11,11 +11,11 @@ use Rattle.schema_rules.specs.declared.keyword.Keyword.TheVariants as keywords
 use Rattle.schema_levels.specs.Counters.{wants, wanted, wanted_in}
 use Rattle.schema_levels.specs.declared.node.Node.{Node}
 use Rattle.schema_levels.specs.declared.node.Rule.{Rule}
-use Rattle.schema_levels.specs.declared.node.Rule.TheVariants.{Says, Asserts, All, Any, One, Then, Else, Refers, Properties, ByPlace, AtLeast, AtMost}
+use Rattle.schema_levels.specs.declared.node.Rule.TheVariants.{Says, Asserts, Matches, All, Any, One, Then, Else, Dependent, Refers, Properties, ByPlace, AtLeast, AtMost}
 use Rattle.schema_nodes.specs.declared.entries.Entry.{Entry}
 use Rattle.schema_nodes.specs.declared.rules.Targets.{Targets}
 use Rattle.schema_nodes.specs.Entries.{entries_want}
-use Rattle.schema_nodes.specs.Fits.{Around, Fits, AreFitting, IsBuilt, IsChoice, IsReference, AreMade, target_number}
+use Rattle.schema_nodes.specs.Fits.{Around, Fits, AreFitting, IsBuilt, IsChoice, IsMatch, IsReference, AreMade, pattern_number, patterns_of, target_number}
 use Rattle.schema_nodes.specs.Wants.{keyword_wants, members_want}
 
 -- ---- one rule
@@ -36,6 +36,10 @@ reference_wants : (o : Option ℕ) (r : Rule) → IsReference o r → wants r �
 reference_wants (Some j) r h = is_none r (Refers j) h refl
 reference_wants None r h = is_none r (All h.0) h.1 refl
 
+match_wants : (o : Option ℕ) (v : Doc) (r : Rule) → IsMatch o v r → wants r ≤ 0
+match_wants (Some n) v r h = is_none r (Matches n h.0) h.1 refl
+match_wants None v r h = is_none r (Says true) h refl
+
 module _ (ts : Targets) (ranks : List ℕ) (root : Doc) (near : Around) where
   fits_wants : (k : Keyword) (v : Doc) (row : List ℕ) (r : Rule) → Fits ts ranks root near k v row r → wants r ≤ keyword_wants k
   fits_wants keywords.Contains v row r h = one_at_most r
@@ -51,7 +55,9 @@ module _ (ts : Targets) (ranks : List ℕ) (root : Doc) (near : Around) where
   fits_wants keywords.Not v row r h = is_none r _ h refl
   fits_wants keywords.Then v row r h = choice_wants near.condition Then row r (λ a b. refl) h
   fits_wants keywords.Else v row r h = choice_wants near.condition Else row r (λ a b. refl) h
+  fits_wants keywords.DependentSchemas v row r h = is_none r (Dependent h.0 h.1) h.2 refl
   fits_wants keywords.Ref v row r h = reference_wants (option_map (at ranks) (target_number ts root v)) r h
+  fits_wants keywords.Pattern v row r h = match_wants (pattern_number (patterns_of ts) v) v r h
   fits_wants keywords.MinContains v row r h = is_none r (Says true) h refl
   fits_wants keywords.If v row r h = is_none r (Says true) h refl
   fits_wants keywords.Defs v row r h = is_none r (Says true) h refl

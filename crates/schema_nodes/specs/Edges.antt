@@ -7,7 +7,7 @@ use Rattle.doc_tree.specs.TreeView.{view}
 use Rattle.schema_rules.specs.Keywords.{keyword_of}
 use Rattle.schema_rules.specs.Parts.{members_in}
 use Rattle.schema_rules.specs.declared.keyword.Keyword.{Keyword}
-use Rattle.schema_rules.specs.declared.keyword.Keyword.TheVariants.{AllOf, AnyOf, OneOf, Not, If, Then, Else, Ref}
+use Rattle.schema_rules.specs.declared.keyword.Keyword.TheVariants.{AllOf, AnyOf, OneOf, Not, If, Then, Else, DependentSchemas, Ref}
 use Rattle.schema_nodes.specs.Fits.{target_number}
 use Rattle.schema_nodes.specs.declared.entries.Entry.{Entry}
 use Rattle.schema_nodes.specs.declared.rules.Targets.{Targets}
@@ -21,6 +21,7 @@ edges_at ts root Not v row = row
 edges_at ts root If v row = row
 edges_at ts root Then v row = row
 edges_at ts root Else v row = row
+edges_at ts root DependentSchemas v row = row
 edges_at ts root Ref v row = option_to_list (target_number ts root v)
 edges_at ts root _ v row = []
 

@@ -1,5 +1,6 @@
 -- For the clauses within the crate: the rule that is made of a member.
-use Rattle.std.specs.Prelude.{◌≡◌, ⊤, ℕ, List, [], ◌∷◌, Bool, true, Option, Some, None, option_map, if◌then◌else◌, codes, length, slice_get}
+use Rattle.std.specs.Prelude.{◌≡◌, ⊤, ℕ, suc, List, [], ◌∷◌, Bool, true, Option, Some, None, option_map, if◌then◌else◌, codes, length, map, slice_get, String, string_bytes}
+use Rattle.std.specs.declared.alloc.Global.{Global}
 use Rattle.std.specs.Global.{Vec}
 use Rattle.std.specs.Option.{option_and_then}
 use Rattle.std.specs.Str.{bytes_eq}
@@ -17,7 +18,7 @@ use Rattle.schema_rules.specs.declared.keyword.Keyword.{Keyword}
 use Rattle.schema_rules.specs.declared.keyword.Keyword.TheVariants as keywords
 use Rattle.schema_levels.specs.Below.{number_named}
 use Rattle.schema_levels.specs.declared.node.Rule.{Rule}
-use Rattle.schema_levels.specs.declared.node.Rule.TheVariants.{Says, Asserts, All, Any, One, Not, Then, Else, Refers, Properties, Others, Names, ByPlace, Rest, Contains, AtLeast, AtMost}
+use Rattle.schema_levels.specs.declared.node.Rule.TheVariants.{Says, Asserts, Matches, All, Any, One, Not, Then, Else, Dependent, Refers, Properties, Others, Names, ByPlace, Rest, Contains, AtLeast, AtMost}
 use Rattle.schema_nodes.specs.declared.rules.Near.{Near}
 use Rattle.schema_nodes.specs.declared.rules.Targets.{Targets}
 use Rattle.schema_graph.specs.Orders.{at}
@@ -25,7 +26,7 @@ use Rattle.schema_nodes.specs.Nodes.{AreNamed, HaveRows, AreMoved}
 pub use Rattle.schema_nodes.specs.Entries.{AsMany}
 use Rattle.schema_nodes.specs.declared.entries.Entry.{Entry}
 use Rattle.schema_levels.specs.declared.node.Node.{Node}
-use Rattle.doc_tree.specs.Lists.{elements_list}
+use Rattle.doc_tree.specs.Lists.{elements_list, names_list}
 
 -- the numbers of the schemas that references name: that of the whole one, and those in its row of definitions
 pub record IsTargets (root : Doc) (number : ℕ) (rows : List (Vec ℕ)) (ts : Targets) : Type 0 where
@@ -72,6 +73,29 @@ abbrev pub IsLimit : Option ℕ → Doc → Rule → Type 0
 IsLimit None v r = r ≡ Says true
 IsLimit (Some j) v r = (a : Tree) × (r ≡ AtMost j a) × (view a ≡ v)
 
+-- a rule with the names of these members, and the numbers of their schemas
+abbrev pub IsDependent : Doc → List ℕ → Rule → Type 0
+IsDependent v row r = (ns : Vec (String Global)) × (w : Vec ℕ) × (r ≡ Dependent ns w) × (map string_bytes ns.items ≡ names_list (members_in v)) × (w.items ≡ row)
+
+-- the number of the first of these texts that is this one
+abbrev pub number_in : List (List ℕ) → List ℕ → Option ℕ
+number_in [] s = None
+number_in (p ∷ ps) s = if bytes_eq p s then Some 0 else option_map suc (number_in ps s)
+
+-- the number of the pattern that this value is
+abbrev pub pattern_number : List (List ℕ) → Doc → Option ℕ
+pattern_number ps (text s) = number_in ps s
+pattern_number ps _ = None
+
+-- the texts of the patterns, in the order of their numbers
+abbrev pub patterns_of : Targets → List (List ℕ)
+patterns_of ts = map (λ s. s.now) ts.patterns.now
+
+-- a rule that asks for a match of the pattern of that number; one that passes everything without a number
+abbrev pub IsMatch : Option ℕ → Doc → Rule → Type 0
+IsMatch None v r = r ≡ Says true
+IsMatch (Some n) v r = (a : Tree) × (r ≡ Matches n a) × (view a ≡ v)
+
 -- a keyword that asks no schema: its rule says that everything passes, if the keyword asserts nothing, and else what it
 -- asserts
 abbrev pub AsksNoSchema : Keyword → Doc → Rule → Type 0
@@ -106,7 +130,9 @@ Fits ts ranks root near keywords.OneOf v row r = (w : Vec ℕ) × (r ≡ One w) 
 Fits ts ranks root near keywords.Not v row r = r ≡ Not (first_of row)
 Fits ts ranks root near keywords.Then v row r = IsChoice Then near.condition row r
 Fits ts ranks root near keywords.Else v row r = IsChoice Else near.condition row r
+Fits ts ranks root near keywords.DependentSchemas v row r = IsDependent v row r
 Fits ts ranks root near keywords.Ref v row r = IsReference (option_map (at ranks) (target_number ts root v)) r
+Fits ts ranks root near keywords.Pattern v row r = IsMatch (pattern_number (patterns_of ts) v) v r
 Fits ts ranks root near keywords.Contains v row r = IsCount near.least row r
 Fits ts ranks root near keywords.MaxContains v row r = IsLimit near.contained v r
 Fits ts ranks root near k v row r = AsksNoSchema k v r

@@ -15,7 +15,7 @@ use std::alloc::{AllocError, Global};
 /// The graph of the entries: each leads to those that it applies to the instance itself.
 pub(crate) fn edges_of(
     entries: &[Entry<'_>],
-    targets: &Targets,
+    targets: &Targets<'_>,
     root: &Tree,
     alloc: Global,
 ) -> Result<Vec<Vec<usize>>, AllocError>
@@ -31,7 +31,7 @@ pub(crate) fn edges_of(
 fn edges_from(
     schema: &Tree,
     rows: &[Vec<usize>],
-    targets: &Targets,
+    targets: &Targets<'_>,
     root: &Tree,
     alloc: Global,
 ) -> Result<Vec<usize>, AllocError>
@@ -46,7 +46,7 @@ fn edges_from(
 fn edges_in(
     members: &NameMap<Tree>,
     rows: &[Vec<usize>],
-    targets: &Targets,
+    targets: &Targets<'_>,
     root: &Tree,
     alloc: Global,
 ) -> Result<Vec<usize>, AllocError>
@@ -71,7 +71,7 @@ fn with_edges(
     keyword: Keyword,
     value: &Tree,
     row: &[usize],
-    targets: &Targets,
+    targets: &Targets<'_>,
     root: &Tree,
     found: Vec<usize>,
 ) -> Result<Vec<usize>, AllocError>
@@ -85,6 +85,7 @@ fn with_edges(
         Keyword::If => with_each(row, found),
         Keyword::Then => with_each(row, found),
         Keyword::Else => with_each(row, found),
+        Keyword::DependentSchemas => with_each(row, found),
         Keyword::Ref => with_number(target_number(targets, root, value), found),
         _ => Ok(found),
     }

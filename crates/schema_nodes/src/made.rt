@@ -22,7 +22,7 @@ pub(crate) fn nodes_of(
     places: &[usize],
     ranks: &[usize],
     root: &Tree,
-    targets: &Targets,
+    targets: &Targets<'_>,
     alloc: Global,
 ) -> Result<Vec<Node>, AllocError>
     requires within { (i : ℕ) → i < length places.now → at places.now i < length entries.now }
@@ -42,7 +42,7 @@ fn node_at(
     entries: &[Entry<'_>],
     ranks: &[usize],
     root: &Tree,
-    targets: &Targets,
+    targets: &Targets<'_>,
     alloc: Global,
 ) -> Result<Node, AllocError>
     requires within { number < length entries.now }
@@ -59,7 +59,7 @@ fn node_of(
     schema: &Tree,
     rows: &[Vec<usize>],
     root: &Tree,
-    targets: &Targets,
+    targets: &Targets<'_>,
     ranks: &[usize],
     alloc: Global,
 ) -> Result<Node, AllocError>
@@ -77,7 +77,7 @@ fn node_of_object(
     members: &NameMap<Tree>,
     rows: &[Vec<usize>],
     root: &Tree,
-    targets: &Targets,
+    targets: &Targets<'_>,
     ranks: &[usize],
     alloc: Global,
 ) -> Result<Node, AllocError>

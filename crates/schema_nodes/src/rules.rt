@@ -1,11 +1,13 @@
 //! The rules of a schema object's members.
-ghost use Rattle.std.specs.Prelude.{◌≡◌, IfOk, Some, codes, option_map};
+ghost use Rattle.std.specs.Prelude.{◌≡◌, IfOk, Some, codes, map, option_map, string_bytes};
 ghost use Rattle.doc_tree.specs.Doc.{text};
+ghost use Rattle.doc_tree.specs.Lists.{names_list};
 ghost use Rattle.doc_tree.specs.TreeView.{view, members_view};
+ghost use Rattle.schema_rules.specs.Parts.{members_in};
 ghost use Rattle.schema_rules.specs.References.{without_front};
 ghost use Rattle.schema_graph.specs.Orders.{at};
 ghost use Rattle.schema_levels.specs.Below.{number_named};
-ghost use Rattle.schema_nodes.specs.Fits.{Fits, AreFitting, AsMany, AreSorted, AreTargets, AsksNoSchema, IsCount, IsLimit, IsReference, around, first_of, known_near, number_by, target_number};
+ghost use Rattle.schema_nodes.specs.Fits.{Fits, AreFitting, AsMany, AreSorted, AreTargets, AsksNoSchema, IsCount, IsDependent, IsLimit, IsMatch, IsReference, around, first_of, known_near, number_by, number_in, pattern_number, target_number};
 
 use crate::names::single_number;
 use crate::ranks::rank_of;
@@ -16,13 +18,15 @@ use schema_rules::{Assertion, Keyword, keyword_named, member_named, target};
 use std::alloc::{AllocError, Global};
 use std::collections::BTreeMap;
 
-/// The numbers of the schemas that references name.
+/// The numbers of the schemas that references name, and the patterns, each at its number.
 #[derive(Drop)]
-pub struct Targets {
-    /// That of the whole schema.
+pub struct Targets<'s> {
+    /// The number of the whole schema.
     pub whole: usize,
     /// Those of its definitions.
     pub named: BTreeMap<String, usize>,
+    /// The texts of the patterns, in the order of their numbers.
+    pub patterns: &'s [&'s str],
 }
 
 /// What a rule needs to know of the members beside its own.
@@ -41,7 +45,7 @@ pub(crate) fn rules_of(
     members: &NameMap<Tree>,
     rows: &[Vec<usize>],
     root: &Tree,
-    targets: &Targets,
+    targets: &Targets<'_>,
     ranks: &[usize],
     alloc: Global,
 ) -> Result<Vec<Rule>, AllocError>
@@ -84,7 +88,7 @@ fn rule_of(
     value: &Tree,
     row: &[usize],
     root: &Tree,
-    targets: &Targets,
+    targets: &Targets<'_>,
     ranks: &[usize],
     alloc: Global,
 ) -> Result<Rule, AllocError>
@@ -110,6 +114,8 @@ fn rule_of(
             Some(condition) => Rule::Else(condition, first_of(row)),
             None => Rule::Says(true),
         }),
+        Keyword::DependentSchemas => dependent(value, row, alloc),
+        Keyword::Pattern => matching(pattern_number(targets.patterns, value), value, alloc),
         Keyword::Ref => Ok(reference(target_number(targets, root, value), ranks, alloc)),
         _ => alone(keyword, value, alloc),
     }
@@ -151,6 +157,65 @@ fn limit(contained: Option<usize>, value: &Tree, alloc: Global) -> Result<Rule, 
     }
 }
 
+// Of `pattern`, with the number of the pattern.
+fn matching(number: Option<usize>, value: &Tree, alloc: Global) -> Result<Rule, AllocError>
+    ensures { IfOk result (IsMatch number (view value.now)) }
+{
+    match number {
+        Some(number) => Ok(Rule::Matches(number, value.copy(alloc)?)),
+        None => Ok(Rule::Says(true)),
+    }
+}
+
+fn pattern_number(patterns: &[&str], value: &Tree) -> Option<usize>
+    ensures { result ≡ pattern_number (map (λ s. s.now) patterns.now) (view value.now) }
+{
+    match value {
+        Tree::Text(text) => number_in(patterns, text.as_str()),
+        _ => None,
+    }
+}
+
+// The number of the first of these texts that is this one.
+fn number_in(texts: &[&str], text: &str) -> Option<usize>
+    ensures { result ≡ number_in (map (λ s. s.now) texts.now) text.now }
+{
+    let mut number = 0;
+    while number < texts.len() {
+        if texts[number] == text {
+            return Some(number);
+        }
+        number += 1;
+    }
+    None
+}
+
+// Of `dependentSchemas`: the names, and the numbers of their schemas.
+fn dependent(value: &Tree, row: &[usize], alloc: Global) -> Result<Rule, AllocError>
+    ensures { IfOk result (IsDependent (view value.now) row.now) }
+{
+    Ok(Rule::Dependent(names_of(value, alloc)?, copy(row, alloc)?))
+}
+
+fn names_of(value: &Tree, alloc: Global) -> Result<Vec<String>, AllocError>
+    ensures { IfOk result (λ v. map string_bytes v.items ≡ names_list (members_in (view value.now))) }
+{
+    match value {
+        Tree::Object(members) => names_in(members, alloc),
+        _ => Ok(Vec::new(alloc)),
+    }
+}
+
+fn names_in(members: &NameMap<Tree>, alloc: Global) -> Result<Vec<String>, AllocError>
+    ensures { IfOk result (λ v. map string_bytes v.items ≡ names_list (members_view members.now.entries)) }
+{
+    let mut names = Vec::with_capacity(alloc, members.len())?;
+    for (name, _) in members.iter() {
+        names.push(String::from_str(alloc, name.as_str())?)?;
+    }
+    Ok(names)
+}
+
 // If a reference names no schema, the rule asks all of no nodes.
 fn reference(number: Option<usize>, ranks: &[usize], alloc: Global) -> Rule
     ensures { IsReference (option_map (at ranks.now) number) result }
@@ -181,7 +246,7 @@ fn copy(row: &[usize], alloc: Global) -> Result<Vec<usize>, AllocError>
 }
 
 /// The number of the schema that a reference names, if it names one.
-pub(crate) fn target_number(targets: &Targets, root: &Tree, value: &Tree) -> Option<usize>
+pub(crate) fn target_number(targets: &Targets<'_>, root: &Tree, value: &Tree) -> Option<usize>
     ensures { result ≡ target_number targets.now (view root.now) (view value.now) }
 {
     match target(root, value) {
@@ -190,7 +255,7 @@ pub(crate) fn target_number(targets: &Targets, root: &Tree, value: &Tree) -> Opt
     }
 }
 
-fn number_by(targets: &Targets, value: &Tree) -> Option<usize>
+fn number_by(targets: &Targets<'_>, value: &Tree) -> Option<usize>
     ensures { result ≡ number_by targets.now (view value.now) }
 {
     match value {
@@ -199,7 +264,7 @@ fn number_by(targets: &Targets, value: &Tree) -> Option<usize>
     }
 }
 
-fn number_of_text(targets: &Targets, name: &str) -> Option<usize>
+fn number_of_text(targets: &Targets<'_>, name: &str) -> Option<usize>
     ensures { result ≡ number_by targets.now (text name.now) }
 {
     if name == "#" {

@@ -1,8 +1,9 @@
 //! The nodes of a schema's tree.
-ghost use Rattle.std.specs.Prelude.{◌≡◌, ◌*◌, ◌<◌, ◌≤◌, ℕ, IfOk, Some, codes, length};
+ghost use Rattle.std.specs.Prelude.{◌≡◌, ◌*◌, ◌<◌, ◌≤◌, ℕ, IfOk, Some, codes, length, map};
 ghost use Rattle.doc_tree.specs.Doc.{Doc};
 ghost use Rattle.doc_tree.specs.TreeView.{view};
 ghost use Rattle.schema_rules.specs.Parts.{beside, members_in};
+ghost use Rattle.schema_rules.specs.PatternTexts.{pattern_texts};
 ghost use Rattle.schema_rules.specs.Schemas.{schemas};
 ghost use Rattle.schema_nodes.specs.Compiled.{IsFound};
 ghost use Rattle.schema_levels.specs.Counters.{HaveRoom};
@@ -33,11 +34,16 @@ pub struct Compiled {
     pub whole: usize,
 }
 
-/// The nodes of the schema; none if some schema in it leads back to itself at one and the same instance. An error means
-/// that memory ran out.
-pub fn compile(root: &Tree, alloc: Global) -> Result<Option<Compiled>, AllocError>
+/// The nodes of the schema; none if some schema in it leads back to itself at one and the same instance. `patterns` are
+/// the texts of all its patterns. An error means that memory ran out.
+pub fn compile(
+    root: &Tree,
+    patterns: &[&str],
+    alloc: Global,
+) -> Result<Option<Compiled>, AllocError>
     requires room { length (schemas (view root.now)) ≤ 64 * MOST_WORDS }
     requires few { HaveRoom (schemas_want (schemas (view root.now))) }
+    requires patterns { map (λ s. s.now) patterns.now ≡ pattern_texts (view root.now) }
     ensures { IfOk result (λ found. IsFound (view root.now) found) }
 {
     let empty = Grown {
@@ -45,18 +51,20 @@ pub fn compile(root: &Tree, alloc: Global) -> Result<Option<Compiled>, AllocErro
         row: Vec::new(alloc),
     };
     let grown = with_schema(root, root, alloc, empty)?;
-    compile_entries(root, &grown.entries, grown.row[0], alloc)
+    compile_entries(root, patterns, &grown.entries, grown.row[0], alloc)
 }
 
 // The same, once the whole schema and those below it have their numbers.
 fn compile_entries(
     root: &Tree,
+    patterns: &[&str],
     entries: &[Entry<'_>],
     whole: usize,
     alloc: Global,
 ) -> Result<Option<Compiled>, AllocError>
     requires room { length (schemas (view root.now)) ≤ 64 * MOST_WORDS }
     requires few { HaveRoom (schemas_want (schemas (view root.now))) }
+    requires patterns { map (λ s. s.now) patterns.now ≡ pattern_texts (view root.now) }
     requires many { length entries.now ≡ length (schemas (view root.now)) }
     requires want { entries_want entries.now ≡ schemas_want (schemas (view root.now)) }
     requires are { AreEntries (view root.now) entries.now }
@@ -68,6 +76,7 @@ fn compile_entries(
     let targets = Targets {
         whole,
         named: definitions(root, &entry.rows, alloc)?,
+        patterns,
     };
     let graph = edges_of(entries, &targets, root, alloc)?;
     match order_of(alloc, &graph)? {

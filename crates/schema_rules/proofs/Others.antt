@@ -4,10 +4,11 @@ use Rattle.doc_tree.specs.Doc.{Doc, Members}
 use Rattle.schema_rules.specs.Assertions.{asserts}
 use Rattle.schema_rules.specs.Rules.{asks, joins}
 use Rattle.schema_rules.specs.declared.keyword.Keyword.{Keyword}
-use Rattle.schema_rules.specs.declared.keyword.Keyword.TheVariants.{Properties, AdditionalProperties, PropertyNames, PrefixItems, Items, Contains, MaxContains, AllOf, AnyOf, OneOf, Not, Then, Else, Ref}
+use Rattle.schema_rules.specs.declared.keyword.Keyword.TheVariants.{Pattern, Properties, AdditionalProperties, PropertyNames, PrefixItems, Items, Contains, MaxContains, AllOf, AnyOf, OneOf, Not, Then, Else, DependentSchemas, Ref}
 
--- the keyword is none that asks schemas
+-- the keyword is none that asks schemas, and none that searches
 pub record AsksNone (k : Keyword) : Type 0 where
+  pub not_pattern : k ≡ Pattern → ⊥
   pub not_properties : k ≡ Properties → ⊥
   pub not_additional_properties : k ≡ AdditionalProperties → ⊥
   pub not_property_names : k ≡ PropertyNames → ⊥
@@ -21,6 +22,7 @@ pub record AsksNone (k : Keyword) : Type 0 where
   pub not_not : k ≡ Not → ⊥
   pub not_then : k ≡ Then → ⊥
   pub not_else : k ≡ Else → ⊥
+  pub not_dependent_schemas : k ≡ DependentSchemas → ⊥
   pub not_ref : k ≡ Ref → ⊥
 
 pub asks-none : (k : Keyword) → AsksNone k → (root : Doc) (ms : Members) (v t : Doc) → asks root ms k v t ≡ []
@@ -37,10 +39,12 @@ asks-none OneOf h root ms v t = absurd (h.not_one_of refl)
 asks-none Not h root ms v t = absurd (h.not_not refl)
 asks-none Then h root ms v t = absurd (h.not_then refl)
 asks-none Else h root ms v t = absurd (h.not_else refl)
+asks-none DependentSchemas h root ms v t = absurd (h.not_dependent_schemas refl)
 asks-none Ref h root ms v t = absurd (h.not_ref refl)
 asks-none _ h root ms v t = refl
 
 pub joins-none : (k : Keyword) → AsksNone k → (ms : Members) (v t : Doc) (answers : List Bool) → joins ms k v t answers ≡ asserts k v t
+joins-none Pattern h ms v t answers = absurd (h.not_pattern refl)
 joins-none Properties h ms v t answers = absurd (h.not_properties refl)
 joins-none AdditionalProperties h ms v t answers = absurd (h.not_additional_properties refl)
 joins-none PropertyNames h ms v t answers = absurd (h.not_property_names refl)
@@ -54,5 +58,6 @@ joins-none OneOf h ms v t answers = absurd (h.not_one_of refl)
 joins-none Not h ms v t answers = absurd (h.not_not refl)
 joins-none Then h ms v t answers = absurd (h.not_then refl)
 joins-none Else h ms v t answers = absurd (h.not_else refl)
+joins-none DependentSchemas h ms v t answers = absurd (h.not_dependent_schemas refl)
 joins-none Ref h ms v t answers = absurd (h.not_ref refl)
 joins-none _ h ms v t answers = refl

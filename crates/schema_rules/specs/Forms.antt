@@ -6,7 +6,7 @@ use Rattle.doc_tree.specs.Doc.{Doc, boolean, int, text, list, object, element}
 use Rattle.doc_tree.specs.Lists.{elements_list, values_list}
 use Rattle.schema_rules.specs.Assertions.{are_distinct}
 use Rattle.schema_rules.specs.declared.keyword.Keyword.{Keyword}
-use Rattle.schema_rules.specs.declared.keyword.Keyword.TheVariants.{OfType, Enumeration, MultipleOf, Minimum, Maximum, ExclusiveMinimum, ExclusiveMaximum, MinLength, MaxLength, MinItems, MaxItems, UniqueItems, MinProperties, MaxProperties, Required, DependentRequired, Properties, PrefixItems, MinContains, MaxContains, AllOf, AnyOf, OneOf, Defs, Ref, Id, Dialect, LeftOut}
+use Rattle.schema_rules.specs.declared.keyword.Keyword.TheVariants.{OfType, Enumeration, MultipleOf, Minimum, Maximum, ExclusiveMinimum, ExclusiveMaximum, MinLength, MaxLength, Pattern, MinItems, MaxItems, UniqueItems, MinProperties, MaxProperties, Required, DependentRequired, Properties, PrefixItems, MinContains, MaxContains, AllOf, AnyOf, OneOf, DependentSchemas, Defs, Ref, Id, Dialect, LeftOut}
 
 abbrev pub is_text : Doc → Bool
 is_text (text s) = true
@@ -68,6 +68,7 @@ has_form at_root ExclusiveMinimum v = is_number v
 has_form at_root ExclusiveMaximum v = is_number v
 has_form at_root MinLength v = is_number_from (pos 0) v
 has_form at_root MaxLength v = is_number_from (pos 0) v
+has_form at_root Pattern v = is_text v
 has_form at_root MinItems v = is_number_from (pos 0) v
 has_form at_root MaxItems v = is_number_from (pos 0) v
 has_form at_root UniqueItems v = is_boolean v
@@ -82,6 +83,7 @@ has_form at_root PrefixItems v = is_some_list v
 has_form at_root AllOf v = is_some_list v
 has_form at_root AnyOf v = is_some_list v
 has_form at_root OneOf v = is_some_list v
+has_form at_root DependentSchemas v = is_object v
 has_form at_root Defs v = is_object v
 has_form at_root Ref v = is_text v
 has_form true Id v = is_text v

@@ -1,10 +1,13 @@
 pub mod Parts
 pub mod Keywords
+pub mod Profiles
 pub mod Assertions
 pub mod Holds
+pub mod Patterns
 pub mod References
 pub mod Forms
 pub mod Rules
 pub mod Schemas
+pub mod PatternTexts
 pub mod Order
 pub mod Instances

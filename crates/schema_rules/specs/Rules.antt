@@ -2,12 +2,13 @@
 -- Schema Core, section 10).
 use Rattle.std.specs.Prelude.{ℕ, pos, ◌+◌, ◌==◌, List, [], ◌∷◌, length, Bool, true, false, not, ◌&&◌, ◌||◌, if◌then◌else◌, Option, Some, None, is_some, codes}
 use Rattle.doc_tree.specs.Doc.{Doc, int, text, object, Elements, no_elements, element, Members, no_members, member, get_member}
-use Rattle.doc_tree.specs.Lists.{elements_list}
+use Rattle.doc_tree.specs.Lists.{elements_list, names_list}
 use Rattle.schema_rules.specs.Parts.{elements_in, members_in, after, beside}
 use Rattle.schema_rules.specs.Assertions.{asserts, at_least, at_most, on_list}
+use Rattle.schema_rules.specs.Patterns.{fits}
 use Rattle.schema_rules.specs.References.{target}
 use Rattle.schema_rules.specs.declared.keyword.Keyword.{Keyword}
-use Rattle.schema_rules.specs.declared.keyword.Keyword.TheVariants.{Properties, AdditionalProperties, PropertyNames, PrefixItems, Items, Contains, MaxContains, AllOf, AnyOf, OneOf, Not, Then, Else, Ref}
+use Rattle.schema_rules.specs.declared.keyword.Keyword.TheVariants.{Pattern, Properties, AdditionalProperties, PropertyNames, PrefixItems, Items, Contains, MaxContains, AllOf, AnyOf, OneOf, Not, Then, Else, DependentSchemas, Ref}
 
 -- ---- which schemas are asked of which values
 
@@ -23,6 +24,11 @@ ask s t = record { schema = s; instance = t }
 abbrev pub at_each : Elements → Doc → List Ask
 at_each no_elements t = []
 at_each (element s ss) t = ask s t ∷ at_each ss t
+
+-- each of the schemas by name, of one instance
+abbrev pub by_each : Members → Doc → List Ask
+by_each no_members t = []
+by_each (member k s ss) t = ask s t ∷ by_each ss t
 
 -- one schema, of each element (Core, section 10.3.1.2)
 abbrev pub of_each : Doc → Elements → List Ask
@@ -89,6 +95,7 @@ asks root ms OneOf v t = at_each (elements_in v) t
 asks root ms Not v t = ask v t ∷ []
 asks root ms Then v t = after_if (get_member (codes "if") ms) v t
 asks root ms Else v t = after_if (get_member (codes "if") ms) v t
+asks root ms DependentSchemas v t = by_each (members_in v) t
 asks root ms Ref v t = at_target (target root v) t
 asks root ms _ v t = []
 
@@ -134,6 +141,11 @@ abbrev pub where_false : List Bool → Bool
 where_false (condition ∷ b ∷ bs) = condition || b
 where_false _ = true
 
+-- each is true whose name is that of a member (Core, section 10.2.2.4)
+abbrev pub where_present : List (List ℕ) → Doc → List Bool → Bool
+where_present (k ∷ ks) t (b ∷ bs) = (not (is_some (get_member k (members_in t))) || b) && where_present ks t bs
+where_present _ _ _ = true
+
 -- whether the instance passes, by the answers to what was asked; a keyword that asks nothing says what it asserts
 abbrev pub joins : Members → Keyword → Doc → Doc → List Bool → Bool
 joins ms Properties v t answers = every answers
@@ -149,5 +161,7 @@ joins ms OneOf v t answers = how_many answers == 1
 joins ms Not v t answers = not (every answers)
 joins ms Then v t answers = with_if (get_member (codes "if") ms) (where_true answers)
 joins ms Else v t answers = with_if (get_member (codes "if") ms) (where_false answers)
+joins ms DependentSchemas v t answers = where_present (names_list (members_in v)) t answers
 joins ms Ref v t answers = every answers
+joins ms Pattern v t answers = fits v t
 joins ms k v t answers = asserts k v t

@@ -5,37 +5,53 @@ use Rattle.doc_tree.specs.Doc.{Doc, null, boolean, int, text, list, object, Elem
 use Rattle.doc_tree.specs.Lists.{elements_list, values_list}
 use Rattle.schema_rules.specs.Keywords.{keyword_of, shape_of}
 use Rattle.schema_rules.specs.Parts.{elements_in, members_in}
+use Rattle.schema_rules.specs.Profiles.{offered}
 use Rattle.schema_rules.specs.References.{target}
 use Rattle.schema_rules.specs.declared.keyword.Keyword.{Keyword}
-use Rattle.schema_rules.specs.declared.keyword.Keyword.TheVariants.{AllOf, AnyOf, OneOf, Not, If, Then, Else, Ref}
+use Rattle.schema_rules.specs.declared.keyword.Keyword.TheVariants.{AllOf, AnyOf, OneOf, Not, If, Then, Else, DependentSchemas, Ref}
 use Rattle.schema_rules.specs.declared.keyword.Shape.{Shape}
 use Rattle.schema_rules.specs.declared.keyword.Shape.TheVariants.{Plain, One, Several, Named}
+use Rattle.schema_rules.specs.declared.profile.Profile.{Profile}
+use Rattle.schema_rules.specs.declared.profile.Profile.TheVariants.{Three}
 
--- those in a value of that shape, in the order of their positions
+-- those in a value of that shape that a profile offers, in the order of their positions
 abbrev mutual
-  pub schemas_in : Shape → Doc → List Doc
-  schemas_in One (object ms) = object ms ∷ schemas_below ms
-  schemas_in One null = null ∷ []
-  schemas_in One (boolean b) = boolean b ∷ []
-  schemas_in One (int z) = int z ∷ []
-  schemas_in One (text s) = text s ∷ []
-  schemas_in One (list ds) = list ds ∷ []
-  schemas_in Several (list ds) = schemas_each ds
-  schemas_in Named (object ms) = schemas_named ms
-  schemas_in _ _ = []
+  pub offered_in : Profile → Shape → Doc → List Doc
+  offered_in profile One (object ms) = object ms ∷ offered_below profile ms
+  offered_in profile One null = null ∷ []
+  offered_in profile One (boolean b) = boolean b ∷ []
+  offered_in profile One (int z) = int z ∷ []
+  offered_in profile One (text s) = text s ∷ []
+  offered_in profile One (list ds) = list ds ∷ []
+  offered_in profile Several (list ds) = offered_each profile ds
+  offered_in profile Named (object ms) = offered_named profile ms
+  offered_in profile _ _ = []
 
-  pub schemas_each : Elements → List Doc
-  schemas_each no_elements = []
-  schemas_each (element d ds) = schemas_in One d ++ schemas_each ds
+  pub offered_each : Profile → Elements → List Doc
+  offered_each profile no_elements = []
+  offered_each profile (element d ds) = offered_in profile One d ++ offered_each profile ds
 
-  pub schemas_named : Members → List Doc
-  schemas_named no_members = []
-  schemas_named (member k d ms) = schemas_in One d ++ schemas_named ms
+  pub offered_named : Profile → Members → List Doc
+  offered_named profile no_members = []
+  offered_named profile (member k d ms) = offered_in profile One d ++ offered_named profile ms
 
   -- below a schema object
-  pub schemas_below : Members → List Doc
-  schemas_below no_members = []
-  schemas_below (member k v ms) = schemas_in (shape_of (keyword_of k)) v ++ schemas_below ms
+  pub offered_below : Profile → Members → List Doc
+  offered_below profile no_members = []
+  offered_below profile (member k v ms) = offered_in profile (shape_of (offered profile (keyword_of k))) v ++ offered_below profile ms
+
+-- the same in the profile that offers all keywords
+abbrev pub schemas_in : Shape → Doc → List Doc
+schemas_in = offered_in Three
+
+abbrev pub schemas_each : Elements → List Doc
+schemas_each = offered_each Three
+
+abbrev pub schemas_named : Members → List Doc
+schemas_named = offered_named Three
+
+abbrev pub schemas_below : Members → List Doc
+schemas_below = offered_below Three
 
 -- the whole schema and those below it
 abbrev pub schemas : Doc → List Doc
@@ -62,6 +78,7 @@ applied_by root Not v = v ∷ []
 applied_by root If v = v ∷ []
 applied_by root Then v = v ∷ []
 applied_by root Else v = v ∷ []
+applied_by root DependentSchemas v = values_list (members_in v)
 applied_by root Ref v = option_to_list (target root v)
 applied_by root _ v = []
 

@@ -25,6 +25,8 @@ pub enum Keyword {
     MinLength,
     /// `maxLength`: Validation, section 6.3.1.
     MaxLength,
+    /// `pattern`: Validation, section 6.3.3.
+    Pattern,
     /// `minItems`: Validation, section 6.4.2.
     MinItems,
     /// `maxItems`: Validation, section 6.4.1.
@@ -69,6 +71,8 @@ pub enum Keyword {
     Then,
     /// `else`: Core, section 10.2.2.3.
     Else,
+    /// `dependentSchemas`: Core, section 10.2.2.4.
+    DependentSchemas,
     /// `$defs`: Core, section 8.2.4.
     Defs,
     /// `$ref`: Core, section 8.2.3.1.
@@ -77,7 +81,7 @@ pub enum Keyword {
     Id,
     /// `$schema`: Core, section 8.1.1.
     Dialect,
-    /// A keyword that is refused and never ignored, as `pattern`.
+    /// A keyword that is refused and never ignored, as `$dynamicRef`.
     LeftOut,
     /// Any other name, as `title`: it asserts nothing, and its value isn't looked at.
     Unknown,
@@ -101,7 +105,7 @@ pub fn shape_of(keyword: Keyword) -> Shape
     ensures { result ≡ shape_of keyword }
 {
     match keyword {
-        Keyword::Properties | Keyword::Defs => Shape::Named,
+        Keyword::Properties | Keyword::DependentSchemas | Keyword::Defs => Shape::Named,
         Keyword::AdditionalProperties
         | Keyword::PropertyNames
         | Keyword::Items

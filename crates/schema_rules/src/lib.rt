@@ -1,6 +1,7 @@
 //! The keywords of JSON Schema 2020-12, one at a time, without going into the schemas that they hold. The tables are in
-//! `specs/`: which keyword a name is (`Keywords`), which values it may have (`Forms`), what it asserts (`Assertions`),
-//! which schemas it asks and how it joins their answers (`Rules`), which a reference names (`References`). Each
+//! `specs/`: which keyword a name is (`Keywords`), which a profile offers (`Profiles`), which values it may have
+//! (`Forms`), what it asserts (`Assertions`), which schemas it asks and how it joins their answers (`Rules`), which a
+//! reference names (`References`). Each
 //! function answers its table for every value, also one without the keyword's form, and takes no memory.
 #![tactic(auto)]
 
@@ -17,6 +18,7 @@ mod members;
 mod names;
 mod numbers;
 mod order;
+mod profile;
 mod references;
 mod required;
 mod sizes;
@@ -28,7 +30,8 @@ pub use forms::has_form;
 pub use instance::Instance;
 pub use keyword::{Keyword, Shape, shape_of};
 pub use left_out::is_left_out;
-pub use members::member_named;
+pub use members::{has_member, member_named};
 pub use names::keyword_named;
+pub use profile::Profile;
 pub use references::{is_dangling, target};
 pub use sizes::{at_least, at_most};

@@ -128,11 +128,11 @@ fn not_offered(name: &str) -> Option<Keyword>
     ensures { result ≡ not_offered name.now }
 {
     match name {
-        "pattern" => Some(Keyword::LeftOut),
+        "pattern" => Some(Keyword::Pattern),
         "patternProperties" => Some(Keyword::LeftOut),
         "unevaluatedItems" => Some(Keyword::LeftOut),
         "unevaluatedProperties" => Some(Keyword::LeftOut),
-        "dependentSchemas" => Some(Keyword::LeftOut),
+        "dependentSchemas" => Some(Keyword::DependentSchemas),
         "$anchor" => Some(Keyword::LeftOut),
         "$dynamicRef" => Some(Keyword::LeftOut),
         "$dynamicAnchor" => Some(Keyword::LeftOut),

@@ -7,7 +7,8 @@ ghost use Rattle.doc_tree.specs.TreeView.{view, elements_view, members_view};
 ghost use Rattle.schema_rules.specs.Assertions.{each_dependent, has_dependents, has_each, is_member};
 ghost use Rattle.schema_rules.specs.Parts.{members_in};
 
-use crate::members::member_named;
+use crate::instance::Instance;
+use crate::members::{has_member, member_named};
 use doc_tree::Tree;
 use name_map::NameMap;
 
@@ -55,18 +56,9 @@ fn has_each_dependent(dependents: &NameMap<Tree>, instance: &Tree) -> bool
     ensures { result ≡ each_dependent (members_view dependents.now.entries) (view instance.now) }
 {
     for (name, names) in dependents.iter() {
-        if has_member(instance, name.as_str()) && !has_each(names, instance) {
+        if has_member(Instance::Value(instance), name.as_str()) && !has_each(names, instance) {
             return false;
         }
     }
     true
-}
-
-fn has_member(instance: &Tree, name: &str) -> bool
-    ensures { result ≡ is_some (get_member name.now (members_in (view instance.now))) }
-{
-    match instance {
-        Tree::Object(members) => member_named(members, name).is_some(),
-        _ => false,
-    }
 }

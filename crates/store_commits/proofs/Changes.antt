@@ -52,6 +52,10 @@ pub changes_count : (s : State) (cs : List Change) → (after_all s cs).seq ≡ 
 changes_count s [] = omega arith
 changes_count s (c ∷ cs) = let h = changes_count (after s c) cs in omega (arith, h)
 
+pub profile_all : (s : State) (cs : List Change) → (after_all s cs).profile ≡ s.profile
+profile_all s [] = refl
+profile_all s (c ∷ cs) = profile_all (after s c) cs
+
 -- ---- how long frames are
 
 frame_size : (seq : ℕ) (c : Change) → length (frame_of (entry seq c)) ≡ frame_sizes (c ∷ [])
@@ -78,11 +82,11 @@ frames_append seq (c ∷ cs) ds =
     ∙ sym (append_assoc (frame_of (entry (seq + 1) c)) (frames_at (seq + 1) cs) (frames_at (seq + length (c ∷ cs)) ds))
 
 -- the frames of accepted changes behind the bytes that hold the state
-pub holds_all : (bytes : List ℕ) (s : State) (cs : List Change) → Holds 2 s.seq bytes s.documents → AreAccepted s cs → AreFramed cs → AreGood s cs
-    → Holds 2 (after_all s cs).seq (bytes ++ frames_at s.seq cs) (after_all s cs).documents
-holds_all bytes s [] holds accepted framed good = subst (λ (l : List ℕ). Holds 2 s.seq l s.documents) (sym (append-nil bytes)) holds
+pub holds_all : (bytes : List ℕ) (s : State) (cs : List Change) → Holds s.profile 2 s.seq bytes s.documents → AreAccepted s cs → AreFramed cs → AreGood s cs
+    → Holds (after_all s cs).profile 2 (after_all s cs).seq (bytes ++ frames_at s.seq cs) (after_all s cs).documents
+holds_all bytes s [] holds accepted framed good = subst (λ (l : List ℕ). Holds s.profile 2 s.seq l s.documents) (sym (append-nil bytes)) holds
 holds_all bytes s (c ∷ cs) holds accepted framed good =
-    subst (λ (l : List ℕ). Holds 2 (after_all (after s c) cs).seq l (after_all (after s c) cs).documents) (append_assoc bytes (frame_of (entry (s.seq + 1) c)) (frames_at (s.seq + 1) cs))
+    subst (λ (l : List ℕ). Holds (after_all (after s c) cs).profile 2 (after_all (after s c) cs).seq l (after_all (after s c) cs).documents) (append_assoc bytes (frame_of (entry (s.seq + 1) c)) (frames_at (s.seq + 1) cs))
     (holds_all (bytes ++ frame_of (entry (s.seq + 1) c)) (after s c) cs (holds_more s bytes c good.0 holds accepted.0 framed.0) accepted.1 framed.1 good.1)
 
 -- ---- transactions

@@ -19,3 +19,4 @@ mod Stepped
 mod Switches
 mod Waiting
 pub mod Went
+pub mod Raised

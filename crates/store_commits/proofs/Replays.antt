@@ -6,7 +6,8 @@ use Rattle.std.proofs.Math.Seq.{take-append_seam, drop-append_seam}
 use Rattle.record_text.specs.Change.{Change, patch}
 use Rattle.record_text.specs.Frame.{Entry, entry, IsEntry, BeginsWith, BeginsWith_1, frame_in, frame_of, frame_1_of, frames_in}
 use Rattle.doc_machine.specs.Entries.{AreTaken, Takes, with_entry}
-use Rattle.doc_changes.specs.State.{Good, State, empty_at}
+use Rattle.schema_rules.specs.declared.profile.Profile.{Profile}
+use Rattle.doc_changes.specs.State.{Good, State, empty_in}
 use Rattle.doc_patch.specs.Meaning.{operations}
 use Rattle.doc_patch.specs.Reading.{operations_of}
 use Rattle.doc_patch.specs.declared.patch.Patch.{Patch}
@@ -18,8 +19,8 @@ use Rattle.store_commits.specs.Replay.{BeginsIn, Continues, HoldsNothing, IsPatc
 use Rattle.store_commits.specs.declared.replaying.ReplayFault.TheVariants.{Damaged}
 use Rattle.store_commits.proofs.Pushed.{frames_push, entries_push, dated_push, with_push, taken_push}
 
-pub replayed_start : (version seq : ℕ) (bytes : List ℕ) (state : State) → state ≡ empty_at seq → Replayed version seq bytes bytes state
-replayed_start version seq bytes state is = record {
+pub replayed_start : (profile : Profile) (version seq : ℕ) (bytes : List ℕ) (state : State) → state ≡ empty_in profile seq → Replayed profile version seq bytes bytes state
+replayed_start profile version seq bytes state is = record {
   entries = [];
   framed = tt;
   dated = λ old. tt;
@@ -57,37 +58,37 @@ goes_on version seq rest state e n nonempty reads (f ∷ more) goes =
       },
     )
 
-pub replayed_more : (version seq : ℕ) (bytes rest : List ℕ) (state new : State) (e : Entry) (n : ℕ) → Replayed version seq bytes rest state → rest ≢ [] → BeginsIn version seq rest e n → ReadsAs version seq rest e n
-    → Takes state e → new ≡ with_entry state e → Replayed version seq bytes (drop n rest) new
-replayed_more version seq bytes rest state new e n replayed nonempty begins reads takes is = record {
+pub replayed_more : (profile : Profile) (version seq : ℕ) (bytes rest : List ℕ) (state new : State) (e : Entry) (n : ℕ) → Replayed profile version seq bytes rest state → rest ≢ [] → BeginsIn version seq rest e n → ReadsAs version seq rest e n
+    → Takes state e → new ≡ with_entry state e → Replayed profile version seq bytes (drop n rest) new
+replayed_more profile version seq bytes rest state new e n replayed nonempty begins reads takes is = record {
   entries = replayed.entries ++ e ∷ [];
   framed = entries_push version replayed.entries e replayed.framed begins.framed;
   dated = λ old. dated_push seq replayed.entries e (replayed.dated old) (begins.dated old);
   spelled = ap (λ (l : List ℕ). l ++ drop n rest) (frames_push version replayed.entries e) ∙ append_assoc (frames_in version replayed.entries) (frame_in version e) (drop n rest)
       ∙ ap (λ (l : List ℕ). frames_in version replayed.entries ++ l) (sym (rest_of version seq rest e n begins)) ∙ replayed.spelled;
-  taken = taken_push (empty_at seq) replayed.entries e replayed.taken (subst (λ (s : State). Takes s e) (sym replayed.state_is) takes);
-  state_is = with_push (empty_at seq) replayed.entries e ∙ ap (λ (s : State). with_entry s e) replayed.state_is ∙ sym is;
+  taken = taken_push (empty_in profile seq) replayed.entries e replayed.taken (subst (λ (s : State). Takes s e) (sym replayed.state_is) takes);
+  state_is = with_push (empty_in profile seq) replayed.entries e ∙ ap (λ (s : State). with_entry s e) replayed.state_is ∙ sym is;
   only = λ es goes. (let more = replayed.only es goes in let others = goes_on version seq rest state e n nonempty reads more.0 more.1 in
       (others.0, subst (λ (s : State). Continues version seq s (drop n rest) others.0) (sym is) others.1));
 }
 
 -- the same, by what stands first
-pub replayed_first : (version seq : ℕ) (bytes rest : List ℕ) (state new : State) (n : ℕ) → Replayed version seq bytes rest state → rest ≢ [] → TakesFirst version seq rest state new n
-    → Replayed version seq bytes (drop n rest) new
-replayed_first version seq bytes rest state new n replayed nonempty first =
-    replayed_more version seq bytes rest state new first.first n replayed nonempty first.begins first.only first.takes first.new_is
+pub replayed_first : (profile : Profile) (version seq : ℕ) (bytes rest : List ℕ) (state new : State) (n : ℕ) → Replayed profile version seq bytes rest state → rest ≢ [] → TakesFirst version seq rest state new n
+    → Replayed profile version seq bytes (drop n rest) new
+replayed_first profile version seq bytes rest state new n replayed nonempty first =
+    replayed_more profile version seq bytes rest state new first.first n replayed nonempty first.begins first.only first.takes first.new_is
 
 -- ---- damage
 
 -- nothing goes on from the state, so the bytes hold nothing
-nothing_holds : (version seq : ℕ) (bytes rest : List ℕ) (state : State) → Replayed version seq bytes rest state → ((more : List Entry) → Continues version seq state rest more → ⊥) → HoldsNothing version seq bytes
-nothing_holds version seq bytes rest state replayed nothing documents holds =
+nothing_holds : (profile : Profile) (version seq : ℕ) (bytes rest : List ℕ) (state : State) → Replayed profile version seq bytes rest state → ((more : List Entry) → Continues version seq state rest more → ⊥) → HoldsNothing profile version seq bytes
+nothing_holds profile version seq bytes rest state replayed nothing documents holds =
     let more = replayed.only holds.entries (record { framed = holds.framed; dated = holds.dated; spelled = holds.spelled; taken = holds.taken }) in
     nothing more.0 more.1
 
 -- what stands first isn't taken
-pub damaged_first : (version seq : ℕ) (bytes rest : List ℕ) (state : State) → Replayed version seq bytes rest state → rest ≢ [] → TakesNone version seq rest state → HoldsNothing version seq bytes
-damaged_first version seq bytes rest state replayed nonempty none = nothing_holds version seq bytes rest state replayed by
+pub damaged_first : (profile : Profile) (version seq : ℕ) (bytes rest : List ℕ) (state : State) → Replayed profile version seq bytes rest state → rest ≢ [] → TakesNone version seq rest state → HoldsNothing profile version seq bytes
+damaged_first profile version seq bytes rest state replayed nonempty none = nothing_holds profile version seq bytes rest state replayed by
   where
     by : (more : List Entry) → Continues version seq state rest more → ⊥
     by [] goes = nonempty (sym goes.spelled)

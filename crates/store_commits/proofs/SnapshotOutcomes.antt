@@ -1,5 +1,5 @@
 -- A snapshot that was written and switched to, or given up.
-use Rattle.std.proofs.Common.{◌≡◌, inl, inr, ℕ, ◌+◌, List, [], length, Result, Ok, Err, IfOk, IfErr, refl, sym, ◌∙◌, subst, None, Option, false, ◌↔◌}
+use Rattle.std.proofs.Common.{◌≡◌, inl, inr, ℕ, ◌+◌, List, [], length, Result, Ok, Err, IfOk, IfErr, refl, sym, ◌∙◌, ap, subst, None, Option, false, ◌↔◌}
 use Rattle.sector_device.specs.Disk.{Disk, Image, IsCoherent, LeavesOnly}
 use Rattle.sector_device.proofs.Moments.{leaves_weaker}
 use Rattle.sector_device.specs.Sectors.{sectors_of}
@@ -14,7 +14,7 @@ use Rattle.doc_changes.specs.declared.refusal.Refusal.{Refusal}
 use Rattle.store_commits.specs.Account.{Copy, with_copy}
 use Rattle.store_commits.specs.Inside.{IsHeld, account_of}
 use Rattle.store_commits.specs.Snapshot.{CanHold, account_with_snapshot, RemakesAll, snapshot_bytes}
-use Rattle.store_commits.specs.Images.{Holds}
+use Rattle.store_commits.specs.Images.{Holds, profile_in}
 use Rattle.store_commits.proofs.Migrating.{snapshot_holds}
 use Rattle.store_commits.proofs.Snapshots.{remakes_all}
 use Rattle.store_commits.specs.Folds.{StandsAfter}
@@ -24,12 +24,12 @@ module _ {D : Type 0} (old new : Disk) (before now : JournalView D) (state : Sta
   abbrev target : List ℕ
   target = snapshot_bytes state.documents
 
-  holds : Holds 2 state.seq target state.documents
+  holds : Holds state.profile 2 state.seq target state.documents
   holds = snapshot_holds state state.seq refl remakes
 
   either_stands : old.honest → (image : Image) → EitherCarried (carried_of before) (switched (carried_of before) target) image → StandsAfter state [] image
-  either_stands honest image (inl carries) = stands_now state [] image (stands_by state (carried_of before) held.version held.seq (held.held honest) image carries)
-  either_stands honest image (inr carries) = stands_now state [] image (stands_by state (switched (carried_of before) target) held.version held.seq holds image carries)
+  either_stands honest image (inl carries) = stands_now state [] image (stands_by state (carried_of before) held.version held.seq held.profile (held.held honest) image carries)
+  either_stands honest image (inr carries) = stands_now state [] image (stands_by state (switched (carried_of before) target) held.version held.seq held.profile holds image carries)
 
   pub snapshot_moments : old.honest → LeavesOnly old new (EitherCarried (carried_of before) (switched (carried_of before) target)) → LeavesOnly old new (StandsAfter state [])
   snapshot_moments honest leaves = leaves_weaker old new (EitherCarried (carried_of before) (switched (carried_of before) target)) (StandsAfter state []) (either_stands honest) leaves
@@ -40,8 +40,9 @@ module _ {D : Type 0} (old new : Disk) (before now : JournalView D) (state : Sta
     version = counts.version ∙ held.version;
     settled = counts.settled;
     seq = counts.seq ∙ held.seq;
+    profile = ap profile_in counts.rides ∙ held.profile;
     good = held.good;
-    held = λ honest. subst (λ (l : List ℕ). Holds 2 state.seq l state.documents) (sym (counts.bytes (same.1 honest))) holds;
+    held = λ honest. subst (λ (l : List ℕ). Holds state.profile 2 state.seq l state.documents) (sym (counts.bytes (same.1 honest))) holds;
   }
 
   -- the account of the journal then

@@ -7,7 +7,8 @@ use Rattle.std.specs.Cmp.Lexicographic.{nat_list_eq_equiv}
 use Rattle.std.specs.List.{AllByRecursion}
 use Rattle.record_text.specs.Frame.{AreEntries, IsFramed, frame_of}
 use Rattle.doc_changes.specs.Refusals.{first, refused_if}
-use Rattle.doc_changes.specs.State.{Document, State, Good, IsStorable, AreDistinct, AreRevised, find, empty_at}
+use Rattle.schema_rules.specs.declared.profile.Profile.{Profile}
+use Rattle.doc_changes.specs.State.{Document, State, Good, IsStorable, AreDistinct, AreOffered, AreRevised, find, empty_in}
 use Rattle.doc_machine.specs.Entries.{AreTaken, with_all, with_entry}
 use Rattle.doc_changes.specs.Step.{refusals_in}
 use Rattle.doc_changes.specs.declared.limits.TheConstants.{DOCUMENTS}
@@ -45,16 +46,16 @@ if_true : (b : Bool) (n : ℕ) → b ≡ true → refused_if (not b) n ≡ None
 if_true b n h = ap (λ (c : Bool). refused_if (not c) n) h
 
 -- a storable document is created where its name is new and there is room
-creates : (ds : List Document) (d : Document) → IsStorable d → find d.name ds ≡ None → length ds < DOCUMENTS → first (refusals_in ds (creation_of d).change) ≡ None
-creates ds d storable new few =
-    none_first (refusals_in ds (creation_of d).change) (
+creates : (profile : Profile) (ds : List Document) (d : Document) → IsStorable d → AreOffered profile (d ∷ []) → find d.name ds ≡ None → length ds < DOCUMENTS → first (refusals_in profile ds (creation_of d).change) ≡ None
+creates profile ds d storable offered new few =
+    none_first (refusals_in profile ds (creation_of d).change) (
       if_true _ _ storable.named,
       (
         if_not _ _ (ap is_some new),
         (
           if_not _ _ (lt-leb DOCUMENTS (length ds) few),
           (
-            refused_not d.schema storable.faultless,
+            refused_not profile d.schema offered.0,
             (
               if_not _ _ (le-ltb _ _ storable.doc_height),
               (
@@ -73,6 +74,7 @@ creates ds d storable new few =
 pub record CanGoOn (s : State) (rest : List Document) : Type 0 where
   pub distinct : AreDistinct (s.documents ++ rest)
   pub storable : AllByRecursion IsStorable rest
+  pub offered : AreOffered s.profile rest
   pub few : length s.documents + length rest ≤ DOCUMENTS
   pub revised : AreRevised s.seq rest
 
@@ -80,6 +82,7 @@ goes_on : (s : State) (d : Document) (rest : List Document) → CanGoOn s (d ∷
 goes_on s d rest can = record {
   distinct = subst AreDistinct (sym (append_assoc s.documents (d ∷ []) rest)) can.distinct;
   storable = can.storable.1;
+  offered = can.offered.1;
   few = (let few = can.few in omega (arith, few, length-append s.documents (d ∷ [])));
   revised = can.revised.1;
 }
@@ -88,7 +91,7 @@ all_taken : (s : State) (rest : List Document) → CanGoOn s rest → AreTaken s
 all_taken s [] can = tt
 all_taken s (d ∷ rest) can =
     let few = can.few in (
-      record { not_ahead = can.revised.0; accepted = creates s.documents d can.storable.0 (is_new d s.documents rest can.distinct) (omega (arith, few)) },
+      record { not_ahead = can.revised.0; accepted = creates s.profile s.documents d can.storable.0 (can.offered.0, tt) (is_new d s.documents rest can.distinct) (omega (arith, few)) },
       all_taken (with_entry s (creation_of d)) rest (goes_on s d rest can),
     )
 
@@ -108,8 +111,8 @@ remakes_all law s good =
     let counted = good.counted in
     record {
       framed = all_entries law s.seq (omega (arith, counted)) s.documents good.storable good.revised;
-      taken = all_taken (empty_at s.seq) s.documents (record { distinct = good.distinct; storable = good.storable; few = omega (arith, few); revised = good.revised });
-      documents_are = all_remade (empty_at s.seq) s.documents;
+      taken = all_taken (empty_in s.profile s.seq) s.documents (record { distinct = good.distinct; storable = good.storable; offered = good.offered; few = omega (arith, few); revised = good.revised });
+      documents_are = all_remade (empty_in s.profile s.seq) s.documents;
     }
 
 -- ---- the bytes, document by document

@@ -1,5 +1,5 @@
 -- What the images of a store stand for while a transaction is made.
-use Rattle.std.proofs.Common.{◌≡◌, ℕ, List, [], refl, sym, ◌∙◌, subst, Bool, true, false, None, ◌↔◌}
+use Rattle.std.proofs.Common.{◌≡◌, ℕ, List, [], refl, sym, ◌∙◌, ap, subst, Bool, true, false, None, ◌↔◌}
 use Rattle.sector_device.specs.Disk.{Disk, Image, IsCoherent, LeavesOnly}
 use Rattle.sector_device.proofs.Moments.{started}
 use Rattle.store_journal.specs.Calls.{Broke}
@@ -9,22 +9,23 @@ use Rattle.doc_machine.specs.Transaction.{Transaction}
 use Rattle.doc_changes.specs.State.{State}
 use Rattle.store_commits.specs.Account.{Account, IsStanding, account_broken}
 use Rattle.store_commits.specs.Inside.{IsHeld, account_of}
-use Rattle.store_commits.specs.Images.{Holds, Stands}
+use Rattle.store_commits.specs.Images.{Holds, Stands, profile_in}
 use Rattle.store_commits.specs.Folds.{StandsAfter}
 
 -- an image that carries bytes of format 2 that hold the state's documents, with its seq, stands for it
-pub stands_by : (state : State) (c : Carried) → c.version ≡ 2 → c.seq ≡ state.seq → Holds 2 state.seq c.bytes state.documents → (image : Image) → Carries c image → Stands state image
-stands_by state c version seq holds image carries = record {
+pub stands_by : (state : State) (c : Carried) → c.version ≡ 2 → c.seq ≡ state.seq → profile_in c.rides ≡ state.profile → Holds state.profile 2 state.seq c.bytes state.documents → (image : Image) → Carries c image → Stands state image
+stands_by state c version seq profile holds image carries = record {
   carried = c;
   carries = carries;
   seq_is = seq;
-  holds = subst (λ (v : ℕ). Holds v c.seq c.bytes state.documents) (sym version) (subst (λ (n : ℕ). Holds 2 n c.bytes state.documents) (sym seq) holds);
+  profile_is = profile;
+  holds = subst (λ (v : ℕ). Holds state.profile v c.seq c.bytes state.documents) (sym version) (subst (λ (n : ℕ). Holds state.profile 2 n c.bytes state.documents) (sym seq) holds);
 }
 
 -- each image of a store that works stands for its state
 pub standing : {D : Type 0} (disk : Disk) (journal : JournalView D) (state : State) → IsHeld disk journal state → IsStanding disk (account_of journal state)
 standing disk journal state held honest works image left =
-    stands_by state (carried_of journal) held.version held.seq (held.held honest) image (held.kept.carried honest works image left)
+    stands_by state (carried_of journal) held.version held.seq held.profile (held.held honest) image (held.kept.carried honest works image left)
 
 pub stands_now : (s : State) (cs : List Transaction) (image : Image) → Stands s image → StandsAfter s cs image
 stands_now s cs image stands = record { kept = []; rest = cs; parts = refl; stands = stands }
@@ -42,8 +43,9 @@ module _ {D : Type 0} (old new : Disk) (before now : JournalView D) (state : Sta
     version = broke.stays.version ∙ held.version;
     settled = broke.stays.settled ∙ held.settled;
     seq = broke.stays.seq ∙ held.seq;
+    profile = ap profile_in broke.stays.rides ∙ held.profile;
     good = held.good;
-    held = λ honest. let h = same.1 honest in subst (λ (l : List ℕ). Holds 2 state.seq l state.documents) (sym (broke.stays.bytes h)) (held.held h);
+    held = λ honest. let h = same.1 honest in subst (λ (l : List ℕ). Holds state.profile 2 state.seq l state.documents) (sym (broke.stays.bytes h)) (held.held h);
   }
 
   pub broke_is : account_of now state ≡ account_broken (account_of before state)

@@ -16,8 +16,8 @@ use Rattle.store_commits.specs.Batch.{Commit, IsBatch, IsForced, commit_for, com
 use Rattle.store_commits.specs.Copying.{IsCopied, Target, copy_of, target_with}
 use Rattle.store_commits.specs.Folds.{after_each, all_changes, frames_at, StandsAfter}
 use Rattle.store_commits.specs.Inside.{IsHeld, IsStored, account_of, IsAppended, AnswersPart}
-use Rattle.store_commits.specs.Images.{Holds}
-use Rattle.store_commits.proofs.Changes.{accepted_append, accepted_in, each_is_all, frames_size, good_last, holds_all, seq_counts, sizes_all, some_accepted}
+use Rattle.store_commits.specs.Images.{Holds, profile_in}
+use Rattle.store_commits.proofs.Changes.{accepted_append, accepted_in, each_is_all, frames_size, good_last, holds_all, profile_all, seq_counts, sizes_all, some_accepted}
 use Rattle.store_commits.proofs.Extents.{broken_as, either_as, ending_as}
 use Rattle.store_commits.proofs.Moves.{Moved, done_answered, in_doubt_answered, moved_nowhere}
 use Rattle.store_commits.proofs.Slots.{slots_done, slots_in_doubt}
@@ -104,22 +104,25 @@ module _ {D : Type 0} (disk : D → Disk) (coherent : (device : D) → (disk dev
   pub takes : Takes before (length frames) adds
   takes = record { works = works; fits = room; seq_fits = (let counted = good_then.counted in let sum = seq_counts state cs in let is = stored.held.seq in omega (arith, counted, sum, is)) }
 
-  holds_behind : (bytes : List ℕ) → Holds 2 state.seq bytes state.documents → Holds 2 (after_each state cs).seq (bytes ++ frames) (after_each state cs).documents
-  holds_behind bytes holds = subst (λ (s : State). Holds 2 s.seq (bytes ++ frames) s.documents) (sym (each_is_all state cs)) (holds_all bytes state (all_changes cs) holds (accepted_all a slots judged) framed good)
+  holds_behind : (bytes : List ℕ) → Holds state.profile 2 state.seq bytes state.documents → Holds (after_each state cs).profile 2 (after_each state cs).seq (bytes ++ frames) (after_each state cs).documents
+  holds_behind bytes holds = subst (λ (s : State). Holds s.profile 2 s.seq (bytes ++ frames) s.documents) (sym (each_is_all state cs)) (holds_all bytes state (all_changes cs) holds (accepted_all a slots judged) framed good)
 
-  more : (disk before.device).honest → Holds 2 (after_each state cs).seq (before.bytes ++ frames) (after_each state cs).documents
+  more : (disk before.device).honest → Holds (after_each state cs).profile 2 (after_each state cs).seq (before.bytes ++ frames) (after_each state cs).documents
   more honest = holds_behind before.bytes (stored.held.held honest)
 
   seq_then : before.seq + adds ≡ (after_each state cs).seq
   seq_then = ap (λ (n : ℕ). n + adds) stored.held.seq ∙ sym (seq_counts state cs)
 
+  profile_then : profile_in before.rides ≡ (after_each state cs).profile
+  profile_then = stored.held.profile ∙ sym (ap (λ (s : State). s.profile) (each_is_all state cs) ∙ profile_all state (all_changes cs))
+
   either_stands : (disk before.device).honest → (image : Image) → EitherCarried (carried_of before) (appended (carried_of before) frames adds) image → StandsAfter state cs image
-  either_stands honest image (inl carries) = stands_now state cs image (stands_by state (carried_of before) stored.held.version stored.held.seq (stored.held.held honest) image carries)
+  either_stands honest image (inl carries) = stands_now state cs image (stands_by state (carried_of before) stored.held.version stored.held.seq stored.held.profile (stored.held.held honest) image carries)
   either_stands honest image (inr carries) = record {
     kept = cs;
     rest = [];
     parts = append-nil cs;
-    stands = stands_by (after_each state cs) (appended (carried_of before) frames adds) stored.held.version seq_then (more honest) image carries;
+    stands = stands_by (after_each state cs) (appended (carried_of before) frames adds) stored.held.version seq_then profile_then (more honest) image carries;
   }
 
   -- ---- it ended
@@ -141,8 +144,9 @@ module _ {D : Type 0} (disk : D → Disk) (coherent : (device : D) → (disk dev
         version = ok.version ∙ stored.held.version;
         settled = ok.settled;
         seq = ok.seq ∙ seq_then;
+        profile = ap profile_in ok.rides ∙ profile_then;
         good = good_then;
-        held = λ honest. let h = is.honest.1 honest in subst (λ (l : List ℕ). Holds 2 (after_each state cs).seq l (after_each state cs).documents) (sym (ok.bytes h)) (more h);
+        held = λ honest. let h = is.honest.1 honest in subst (λ (l : List ℕ). Holds (after_each state cs).profile 2 (after_each state cs).seq l (after_each state cs).documents) (sym (ok.bytes h)) (more h);
       }
 
       -- the target of a copy that runs
@@ -224,7 +228,7 @@ module _ {D : Type 0} (disk : D → Disk) (coherent : (device : D) → (disk dev
           record {
             failed = subst (Failed (disk before.device) (disk now.device)) calls_are broke.failed;
             leaves = λ honest image left. ⊎_elim (λ old. inl (broken_as a (account_of now state) image new_is old)) (λ new. inr (subst (λ (l : Extent). EndsWith frames l image) made_is new))
-                (either_as disk coherent before now state stored.held is.honest is.kept broke.stays.sectors (appended (carried_of before) frames adds) made_as more refl refl refl seq_then refl refl before.bytes frames refl is.any_moment honest image left);
+                (either_as disk coherent before now state stored.held is.honest is.kept broke.stays.sectors (appended (carried_of before) frames adds) made_as more refl refl refl seq_then profile_then refl refl before.bytes frames refl is.any_moment honest image left);
           },
           refl,
         );

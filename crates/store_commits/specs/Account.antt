@@ -2,7 +2,7 @@
 use Rattle.std.specs.Prelude.{◌≡◌, ℕ, Bool, true, false, Option, None, List, ◌++◌, length}
 use Rattle.sector_device.specs.Disk.{Disk, Image}
 use Rattle.doc_changes.specs.State.{State}
-use Rattle.store_commits.specs.Images.{Stands, Holds}
+use Rattle.store_commits.specs.Images.{Stands, Holds, profile_in}
 use Rattle.store_journal.specs.Carries.{Carries}
 
 -- a copy that runs: the length of its target, and how many of these bytes the other half holds
@@ -16,7 +16,7 @@ pub record Account : Type 0 where
   -- the bytes of the half that counts
   pub used : ℕ
   pub half : ℕ
-  -- small commits ride in the commit sector, so that one sync makes them durable: format 3
+  -- small commits ride in the commit sector, so that one sync makes them durable: format 3, the one of profile 3
   pub rides : Bool
   pub opens : ℕ
   pub sectors : ℕ
@@ -57,7 +57,8 @@ pub record StandsAs (l : Extent) (image : Image) : Type 0 where
   pub bytes : List ℕ
   pub opens : ℕ
   pub carries : Carries (record { version = 2; rides = l.rides; half = l.half; bytes = bytes; seq = l.state.seq; opens = opens }) image
-  pub holds : Holds 2 l.state.seq bytes l.state.documents
+  pub profile_is : profile_in l.rides ≡ l.state.profile
+  pub holds : Holds l.state.profile 2 l.state.seq bytes l.state.documents
   pub used_is : l.used ≡ length bytes
   pub sectors_is : l.sectors ≡ length image
 

@@ -38,7 +38,7 @@ copy_of t = option_map count_of t
 
 -- The target holds the state's documents in format 2, and the first `standing` bytes of it are what the other half is known to begin with.
 pub record IsCopying {D : Type 0} (disk : Disk) (journal : JournalView D) (state : State) (t : Target) : Type 0 where
-  pub holds : Holds 2 state.seq t.bytes state.documents
+  pub holds : Holds state.profile 2 state.seq t.bytes state.documents
   pub within : t.standing ≤ length t.bytes
   pub copied : disk.honest → journal.broken ≡ false → BeginsWith (take t.standing t.bytes) journal.copied
 

@@ -5,7 +5,7 @@ use Rattle.store_journal.specs.JournalView.{JournalView, IsKept, carried_of}
 use Rattle.doc_changes.specs.State.{State, Good}
 use Rattle.store_commits.specs.Account.{Account, StoreView, with_copy}
 use Rattle.store_commits.specs.Copying.{IsCopied, Target, copy_of}
-use Rattle.store_commits.specs.Images.{Holds}
+use Rattle.store_commits.specs.Images.{Holds, profile_in}
 use Rattle.std.specs.Global.{Global}
 use Rattle.sector_device.specs.Sectors.{sectors_of}
 use Rattle.store_journal.specs.Layout.{capacity_of}
@@ -42,14 +42,15 @@ account_of journal state = record {
 abbrev pub store_view : {D : Type 0} → JournalView D → State → Option Target → StoreView D
 store_view journal state copy = record { device = journal.device; account = with_copy (account_of journal state) (copy_of copy) }
 
--- the machine is what the journal's bytes hold, in format 2, with the journal's seq
+-- the machine is what the journal's bytes hold, in format 2, with the journal's seq and the profile of its format
 pub record IsHeld {D : Type 0} (disk : Disk) (journal : JournalView D) (state : State) : Type 0 where
   pub kept : IsKept disk journal
   pub version : journal.version ≡ 2
   pub settled : journal.settled ≡ true
   pub seq : journal.seq ≡ state.seq
+  pub profile : profile_in journal.rides ≡ state.profile
   pub good : Good state
-  pub held : disk.honest → Holds 2 state.seq journal.bytes state.documents
+  pub held : disk.honest → Holds state.profile 2 state.seq journal.bytes state.documents
 
 -- the same, and the copy that runs holds this state
 pub record IsStored {D : Type 0} (disk : Disk) (journal : JournalView D) (state : State) (copy : Option Target) : Type 0 where

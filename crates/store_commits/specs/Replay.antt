@@ -12,15 +12,16 @@ use Rattle.record_text.specs.declared.fault.RecordFault.{RecordFault}
 use Rattle.record_text.specs.declared.fault.RecordFault.TheVariants.{Memory as NoMemory}
 use Rattle.refusals.specs.declared.numbers.TheConstants.{DAMAGED, MEMORY}
 use Rattle.doc_machine.specs.Entries.{AreTaken, Takes, with_all, with_entry}
-use Rattle.doc_changes.specs.State.{Document, State, empty_at}
+use Rattle.schema_rules.specs.declared.profile.Profile.{Profile}
+use Rattle.doc_changes.specs.State.{Document, State, empty_in}
 use Rattle.doc_changes.specs.declared.refusal.Refusal.{Refusal}
 use Rattle.store_commits.specs.Images.{Holds}
 use Rattle.store_commits.specs.declared.replaying.ReplayFault.{ReplayFault}
 use Rattle.store_commits.specs.declared.replaying.ReplayFault.TheVariants.{Memory, Damaged}
 
 -- the bytes hold no documents, whatever these are
-abbrev pub HoldsNothing : ℕ → ℕ → List ℕ → Type 0
-HoldsNothing version seq bytes = (documents : List Document) → Holds version seq bytes documents → ⊥
+abbrev pub HoldsNothing : Profile → ℕ → ℕ → List ℕ → Type 0
+HoldsNothing profile version seq bytes = (documents : List Document) → Holds profile version seq bytes documents → ⊥
 
 -- the first n of the bytes are the entry's frame of that format, which can be read; in format 1 the entry has the journal's seq
 pub record BeginsIn (version seq : ℕ) (bytes : List ℕ) (e : Entry) (n : ℕ) : Type 0 where
@@ -60,14 +61,14 @@ pub record Continues (version seq : ℕ) (state : State) (bytes : List ℕ) (ent
   pub taken : AreTaken state entries
 
 -- The bytes are the frames of entries that made the state, and the rest; and whatever else they are frames of, the rest is what goes on from the state.
-pub record Replayed (version seq : ℕ) (bytes rest : List ℕ) (state : State) : Type 0 where
+pub record Replayed (profile : Profile) (version seq : ℕ) (bytes rest : List ℕ) (state : State) : Type 0 where
   pub entries : List Entry
   pub framed : AreEntries version entries
   pub dated : version ≡ 1 → AreDated seq entries
   pub spelled : frames_in version entries ++ rest ≡ bytes
-  pub taken : AreTaken (empty_at seq) entries
-  pub state_is : with_all (empty_at seq) entries ≡ state
-  pub only : (es : List Entry) → Continues version seq (empty_at seq) bytes es → (more : List Entry) × Continues version seq state rest more
+  pub taken : AreTaken (empty_in profile seq) entries
+  pub state_is : with_all (empty_in profile seq) entries ≡ state
+  pub only : (es : List Entry) → Continues version seq (empty_in profile seq) bytes es → (more : List Entry) × Continues version seq state rest more
 
 -- a frame that isn't read, for another reason than memory, is damage
 abbrev pub frame_fault : RecordFault → ReplayFault

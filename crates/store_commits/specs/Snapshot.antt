@@ -3,7 +3,7 @@ use Rattle.std.specs.Prelude.{◌≡◌, ℕ, List, [], ◌∷◌, ◌⊎◌, �
 use Rattle.record_text.specs.Change.{create}
 use Rattle.record_text.specs.Frame.{Entry, entry, AreEntries, frames_in}
 use Rattle.doc_machine.specs.Entries.{AreTaken, with_all}
-use Rattle.doc_changes.specs.State.{Document, State, empty_at}
+use Rattle.doc_changes.specs.State.{Document, State, empty_in}
 use Rattle.refusals.specs.declared.numbers.TheConstants.{MEMORY, FULL, DEVICE, BROKEN}
 use Rattle.store_journal.specs.Layout.{capacity_of}
 use Rattle.sector_device.specs.Sectors.{sectors_of}
@@ -27,8 +27,8 @@ snapshot_bytes ds = frames_in 2 (snapshot_of ds)
 -- the snapshot of a state makes its documents from none: a journal can hold each creation, each is taken under the state's seq, and what they make are these documents in their order, with their revisions
 pub record RemakesAll (s : State) : Type 0 where
   pub framed : AreEntries 2 (snapshot_of s.documents)
-  pub taken : AreTaken (empty_at s.seq) (snapshot_of s.documents)
-  pub documents_are : (with_all (empty_at s.seq) (snapshot_of s.documents)).documents ≡ s.documents
+  pub taken : AreTaken (empty_in s.profile s.seq) (snapshot_of s.documents)
+  pub documents_are : (with_all (empty_in s.profile s.seq) (snapshot_of s.documents)).documents ≡ s.documents
 
 -- the bytes that the snapshot of the state has
 abbrev pub snapshot_size : Account → ℕ

@@ -14,7 +14,7 @@ ghost use Rattle.store_commits.specs.Replay.{BeginsIn, HoldsNothing, IsPatchFram
 ghost use Rattle.store_commits.specs.Images.{Holds};
 ghost use Rattle.store_commits.specs.declared.replaying.ReplayFault.TheVariants.{Damaged};
 
-use doc_machine::{Command, Machine, RecordFault, Refusal};
+use doc_machine::{Command, Machine, Profile, RecordFault, Refusal};
 use doc_patch::Patch;
 use record_text::laws::frames_differ;
 use record_text::{PatchFrame, patch_frame, read_frame, read_frame_1};
@@ -74,17 +74,24 @@ impl From<Refusal> for ReplayFault {
     }
 }
 
-/// The machine that the bytes of that format make under a journal's `seq`: each frame is read and its command taken as
+/// The machine that the bytes of that format make under a journal's `seq`, with schemas of the profile: each frame is read and its command taken as
 /// it was the first time, with the frame's seq as the revision, in format 1 with the journal's. `Damaged` if the bytes
 /// aren't frames from end to end, a frame's seq is over the journal's, or the machine refuses one of them.
-pub fn replay(alloc: Global, bytes: &[u8], version: u32, seq: u64) -> Result<Machine, ReplayFault>
+pub fn replay(
+    alloc: Global,
+    bytes: &[u8],
+    version: u32,
+    seq: u64,
+    profile: Profile,
+) -> Result<Machine, ReplayFault>
     requires { IsFormat version }
-    ensures holds { IfOk result (λ machine. Holds version seq bytes.now machine.documents) }
+    ensures holds { IfOk result (λ machine. Holds profile version seq bytes.now machine.documents) }
     ensures seq { IfOk result (λ machine. machine.seq ≡ seq) }
+    ensures profile { IfOk result (λ machine. machine.profile ≡ profile) }
     ensures good { IfOk result (λ machine. Good machine) }
-    ensures damaged { IfErr result (λ fault. fault ≡ Damaged → HoldsNothing version seq bytes.now) }
+    ensures damaged { IfErr result (λ fault. fault ≡ Damaged → HoldsNothing profile version seq bytes.now) }
 {
-    let mut machine = Machine::at(alloc, seq);
+    let mut machine = Machine::at(alloc, seq, profile);
     let mut rest = bytes;
     while !rest.is_empty() {
         let (after, len) = take_first(alloc, machine, rest, version, seq)?;

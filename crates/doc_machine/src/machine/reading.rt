@@ -23,7 +23,7 @@ impl Machine {
         ensures same { result ≡ self.now }
         ensures good { Good self.now }
     {
-        Documents::lend(self.alloc, &self.documents, self.seq)
+        Documents::lend(self.alloc, &self.documents, self.seq, self.profile)
     }
 
     /// The value in the document of that name to which the pointer leads (RFC 6901, section 4). It

@@ -11,7 +11,7 @@ ghost use Rattle.doc_changes.specs.declared.limits.TheConstants.{LAST_SEQ};
 
 use crate::machine::Machine;
 use doc_changes::laws::accepted_changes_are_framed;
-use doc_changes::{Documents, Judged, Refusal, Stored, Undo, make, unmake};
+use doc_changes::{Documents, Judged, Profile, Refusal, Stored, Undo, make, unmake};
 use indexmap::IndexMap;
 use record_text::Command;
 use std::alloc::{AllocError, Global};
@@ -24,6 +24,7 @@ pub struct Trial {
     alloc: Global,
     documents: IndexMap<String, Stored>,
     seq: u64,
+    profile: Profile,
     log: Vec<Undo>,
 }
 
@@ -60,11 +61,13 @@ impl Trial {
             alloc,
             documents,
             seq,
+            profile,
         } = machine;
         Trial {
             alloc,
             documents,
             seq,
+            profile,
             log: Vec::new(alloc),
         }
     }
@@ -96,7 +99,7 @@ impl Trial {
         ensures same { result ≡ self.now.state }
         ensures good { Good self.now.state }
     {
-        Documents::lend(self.alloc, &self.documents, self.seq)
+        Documents::lend(self.alloc, &self.documents, self.seq, self.profile)
     }
 
     /// Why a change is refused, if it is, as `Machine::judge` answers.
@@ -126,7 +129,7 @@ impl Trial {
 
     // Makes a change, of which all but a patch was judged. An `Err` changes nothing.
     pub(crate) fn change(&mut self, command: Command, judged: Judged) -> Result<Accepted, Refusal>
-        requires ready { IsReady self.old.state.documents (change_of command) judged }
+        requires ready { IsReady self.old.state.profile self.old.state.documents (change_of command) judged }
         requires counted { self.old.state.seq < LAST_SEQ }
         ensures accepted { OnOk result (refusal_of self.old.state (change_of command) ≡ None) }
         ensures made { OnOk result (AreMade self.old (change_of command ∷ []) self.new) }
@@ -180,12 +183,14 @@ impl Trial {
             alloc,
             documents,
             seq,
+            profile,
             log: _,
         } = self;
         Machine {
             alloc,
             documents,
             seq,
+            profile,
         }
     }
 }

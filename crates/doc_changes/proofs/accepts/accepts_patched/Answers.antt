@@ -7,8 +7,8 @@ use Rattle.doc_schema.specs.Judge.{Judges}
 use Rattle.doc_changes.proofs.accepts.accepts_patched.Goals as goal
 
 -- no operation changes anything
-pub returns-in-Ok-None : goal.returns-in-Ok-None
-returns-in-Ok-None c = λ before valid patched.
+pub returns-in-Ok-None-clause-judged : goal.returns-in-Ok-None-clause-judged
+returns-in-Ok-None-clause-judged c = λ before valid patched.
     let unchanging : Unchanging (operations c.args.changes.now) =
     subst (λ (o : Option (Vec Step Global)). IfNone o (Unchanging (operations c.args.changes.now))) c.in-Ok-None.field-0-is c.in-Ok-None.ensures.none in
     subst (λ d. Judges (view c.args.schema.now) d true) (unchanging before (view c.args.made.now) patched) valid

@@ -1,8 +1,13 @@
-use Rattle.std.proofs.Common.{◌≡◌, sym, ◌∙◌, ap, subst, Some, string_bytes, slice_get}
+use Rattle.std.proofs.Common.{◌≡◌, sym, ◌∙◌, ap, subst, Some, string_bytes, slice_get, map, List, ℕ}
 use Rattle.std.specs.Map.{values_of}
 use Rattle.std.specs.Option.{option_copied_mut}
 use Rattle.doc_tree.specs.TreeView.{view}
 use Rattle.doc_changes.specs.Patching.{StandsAt}
+use Rattle.record_text.specs.Change as commands
+use Rattle.doc_changes.specs.Judged.{RefusesIn}
+use Rattle.doc_changes.specs.StateView.{document_of}
+use Rattle.doc_changes.specs.declared.refusal.Refusal.{Refusal}
+use Rattle.doc_changes.proofs.Judgements.{err_same}
 use Rattle.doc_changes.proofs.PatchedAt.{made_at, refused_at, same_at, valid_at}
 use Rattle.doc_changes.proofs.patching.patch.Goals as goal
 
@@ -16,24 +21,24 @@ patch_stored-requires c =
     valid_at n es i was c.requires there (sym c.get_index_mut.ensures.value ∙ ap option_copied_mut c.unwrap-stored.ensures)
 
 pub returns-in-Ok-clause-made : goal.returns-in-Ok-clause-made
-returns-in-Ok-clause-made c =
+returns-in-Ok-clause-made c = λ profile.
     let n = string_bytes c.args.name in
     let es = c.args.documents.now.entries in
     let i = c.in_ok-index.index in
     let was = c.unwrap-stored.result.now in
     let there : StandsAt n es i = subst (λ m. StandsAt m es i) c.as_str.ensures.value c.in_ok-index.ensures.found in
     let value : slice_get (values_of es) i ≡ Some was = sym c.get_index_mut.ensures.value ∙ ap option_copied_mut c.unwrap-stored.ensures in
-    made_at c.args.name es i was c.patch_stored.new.stored (view c.args.ops.now) c.args.if_rev c.args.revision c.in-Ok.reversal there value c.in-Ok.ensures.made
+    made_at profile c.args.name es i was c.patch_stored.new.stored (view c.args.ops.now) c.args.if_rev c.args.revision c.in-Ok.reversal there value c.in-Ok.ensures.made
 
 pub returns-in-Err-clause-refused : goal.returns-in-Err-clause-refused
-returns-in-Err-clause-refused c =
+returns-in-Err-clause-refused c = λ profile.
     let n = string_bytes c.args.name in
     let es = c.args.documents.now.entries in
     let i = c.in_ok-index.index in
     let was = c.unwrap-stored.result.now in
     let there : StandsAt n es i = subst (λ m. StandsAt m es i) c.as_str.ensures.value c.in_ok-index.ensures.found in
     let value : slice_get (values_of es) i ≡ Some was = sym c.get_index_mut.ensures.value ∙ ap option_copied_mut c.unwrap-stored.ensures in
-    refused_at n es i was (view c.args.ops.now) c.args.if_rev c.in-Err.refusal there value c.in-Err.ensures.refused
+    refused_at profile n es i was (view c.args.ops.now) c.args.if_rev c.in-Err.refusal there value c.in-Err.ensures.refused
 
 pub returns-in-Err-clause-unchanged : goal.returns-in-Err-clause-unchanged
 returns-in-Err-clause-unchanged c =
@@ -44,3 +49,10 @@ returns-in-Err-clause-unchanged c =
     let there : StandsAt n es i = subst (λ m. StandsAt m es i) c.as_str.ensures.value c.in_ok-index.ensures.found in
     let value : slice_get (values_of es) i ≡ Some was = sym c.get_index_mut.ensures.value ∙ ap option_copied_mut c.unwrap-stored.ensures in
     same_at n es i was c.patch_stored.new.stored there value c.in-Err.ensures.unchanged
+
+pub returns-in_err-index-clause-refused : goal.returns-in_err-index-clause-refused
+returns-in_err-index-clause-refused c = λ p.
+    let ds = map document_of c.args.documents.now.entries in
+    let ops = view c.args.ops.now in
+    err_same c.from_residual.result c.in_err-index.field-0.0 (λ (r : Refusal). RefusesIn p ds (commands.patch (string_bytes c.args.name) ops c.args.if_rev) r)
+    (subst (λ (n : List ℕ). RefusesIn p ds (commands.patch n ops c.args.if_rev) c.in_err-index.field-0.0) c.as_str.ensures.value (c.in_err-index.ensures.refused p ops c.args.if_rev)) c.from_residual.ensures.1

@@ -1,9 +1,14 @@
-use Rattle.std.proofs.Common.{◌≡◌, sym, ◌∙◌, ap, subst, Some, string_bytes, slice_get}
+use Rattle.std.proofs.Common.{◌≡◌, sym, ◌∙◌, ap, subst, Some, string_bytes, slice_get, map, List, ℕ}
 use Rattle.std.specs.Map.{values_of}
 use Rattle.std.specs.Option.{option_copied_mut}
 use Rattle.std.proofs.lemmas.Result.{MatchResult-weaker}
 use Rattle.doc_tree.specs.TreeView.{view}
 use Rattle.doc_changes.specs.Patching.{StandsAt}
+use Rattle.record_text.specs.Change as commands
+use Rattle.doc_changes.specs.Judged.{RefusesIn}
+use Rattle.doc_changes.specs.StateView.{document_of}
+use Rattle.doc_changes.specs.declared.refusal.Refusal.{Refusal}
+use Rattle.doc_changes.proofs.Judgements.{err_same}
 use Rattle.doc_changes.proofs.PatchedAt.{made_at_for_good, refused_at, valid_at}
 use Rattle.doc_changes.proofs.patching.patch_for_good.Goals as goal
 
@@ -17,7 +22,7 @@ patch_stored_for_good-requires c =
     valid_at n es i was c.requires there (sym c.get_index_mut.ensures.value ∙ ap option_copied_mut c.unwrap-stored.ensures)
 
 pub returns-clause-made : goal.returns-clause-made
-returns-clause-made c =
+returns-clause-made c = λ profile.
     let n = string_bytes c.args.name in
     let es = c.args.documents.now.entries in
     let i = c.in_ok-index.index in
@@ -25,10 +30,10 @@ returns-clause-made c =
     let there : StandsAt n es i = subst (λ m. StandsAt m es i) c.as_str.ensures.value c.in_ok-index.ensures.found in
     let value : slice_get (values_of es) i ≡ Some was = sym c.get_index_mut.ensures.value ∙ ap option_copied_mut c.unwrap-stored.ensures in
     MatchResult-weaker c.patch_stored_for_good.result c.patch_stored_for_good.ensures.made
-    (λ _ p. made_at_for_good n es i was c.patch_stored_for_good.new.stored (view c.args.ops.now) c.args.if_rev c.args.revision there value p) (λ _ h. h)
+    (λ _ p. made_at_for_good profile n es i was c.patch_stored_for_good.new.stored (view c.args.ops.now) c.args.if_rev c.args.revision there value p) (λ _ h. h)
 
 pub returns-clause-refused : goal.returns-clause-refused
-returns-clause-refused c =
+returns-clause-refused c = λ profile.
     let n = string_bytes c.args.name in
     let es = c.args.documents.now.entries in
     let i = c.in_ok-index.index in
@@ -36,4 +41,11 @@ returns-clause-refused c =
     let there : StandsAt n es i = subst (λ m. StandsAt m es i) c.as_str.ensures.value c.in_ok-index.ensures.found in
     let value : slice_get (values_of es) i ≡ Some was = sym c.get_index_mut.ensures.value ∙ ap option_copied_mut c.unwrap-stored.ensures in
     MatchResult-weaker c.patch_stored_for_good.result c.patch_stored_for_good.ensures.refused (λ _ h. h)
-    (λ r h. refused_at n es i was (view c.args.ops.now) c.args.if_rev r there value h)
+    (λ r h. refused_at profile n es i was (view c.args.ops.now) c.args.if_rev r there value h)
+
+pub returns-in_err-index-clause-refused : goal.returns-in_err-index-clause-refused
+returns-in_err-index-clause-refused c = λ p.
+    let ds = map document_of c.args.documents.now.entries in
+    let ops = view c.args.ops.now in
+    err_same c.from_residual.result c.in_err-index.field-0.0 (λ (r : Refusal). RefusesIn p ds (commands.patch (string_bytes c.args.name) ops c.args.if_rev) r)
+    (subst (λ (n : List ℕ). RefusesIn p ds (commands.patch n ops c.args.if_rev) c.in_err-index.field-0.0) c.as_str.ensures.value (c.in_err-index.ensures.refused p ops c.args.if_rev)) c.from_residual.ensures.1

@@ -8,19 +8,22 @@ use Rattle.schema_rules.specs.Keywords.{keyword_of}
 use Rattle.schema_rules.specs.Instances.{seen}
 use Rattle.schema_rules.specs.Assertions.{at_least, at_most, on_list}
 use Rattle.schema_rules.specs.Parts.{beside, elements_in, members_in}
-use Rattle.schema_rules.specs.Rules.{Ask, asks, ask, at_each, of_each, by_place, by_name, each_named, of_names, of_others, of_contained, at_target, after_if, every, some, how_many, or_one, with_schema, with_if, where_true, where_false}
+use Rattle.schema_rules.specs.Rules.{Ask, asks, ask, at_each, by_each, of_each, by_place, by_name, each_named, of_names, of_others, of_contained, at_target, after_if, every, some, how_many, or_one, with_schema, with_if, where_true, where_false}
 use Rattle.doc_schema.specs.Steps.{verdict, passes, all_hold, holds, told, ArePlaced, steps, most}
+use Rattle.schema_rules.specs.PatternTexts.{texts_by, texts_of}
+use Rattle.schema_rules.specs.declared.profile.Profile.TheVariants.{Three}
+use Rattle.doc_schema.proofs.Searchless.{none_first, none_later, no_search}
 use Rattle.doc_schema.proofs.Fuel.{verdict_is, asked_by}
-use Rattle.doc_schema.proofs.Rest.{Rest, and_true, here, less, further, on, one_found, one_passed, no_place_left, begin_rest, at_item, of_item, place_next, member_next, name_next, other_named, other_next, found_placed, found_most, found_further, on_found, member_placed, member_most, next_among, left_among, next_holds, items_asked}
+use Rattle.doc_schema.proofs.Rest.{Rest, and_true, here, less, further, on, one_found, one_passed, no_place_left, begin_rest, at_item, of_item, place_next, member_next, each_next, presence, presence_next, name_next, other_named, other_next, found_placed, found_most, found_further, on_found, member_placed, member_most, next_among, left_among, next_holds, items_asked}
 use Rattle.doc_schema.proofs.judge.+judge.Goals as goal
-use Rattle.doc_schema.proofs.judge.+judge.Goals.{how_many_accepted-then-accepts_at, how_many_accepted-else-accepts_at, one_accepts-then-accepts_at+else-found, one_accepts-else-accepts_at, others_accepted-else-not-is_named-via-then-not-is_named+else-not-accepts_at, others_accepted-else-not-is_named-via-else-not-is_named}
+use Rattle.doc_schema.proofs.judge.+judge.Goals.{how_many_accepted-then-accepts_at, how_many_accepted-else-accepts_at, one_accepts-then-accepts_at+else-found, one_accepts-else-accepts_at, others_accepted-else-not-is_named-via-then-not-is_named+else-not-accepts_at, others_accepted-else-not-is_named-via-else-not-is_named, present_accept-else-has_member-via-then-has_member+else-not-accepts_at, present_accept-else-has_member-via-else-has_member}
 
 pub accepts_at-returns-in-Object : goal.accepts_at-returns-in-Object
 accepts_at-returns-in-Object t c =
     let r = view c.args.root.now in
     let u = seen c.args.instance in
     let is = ap view c.in-Object.is ∙ view-Object c.in-Object.members in
-    c.members_hold.ensures ∙ sym (ap (λ s. passes (verdict r) r s u) is) ∙ sym (verdict_is r c.requires.no_loop (view c.args.schema.now) u c.requires.placed)
+    c.members_hold.ensures ∙ sym (ap (λ s. passes (verdict r) r s u) is) ∙ sym (verdict_is r c.requires.plain.loops (view c.args.schema.now) u c.requires.placed)
 
 pub members_hold-member_holds-requires : goal.members_hold-member_holds-requires
 members_hold-member_holds-requires t c =
@@ -31,10 +34,10 @@ members_hold-member_holds-requires t c =
     let k : c.keyword_named.result ≡ keyword_of (string_bytes c.in-Some.name.now) = c.keyword_named.ensures ∙ ap keyword_of c.as_str.ensures.value in
     let xs = asks r ms (keyword_of (string_bytes c.in-Some.name.now)) v u in
     let among : (a : Ask) → In a xs → In a (asked_by r ms ms u) = λ a i. c.loop-name.invariant.1 a (next_among r ms u c.in-Some.name.now c.in-Some.value.now _ _ c.in-Some.ensures.steps a i) in
-    let le = member_most r c.requires.no_loop ms u c.requires.placed xs among in
+    let le = member_most r c.requires.plain.loops ms u c.requires.placed xs among in
     let same = ap (λ k. most r (asks r ms k v u)) k in
     let lt : 6 * most r (asks r ms c.keyword_named.result v u) + 3 < 6 * steps r (object ms) u + 4 = omega (arith, le, same) in
-    (search rules, (c.requires.no_loop, subst (λ k. ArePlaced r (asks r ms k v u)) (sym k) (member_placed r c.requires.no_loop ms u c.requires.placed xs among)))
+    (search rules, (c.requires.plain, (subst (λ k. ArePlaced r (asks r ms k v u)) (sym k) (member_placed r c.requires.plain.loops ms u c.requires.placed xs among), ap (λ w. texts_of w v) k ∙ none_first (texts_of (keyword_of (string_bytes c.in-Some.name.now)) v) _ (sym (ap (λ es. texts_by Three (members_view es)) c.in-Some.ensures.steps) ∙ c.loop-name.invariant.2))))
 
 pub members_hold-loop-name-preserved : goal.members_hold-loop-name-preserved
 members_hold-loop-name-preserved t c =
@@ -45,7 +48,7 @@ members_hold-loop-name-preserved t c =
     let k : c.keyword_named.result ≡ keyword_of (string_bytes c.in-Some.name.now) = c.keyword_named.ensures ∙ ap keyword_of c.as_str.ensures.value in
     let h = c.if-not-member_holds.ensures ∙ ap (λ k. holds (verdict r) r ms k v u) k in
     let e = c.in-Some.ensures.steps in
-    (sym (next_holds r ms u c.in-Some.name.now c.in-Some.value.now _ _ e (verdict r) h) ∙ c.loop-name.invariant.0, λ a i. c.loop-name.invariant.1 a (left_among r ms u c.in-Some.name.now c.in-Some.value.now _ _ e a i))
+    (sym (next_holds r ms u c.in-Some.name.now c.in-Some.value.now _ _ e (verdict r) h) ∙ c.loop-name.invariant.0, λ a i. c.loop-name.invariant.1 a (left_among r ms u c.in-Some.name.now c.in-Some.value.now _ _ e a i), none_later (texts_of (keyword_of (string_bytes c.in-Some.name.now)) v) _ (sym (ap (λ es. texts_by Three (members_view es)) e) ∙ c.loop-name.invariant.2))
 
 pub member_holds-accepts_at-requires : goal.member_holds-accepts_at-requires
 member_holds-accepts_at-requires t c =
@@ -55,7 +58,7 @@ member_holds-accepts_at-requires t c =
     let u = seen c.args.instance in
     let same = ap (λ k. most r (asks r ms k v u)) c.in-Not.is in
     let lt : 6 * steps r v u + 5 < 6 * most r (asks r ms c.args.keyword v u) + 3 = omega (arith, same) in
-    (search rules, (c.requires.no_loop, subst (λ k. ArePlaced r (asks r ms k v u)) c.in-Not.is c.requires.placed (ask v u) first))
+    (search rules, (c.requires.plain, subst (λ k. ArePlaced r (asks r ms k v u)) c.in-Not.is c.requires.placed (ask v u) first))
 
 pub member_holds-each_accepted-requires : goal.member_holds-each_accepted-requires
 member_holds-each_accepted-requires t c =
@@ -66,7 +69,7 @@ member_holds-each_accepted-requires t c =
     let e = ap (λ k. asks r ms k v u) c.in-Items.is ∙ items_asked r ms v u c.items_of-in-Items.result.now c.after.result.now c.prefix_len.result c.items_of-in-Items.ensures c.prefix_len.ensures c.after.ensures in
     let same = ap (most r) e in
     let lt : 6 * most r (of_each v (elements_view c.after.result.now)) < 6 * most r (asks r ms c.args.keyword v u) + 3 = omega (arith, same) in
-    (search rules, (c.requires.no_loop, subst (ArePlaced r) e c.requires.placed))
+    (search rules, (c.requires.plain, subst (ArePlaced r) e c.requires.placed))
 
 pub member_holds-returns-in-Items : goal.member_holds-returns-in-Items
 member_holds-returns-in-Items t c =
@@ -86,7 +89,7 @@ all_accept-accepts_at-requires t c =
     let e = at_item items c.loop-schema.schema-index c.schema-item.result u c.loop-schema-test.true c.schema-item.is in
     let lt = less r all _ _ _ e c.loop-schema.invariant.0 in
     let lt' : 6 * steps r (view c.schema-item.result) u + 5 < 6 * most r all = omega (arith, lt) in
-    (search rules, (c.requires.no_loop, here r all _ _ _ e c.loop-schema.invariant.0))
+    (search rules, (c.requires.plain, here r all _ _ _ e c.loop-schema.invariant.0))
 
 pub all_accept-loop-schema-preserved : goal.all_accept-loop-schema-preserved
 all_accept-loop-schema-preserved t c =
@@ -106,7 +109,7 @@ some_accepts-accepts_at-requires t c =
     let e = at_item items c.loop-schema.schema-index c.schema-item.result u c.loop-schema-test.true c.schema-item.is in
     let lt = less r all _ _ _ e c.loop-schema.invariant.0 in
     let lt' : 6 * steps r (view c.schema-item.result) u + 5 < 6 * most r all = omega (arith, lt) in
-    (search rules, (c.requires.no_loop, here r all _ _ _ e c.loop-schema.invariant.0))
+    (search rules, (c.requires.plain, here r all _ _ _ e c.loop-schema.invariant.0))
 
 pub some_accepts-loop-schema-preserved : goal.some_accepts-loop-schema-preserved
 some_accepts-loop-schema-preserved t c =
@@ -126,7 +129,7 @@ one_accepts-accepts_at-requires t c =
     let e = at_item items c.loop-schema.schema-index c.schema-item.result u c.loop-schema-test.true c.schema-item.is in
     let lt = less r all _ _ _ e c.loop-schema.invariant.0 in
     let lt' : 6 * steps r (view c.schema-item.result) u + 5 < 6 * most r all = omega (arith, lt) in
-    (search rules, (c.requires.no_loop, here r all _ _ _ e c.loop-schema.invariant.0))
+    (search rules, (c.requires.plain, here r all _ _ _ e c.loop-schema.invariant.0))
 
 pub one_accepts-loop-schema-preserved : goal.one_accepts-loop-schema-preserved
 one_accepts-loop-schema-preserved t c =
@@ -150,7 +153,7 @@ each_accepted-accepts_at-requires t c =
     let e = of_item s items c.loop-item.item-index c.item-item.result c.loop-item-test.true c.item-item.is in
     let lt = less r all _ _ _ e c.loop-item.invariant.0 in
     let lt' : 6 * steps r s (view c.item-item.result) + 5 < 6 * most r all = omega (arith, lt) in
-    (search rules, (c.requires.no_loop, here r all _ _ _ e c.loop-item.invariant.0))
+    (search rules, (c.requires.plain, here r all _ _ _ e c.loop-item.invariant.0))
 
 pub each_accepted-loop-item-preserved : goal.each_accepted-loop-item-preserved
 each_accepted-loop-item-preserved t c =
@@ -170,7 +173,7 @@ how_many_accepted-accepts_at-requires t c =
     let e = of_item s items c.loop-item.item-index c.item-item.result c.loop-item-test.true c.item-item.is in
     let lt = less r all _ _ _ e c.loop-item.invariant.0 in
     let lt' : 6 * steps r s (view c.item-item.result) + 5 < 6 * most r all = omega (arith, lt) in
-    (search rules, (c.requires.no_loop, here r all _ _ _ e c.loop-item.invariant.0))
+    (search rules, (c.requires.plain, here r all _ _ _ e c.loop-item.invariant.0))
 
 pub how_many_accepted-loop-item-preserved : goal.how_many_accepted-loop-item-preserved
 how_many_accepted-loop-item-preserved t c =
@@ -215,7 +218,7 @@ contains_accepted-how_many_accepted-many-requires t c =
     let e = ap (of_each s) c.items_of.ensures in
     let same = ap (most r) e in
     let lt : 6 * most r (of_each s (elements_view c.items_of.result.now)) < 6 * most r (of_each s (elements_in (seen c.args.instance))) + 1 = omega (arith, same) in
-    (search rules, (c.requires.no_loop, subst (ArePlaced r) (sym e) c.requires.placed))
+    (search rules, (c.requires.plain, subst (ArePlaced r) (sym e) c.requires.placed))
 
 pub limit_accepted-how_many_accepted-many-requires : goal.limit_accepted-how_many_accepted-many-requires
 limit_accepted-how_many_accepted-many-requires t c =
@@ -225,7 +228,7 @@ limit_accepted-how_many_accepted-many-requires t c =
     let e = ap (λ o. of_contained (option_map (λ d. view d.now) o) u) c.in-Some.is ∙ sym (ap (of_each s) c.items_of.ensures) in
     let same = ap (most r) e in
     let lt : 6 * most r (of_each s (elements_view c.items_of.result.now)) < 6 * most r (of_contained (option_map (λ d. view d.now) c.args.contained) u) + 1 = omega (arith, same) in
-    (search rules, (c.requires.no_loop, subst (ArePlaced r) e c.requires.placed))
+    (search rules, (c.requires.plain, subst (ArePlaced r) e c.requires.placed))
 
 pub placed_accepted-loop-schema-init : goal.placed_accepted-loop-schema-init
 placed_accepted-loop-schema-init t c =
@@ -242,7 +245,7 @@ placed_accepted-accepts_at-requires t c =
     let e = place_next _ _ _ _ c.in-Some.schema.now c.in-Some.item.now c.in-Some.ensures.steps.0 c.in-Some.ensures.steps.1 in
     let lt = less r all _ _ _ e c.loop-schema.invariant.0 in
     let lt' : 6 * steps r (view c.in-Some.schema.now) (view c.in-Some.item.now) + 5 < 6 * most r all = omega (arith, lt) in
-    (search rules, (c.requires.no_loop, here r all _ _ _ e c.loop-schema.invariant.0))
+    (search rules, (c.requires.plain, here r all _ _ _ e c.loop-schema.invariant.0))
 
 pub placed_accepted-loop-schema-preserved : goal.placed_accepted-loop-schema-preserved
 placed_accepted-loop-schema-preserved t c =
@@ -274,7 +277,7 @@ named_accepted-found_accepts-requires t c =
     let e = member_next ss c.in-Some.name.now c.in-Some.member.now _ _ o c.in-Some.ensures.steps f in
     let le = found_most r all _ _ m o e c.loop-name.invariant.0 in
     let lt : 6 * most r (at_target o m) < 6 * most r all + 1 = omega (arith, le) in
-    (search rules, (c.requires.no_loop, found_placed r all _ _ m o e c.loop-name.invariant.0))
+    (search rules, (c.requires.plain, found_placed r all _ _ m o e c.loop-name.invariant.0))
 
 pub named_accepted-loop-name-preserved : goal.named_accepted-loop-name-preserved
 named_accepted-loop-name-preserved t c =
@@ -298,7 +301,7 @@ others_accepted-accepts_at-requires t c =
     let e = other_next ns s c.in-Some.name.now c.in-Some.member.now _ _ c.in-Some.ensures.steps h in
     let lt = less r all _ _ _ e c.loop-name.invariant.0 in
     let lt' : 6 * steps r s m + 5 < 6 * most r all = omega (arith, lt) in
-    (search rules, (c.requires.no_loop, here r all _ _ _ e c.loop-name.invariant.0))
+    (search rules, (c.requires.plain, here r all _ _ _ e c.loop-name.invariant.0))
 
 pub others_accepted-loop-name-preserved : goal.others_accepted-loop-name-preserved
 others_accepted-loop-name-preserved t c =
@@ -316,13 +319,49 @@ others_accepted-loop-name-preserved t c =
           (subst (λ x. Rest r x all) e inv.0, sym (ap (λ l. every (told (verdict r) l)) e) ∙ inv.1)
     ]
 
+pub present_accept-accepts_at-requires : goal.present_accept-accepts_at-requires
+present_accept-accepts_at-requires t c =
+    let r = view c.args.root.now in
+    let u = seen c.args.instance in
+    let all = by_each (members_view c.args.schemas.now.entries) u in
+    let s = view c.in-Some.schema.now in
+    let e = each_next u c.in-Some.name.now c.in-Some.schema.now _ _ c.in-Some.ensures.steps in
+    let lt = less r all _ _ _ e c.loop-name.invariant.0 in
+    let lt' : 6 * steps r s u + 5 < 6 * most r all = omega (arith, lt) in
+    (search rules, (c.requires.plain, here r all _ _ _ e c.loop-name.invariant.0))
+
+pub present_accept-loop-name-preserved : goal.present_accept-loop-name-preserved
+present_accept-loop-name-preserved t c =
+    let r = view c.args.root.now in
+    let u = seen c.args.instance in
+    let all = by_each (members_view c.args.schemas.now.entries) u in
+    let inv = c.loop-name.invariant in
+    let e = each_next u c.in-Some.name.now c.in-Some.schema.now _ _ c.in-Some.ensures.steps in
+    let next = presence_next r u c.in-Some.name.now c.as_str.result.now c.in-Some.schema.now _ _ in
+    elim c.else-has_member.branch [
+      | present_accept-else-has_member-via-then-has_member+else-not-accepts_at w ↦ (further r all _ _ _ e inv.0, next true true _ c.in-Some.ensures.steps c.as_str.ensures.value w.if-has_member.ensures w.if-not-accepts_at.ensures inv.1)
+      | present_accept-else-has_member-via-else-has_member w ↦ (further r all _ _ _ e inv.0, next false (verdict r (view c.in-Some.schema.now) u) _ c.in-Some.ensures.steps c.as_str.ensures.value w.if-has_member.ensures refl inv.1)
+    ]
+
+pub present_accept-returns-then-not-accepts_at : goal.present_accept-returns-then-not-accepts_at
+present_accept-returns-then-not-accepts_at t c =
+    let r = view c.args.root.now in
+    let u = seen c.args.instance in
+    presence_next r u c.in-Some.name.now c.as_str.result.now c.in-Some.schema.now _ _ true false _ c.in-Some.ensures.steps c.as_str.ensures.value c.if-has_member.ensures c.if-not-accepts_at.ensures c.loop-name.invariant.1
+
+pub present_accept-returns : goal.present_accept-returns
+present_accept-returns t c =
+    let r = view c.args.root.now in
+    let u = seen c.args.instance in
+    sym (ap (presence r u) c.in-None.ensures.steps.0) ∙ c.loop-name.invariant.1
+
 pub found_accepts-accepts_at-requires : goal.found_accepts-accepts_at-requires
 found_accepts-accepts_at-requires t c =
     let r = view c.args.root.now in
     let u = seen c.args.instance in
     let same = ap (λ f. most r (at_target (option_map (λ x. view x.now) f) u)) c.in-Some.is in
     let lt : 6 * steps r (view c.in-Some.schema.now) u + 5 < 6 * most r (at_target (option_map (λ x. view x.now) c.args.found) u) = omega (arith, same) in
-    (search rules, (c.requires.no_loop, subst (λ f. ArePlaced r (at_target (option_map (λ x. view x.now) f) u)) c.in-Some.is c.requires.placed (ask (view c.in-Some.schema.now) u) first))
+    (search rules, (c.requires.plain, subst (λ f. ArePlaced r (at_target (option_map (λ x. view x.now) f) u)) c.in-Some.is c.requires.placed (ask (view c.in-Some.schema.now) u) first))
 
 pub accepts_where-accepts_at-requires : goal.accepts_where-accepts_at-requires
 accepts_where-accepts_at-requires t c =
@@ -331,7 +370,7 @@ accepts_where-accepts_at-requires t c =
     let u = seen c.args.instance in
     let same = ap (λ f. most r (after_if (option_map (λ x. view x.now) f) s u)) c.in-Some.is in
     let lt : 6 * steps r (view c.in-Some.condition.now) u + 5 < 6 * most r (after_if (option_map (λ x. view x.now) c.args.condition) s u) = omega (arith, same) in
-    (search rules, (c.requires.no_loop, subst (λ f. ArePlaced r (after_if (option_map (λ x. view x.now) f) s u)) c.in-Some.is c.requires.placed (ask (view c.in-Some.condition.now) u) first))
+    (search rules, (c.requires.plain, subst (λ f. ArePlaced r (after_if (option_map (λ x. view x.now) f) s u)) c.in-Some.is c.requires.placed (ask (view c.in-Some.condition.now) u) first))
 
 pub accepts_where-accepts_at-requires-else-accepts_at-holds : goal.accepts_where-accepts_at-requires-else-accepts_at-holds
 accepts_where-accepts_at-requires-else-accepts_at-holds t c =
@@ -340,7 +379,7 @@ accepts_where-accepts_at-requires-else-accepts_at-holds t c =
     let u = seen c.args.instance in
     let same = ap (λ f. most r (after_if (option_map (λ x. view x.now) f) s u)) c.in-Some.is in
     let lt : 6 * steps r s u + 5 < 6 * most r (after_if (option_map (λ x. view x.now) c.args.condition) s u) = omega (arith, same) in
-    (search rules, (c.requires.no_loop, subst (λ f. ArePlaced r (after_if (option_map (λ x. view x.now) f) s u)) c.in-Some.is c.requires.placed (ask s u) (later first)))
+    (search rules, (c.requires.plain, subst (λ f. ArePlaced r (after_if (option_map (λ x. view x.now) f) s u)) c.in-Some.is c.requires.placed (ask s u) (later first)))
 
 pub names_accepted-accepts_at-requires : goal.names_accepted-accepts_at-requires
 names_accepted-accepts_at-requires t c =
@@ -351,7 +390,7 @@ names_accepted-accepts_at-requires t c =
     let e = name_next s c.in-Some.name.now n c.in-Some.field-0-1.now _ _ c.in-Some.ensures.steps c.as_str.ensures.value in
     let lt = less r all _ _ _ e c.loop-name.invariant.0 in
     let lt' : 6 * steps r s (text n) + 5 < 6 * most r all = omega (arith, lt) in
-    (search rules, (c.requires.no_loop, here r all _ _ _ e c.loop-name.invariant.0))
+    (search rules, (c.requires.plain, here r all _ _ _ e c.loop-name.invariant.0))
 
 pub names_accepted-loop-name-preserved : goal.names_accepted-loop-name-preserved
 names_accepted-loop-name-preserved t c =
@@ -643,3 +682,11 @@ properties_accepted-returns-in-Object t c =
     let r = view c.args.root.now in
     let ms = members_view c.args.members.now.entries in
     c.named_accepted.ensures ∙ sym (ap (λ d. every (told (verdict r) (each_named d ms))) (ap view c.in-Object.is ∙ view-Object c.in-Object.schemas))
+
+pub member_holds-returns-in-Pattern : goal.member_holds-returns-in-Pattern
+member_holds-returns-in-Pattern t c =
+    let r = view c.args.root.now in
+    let ms = members_view c.args.siblings.now.entries in
+    let v = view c.args.value.now in
+    let u = seen c.args.instance in
+    sym (no_search v u (ap (λ k. texts_of k v) (sym c.in-Pattern.is) ∙ c.requires.searchless)) ∙ sym (ap (λ k. holds (verdict r) r ms k v u) c.in-Pattern.is)

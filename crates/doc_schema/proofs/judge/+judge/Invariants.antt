@@ -1,10 +1,13 @@
-use Rattle.std.proofs.Common.{◌≡◌, ◌==◌, ◌≤◌, ◌+◌, ◌*◌, drop, option_map, codes}
+use Rattle.std.proofs.Common.{◌≡◌, [], ◌==◌, ◌≤◌, ◌+◌, ◌*◌, drop, option_map, codes}
 use Rattle.doc_tree.specs.Doc.{object}
+use Rattle.doc_tree.specs.Lists.{names_list}
 use Rattle.doc_tree.specs.TreeView.{view, elements_view, members_view}
 use Rattle.schema_graph.specs.Walks.{In}
 use Rattle.schema_rules.specs.Instances.{seen}
+use Rattle.schema_rules.specs.PatternTexts.{texts_by}
+use Rattle.schema_rules.specs.declared.profile.Profile.TheVariants.{Three}
 use Rattle.schema_rules.specs.Parts.{beside, elements_in, members_in}
-use Rattle.schema_rules.specs.Rules.{Ask, asks, at_each, of_each, by_place, by_name, each_named, of_names, of_others, of_contained, at_target, after_if, every, some, how_many}
+use Rattle.schema_rules.specs.Rules.{Ask, asks, at_each, by_each, of_each, by_place, by_name, each_named, of_names, of_others, of_contained, at_target, after_if, every, some, how_many, where_present}
 use Rattle.doc_schema.specs.Steps.{verdict, all_hold, told, steps, most}
 use Rattle.doc_schema.proofs.Fuel.{asked_by}
 use Rattle.doc_schema.proofs.Rest.{Rest, is_one}
@@ -55,6 +58,9 @@ decreases-named_accepted l = 6 * most (view l.root.now) (by_name (members_view l
 abbrev pub decreases-others_accepted : goal.decreases-others_accepted
 decreases-others_accepted l = 6 * most (view l.root.now) (of_others (members_in (beside (codes "properties") (members_view l.siblings.now.entries))) (view l.schema.now) (members_view l.members.now.entries))
 
+abbrev pub decreases-present_accept : goal.decreases-present_accept
+decreases-present_accept l = 6 * most (view l.root.now) (by_each (members_view l.schemas.now.entries) (seen l.instance))
+
 abbrev pub decreases-found_accepts : goal.decreases-found_accepts
 decreases-found_accepts l = 6 * most (view l.root.now) (at_target (option_map (λ t. view t.now) l.found) (seen l.instance))
 
@@ -64,6 +70,7 @@ decreases-accepts_where l = 6 * most (view l.root.now) (after_if (option_map (λ
 abbrev pub invariant-members_hold-loop-name : goal.invariant-members_hold-loop-name
 invariant-members_hold-loop-name l = (all_hold (verdict (view l.root)) (view l.root) (members_view l.members.entries) (members_view l.name-iterator) (seen l.instance) ≡ all_hold (verdict (view l.root)) (view l.root) (members_view l.members.entries) (members_view l.members.entries) (seen l.instance))
     × ((a : Ask) → In a (asked_by (view l.root) (members_view l.members.entries) (members_view l.name-iterator) (seen l.instance)) → In a (asked_by (view l.root) (members_view l.members.entries) (members_view l.members.entries) (seen l.instance)))
+    × (texts_by Three (members_view l.name-iterator) ≡ [])
 
 abbrev pub invariant-all_accept-loop-schema : goal.invariant-all_accept-loop-schema
 invariant-all_accept-loop-schema l = Rest (view l.root) (at_each (elements_view (drop l.schema-index l.schemas)) (seen l.instance)) (at_each (elements_view l.schemas) (seen l.instance))
@@ -93,6 +100,11 @@ invariant-named_accepted-loop-name l = Rest (view l.root) (by_name (members_view
 abbrev pub invariant-others_accepted-loop-name : goal.invariant-others_accepted-loop-name
 invariant-others_accepted-loop-name l = Rest (view l.root) (of_others (members_in (beside (codes "properties") (members_view l.siblings.entries))) (view l.schema) (members_view l.name-iterator)) (of_others (members_in (beside (codes "properties") (members_view l.siblings.entries))) (view l.schema) (members_view l.members.entries))
     × (every (told (verdict (view l.root)) (of_others (members_in (beside (codes "properties") (members_view l.siblings.entries))) (view l.schema) (members_view l.name-iterator))) ≡ every (told (verdict (view l.root)) (of_others (members_in (beside (codes "properties") (members_view l.siblings.entries))) (view l.schema) (members_view l.members.entries))))
+
+abbrev pub invariant-present_accept-loop-name : goal.invariant-present_accept-loop-name
+invariant-present_accept-loop-name l = Rest (view l.root) (by_each (members_view l.name-iterator) (seen l.instance)) (by_each (members_view l.schemas.entries) (seen l.instance))
+    × (where_present (names_list (members_view l.name-iterator)) (seen l.instance) (told (verdict (view l.root)) (by_each (members_view l.name-iterator) (seen l.instance)))
+    ≡ where_present (names_list (members_view l.schemas.entries)) (seen l.instance) (told (verdict (view l.root)) (by_each (members_view l.schemas.entries) (seen l.instance))))
 
 abbrev pub invariant-placed_accepted-loop-schema : goal.invariant-placed_accepted-loop-schema
 invariant-placed_accepted-loop-schema l = Rest (view l.root) (by_place (elements_view l.schema-iterator.a.rest.now) (elements_view l.schema-iterator.b.rest.now)) (by_place (elements_view l.schemas) (elements_view l.items))

@@ -1,5 +1,5 @@
 use Rattle.std.proofs.Common.{sym, ◌∙◌}
-use Rattle.doc_schema.proofs.Profile.{faultless_stays, judged_alike}
+use Rattle.doc_schema.proofs.FirstProfile.{faultless_stays, judged_alike}
 use Rattle.doc_schema.proofs.laws.schemas_of_profile_1_stay.Goals as goal
 
 pub returns-clause-accepted : goal.returns-clause-accepted

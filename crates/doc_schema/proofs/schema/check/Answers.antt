@@ -1,33 +1,73 @@
-use Rattle.std.proofs.Common.{inl, refl}
+use Rattle.std.proofs.Common.{◌≡◌, refl, inl, inr, ⊎_elim, map, true, false, Result, Ok, Err, IfErr, IsErrAnd, sym, ap, subst, ◌∙◌}
 use Rattle.doc_tree.specs.TreeView.{view}
-use Rattle.doc_schema.specs.Faults.{IsTooLarge, malformed, left_out, dangling}
+use Rattle.schema_pattern.specs.Tables.{are_patterns}
+use Rattle.schema_rules.specs.PatternTexts.{offered_texts}
+use Rattle.doc_schema.specs.Faults.{IsFaultOf, IsMalformed, IsTooLarge, are_too_large, too_large, malformed, left_out, dangling}
 use Rattle.doc_schema.specs.declared.defects.Defect.TheVariants.{Form, LeftOut, Reference}
 use Rattle.doc_schema.proofs.Anywhere.{told, untold}
 use Rattle.doc_schema.proofs.schema.check.Goals as goal
 
+pub returns-then-is_too_long-clause-err : goal.returns-then-is_too_long-clause-err
+returns-then-is_too_long-clause-err c = inl (too_large refl (inl (c.if-is_too_long.ensures.0 refl)))
+
+pub returns-then-are_too_large-clause-err : goal.returns-then-are_too_large-clause-err
+returns-then-are_too_large-clause-err c =
+    inl (too_large refl (inr (sym (c.if-are_too_large.ensures ∙ ap (λ l. are_too_large (map (λ s. s.now) l)) c.deref.ensures.value ∙ ap are_too_large c.in_ok-texts.ensures))))
+
 pub returns-then-some_position_has-clause-err : goal.returns-then-some_position_has-clause-err
 returns-then-some_position_has-clause-err c =
+    let p = c.args.profile in
     let s = view c.args.source.now in
-    let size : IsTooLarge s → ⊥ = λ h. (let e = c.if-is_too_large.ensures.1 h in absurd cc) in
-    inl (malformed refl size (told Form s c.if-some_position_has.ensures))
+    let few : are_too_large (offered_texts p s) ≡ false = sym (c.if-are_too_large.ensures ∙ ap (λ l. are_too_large (map (λ s. s.now) l)) c.deref.ensures.value ∙ ap are_too_large c.in_ok-texts.ensures) in
+    let size : IsTooLarge p s → ⊥ = ⊎_elim (λ a. (let e = c.if-is_too_long.ensures.1 a in absurd cc)) (λ b. (let e : true ≡ false = sym b ∙ few in absurd cc)) in
+    inl (malformed refl size (inl (told p Form s c.if-some_position_has.ensures)))
+
+err_same : {A E : Type 0} (r : Result A E) (e : E) (P : E → Type 0) → P e → IsErrAnd r (λ d. d ≡ e) → IfErr r P
+err_same (Ok a) e P p h = tt
+err_same (Err d) e P p h = subst P (sym h) p
+
+pub returns-in_err-patterns-clause-err : goal.returns-in_err-patterns-clause-err
+returns-in_err-patterns-clause-err c =
+    let p = c.args.profile in
+    let s = view c.args.source.now in
+    let few : are_too_large (offered_texts p s) ≡ false = sym (c.if-are_too_large.ensures ∙ ap (λ l. are_too_large (map (λ s. s.now) l)) c.deref.ensures.value ∙ ap are_too_large c.in_ok-texts.ensures) in
+    let size : IsTooLarge p s → ⊥ = ⊎_elim (λ a. (let e = c.if-is_too_long.ensures.1 a in absurd cc)) (λ b. (let e : true ≡ false = sym b ∙ few in absurd cc)) in
+    let same = ap (λ l. are_patterns (map (λ s. s.now) l)) c.deref-2.ensures.value ∙ ap are_patterns c.in_ok-texts.ensures in
+    let e = c.in_err-patterns.field-0.0 in
+    let fault : IsFaultOf p s e = ⊎_elim (λ f. inl (malformed f.0 size (inr (sym same ∙ f.1)))) (λ m. inr m) c.in_err-patterns.ensures.err in
+    err_same c.from_residual-in_err-patterns.result e (IsFaultOf p s) fault c.from_residual-in_err-patterns.ensures.1
 
 pub returns-then-some_position_has-2-clause-err : goal.returns-then-some_position_has-2-clause-err
 returns-then-some_position_has-2-clause-err c =
+    let p = c.args.profile in
     let s = view c.args.source.now in
-    let size : IsTooLarge s → ⊥ = λ h. (let e = c.if-is_too_large.ensures.1 h in absurd cc) in
-    inl (left_out refl size (untold Form s c.if-some_position_has.ensures) (told LeftOut s c.if-some_position_has-2.ensures))
+    let few : are_too_large (offered_texts p s) ≡ false = sym (c.if-are_too_large.ensures ∙ ap (λ l. are_too_large (map (λ s. s.now) l)) c.deref.ensures.value ∙ ap are_too_large c.in_ok-texts.ensures) in
+    let size : IsTooLarge p s → ⊥ = ⊎_elim (λ a. (let e = c.if-is_too_long.ensures.1 a in absurd cc)) (λ b. (let e : true ≡ false = sym b ∙ few in absurd cc)) in
+    let all : true ≡ are_patterns (offered_texts p s) = sym c.in_ok-patterns.ensures.ok ∙ ap (λ l. are_patterns (map (λ s. s.now) l)) c.deref-2.ensures.value ∙ ap are_patterns c.in_ok-texts.ensures in
+    let form : IsMalformed p s → ⊥ = ⊎_elim (untold p Form s c.if-some_position_has.ensures) (λ b. (let e : true ≡ false = all ∙ b in absurd cc)) in
+    inl (left_out refl size form (told p LeftOut s c.if-some_position_has-2.ensures))
 
 pub returns-then-some_position_has-3-clause-err : goal.returns-then-some_position_has-3-clause-err
 returns-then-some_position_has-3-clause-err c =
+    let p = c.args.profile in
     let s = view c.args.source.now in
-    let size : IsTooLarge s → ⊥ = λ h. (let e = c.if-is_too_large.ensures.1 h in absurd cc) in
-    inl (dangling refl size (untold Form s c.if-some_position_has.ensures) (untold LeftOut s c.if-some_position_has-2.ensures) (told Reference s c.if-some_position_has-3.ensures))
+    let few : are_too_large (offered_texts p s) ≡ false = sym (c.if-are_too_large.ensures ∙ ap (λ l. are_too_large (map (λ s. s.now) l)) c.deref.ensures.value ∙ ap are_too_large c.in_ok-texts.ensures) in
+    let size : IsTooLarge p s → ⊥ = ⊎_elim (λ a. (let e = c.if-is_too_long.ensures.1 a in absurd cc)) (λ b. (let e : true ≡ false = sym b ∙ few in absurd cc)) in
+    let all : true ≡ are_patterns (offered_texts p s) = sym c.in_ok-patterns.ensures.ok ∙ ap (λ l. are_patterns (map (λ s. s.now) l)) c.deref-2.ensures.value ∙ ap are_patterns c.in_ok-texts.ensures in
+    let form : IsMalformed p s → ⊥ = ⊎_elim (untold p Form s c.if-some_position_has.ensures) (λ b. (let e : true ≡ false = all ∙ b in absurd cc)) in
+    inl (dangling refl size form (untold p LeftOut s c.if-some_position_has-2.ensures) (told p Reference s c.if-some_position_has-3.ensures))
 
 pub returns-clause-ok : goal.returns-clause-ok
 returns-clause-ok c =
-    let s = view c.args.source.now in record {
-      size = λ h. (let e = c.if-is_too_large.ensures.1 h in absurd cc);
-      form = untold Form s c.if-some_position_has.ensures;
-      keywords = untold LeftOut s c.if-some_position_has-2.ensures;
-      references = untold Reference s c.if-some_position_has-3.ensures;
+    let p = c.args.profile in
+    let s = view c.args.source.now in
+    let few : are_too_large (offered_texts p s) ≡ false = sym (c.if-are_too_large.ensures ∙ ap (λ l. are_too_large (map (λ s. s.now) l)) c.deref.ensures.value ∙ ap are_too_large c.in_ok-texts.ensures) in
+    let all : true ≡ are_patterns (offered_texts p s) = sym c.in_ok-patterns.ensures.ok ∙ ap (λ l. are_patterns (map (λ s. s.now) l)) c.deref-2.ensures.value ∙ ap are_patterns c.in_ok-texts.ensures in record {
+      size = ⊎_elim (λ a. (let e = c.if-is_too_long.ensures.1 a in absurd cc)) (λ b. (let e : true ≡ false = sym b ∙ few in absurd cc));
+      form = ⊎_elim (untold p Form s c.if-some_position_has.ensures) (λ b. (let e : true ≡ false = all ∙ b in absurd cc));
+      keywords = untold p LeftOut s c.if-some_position_has-2.ensures;
+      references = untold p Reference s c.if-some_position_has-3.ensures;
     }
+
+pub returns-clause-patterns : goal.returns-clause-patterns
+returns-clause-patterns c = c.in_ok-patterns.ensures.sources ∙ ap (map (λ s. s.now)) c.deref-2.ensures.value ∙ c.in_ok-texts.ensures

@@ -4,7 +4,7 @@ use Rattle.doc_schema.proofs.Thirteenths.{room}
 use Rattle.doc_schema.proofs.schema.nodes_of.Goals as goal
 
 pub compile-requires-clause-room : goal.compile-requires-clause-room
-compile-requires-clause-room c = fits (view c.args.source.now) c.requires
+compile-requires-clause-room c = fits (view c.args.source.now) c.requires.checked
 
 pub compile-requires-clause-few : goal.compile-requires-clause-few
-compile-requires-clause-few c = room (view c.args.source.now) c.requires
+compile-requires-clause-few c = room (view c.args.source.now) c.requires.checked

@@ -1,18 +1,17 @@
 use Rattle.std.proofs.Common.{◌≡◌, refl, sym, ap, subst, ◌∙◌, arith, ◌+◌, ◌≤◌, length, replicate, drop}
 use Rattle.std.proofs.lemmas.List.{length-replicate}
 use Rattle.schema_levels.specs.PlaceInValue.{index}
-use Rattle.doc_tree.specs.Doc.{list, object, Elements, no_elements}
+use Rattle.doc_tree.specs.Doc.{object, Elements, no_elements}
 use Rattle.doc_tree.specs.Lists.{elements_list}
 use Rattle.doc_tree.proofs.Elements.{length-elements_list}
 use Rattle.doc_tree.specs.TreeView.{view, elements_view, members_view}
-use Rattle.doc_tree.proofs.Views.{view-List, view-Object}
 use Rattle.schema_levels.specs.Bits.{size}
 use Rattle.schema_levels.specs.Table.{child_at, items_from, members_each, titles}
 use Rattle.schema_levels.specs.Below.{seen}
-use Rattle.schema_levels.specs.Levels.{AreLowered}
 use Rattle.schema_levels.proofs.Folding.{closed_keeps, ends, folded_append, lowered, child_told, nothing_asked, goes_on, one_folded, none_folded, none_in_clear, item_next, member_next, Going, judge_right}
 use Rattle.schema_levels.specs.Counters.{Tallied, most, width}
 use Rattle.schema_levels.proofs.Counting.{counting_goes, counting_skips, counted_is, drop_all, element_next}
+use Rattle.schema_levels.proofs.Searching.{still}
 use Rattle.schema_levels.proofs.levels.+levels.Goals.{fold_each_item-then-fold_child, fold_each_item-else-fold_child}
 use Rattle.schema_levels.proofs.levels.+levels.Goals as goal
 
@@ -70,6 +69,8 @@ fold_each_item-loop-index-preserved t c =
             room counters_room w.tally.ensures.1 many inv.6 next (c.fold_child.ensures.told w.if-fold_child.true)
             (subst (λ l. Tallied c.args.counters.now c.args.narrow c.fold_child.new.below_asked c.fold_child.new.below_passed w.tally.ensures.0 c.loop-index.found c.loop-index.counts l c.if-fold_child.counts) (sym w.found-is)
             (subst (λ l. Tallied c.args.counters.now c.args.narrow c.fold_child.new.below_asked c.fold_child.new.below_passed w.tally.ensures.0 c.loop-index.found c.loop-index.counts w.tally.new.found l) (sym w.counts-is) w.tally.ensures.2)),
+        still _ _ c.args.nodes.now c.fold_child.ensures.same inv.7,
+        c.fold_child.ensures.same ∙ inv.8,
       )
       | fold_each_item-else-fold_child w ↦ (
         c.fold_child.auto.passed ∙ inv.0,
@@ -79,6 +80,8 @@ fold_each_item-loop-index-preserved t c =
         ap length w.counts-is ∙ inv.4,
         going,
         counting_skips c.args.nodes.now c.args.counters.now c.args.narrow c.args.asked.now c.if-fold_child.found c.if-fold_child.counts index_at rest all (c.fold_child.ensures.none w.if-fold_child.false).1,
+        still _ _ c.args.nodes.now c.fold_child.ensures.same inv.7,
+        c.fold_child.ensures.same ∙ inv.8,
       )
     ]
 
@@ -92,6 +95,7 @@ fold_each_item-returns t c =
     record {
       lowered = counted_is c.args.nodes.now c.args.counters.now c.requires.counted.each c.args.narrow c.args.asked.now c.args.passed.now c.loop-index.passed c.weigh.new.passed c.loop-index.found c.loop-index.counts left all room
           (ends c.args.nodes.now c.args.asked.now c.args.passed.now c.loop-index.passed (items_from c.loop-index.index left) (items_from 0 all) inv.5 (ap (items_from c.loop-index.index) none)) inv.6 none c.weigh.ensures;
+      same = inv.8;
     }
 
 pub judge-returns-clause-judged : goal.judge-returns-clause-judged
@@ -101,7 +105,7 @@ judge-returns-clause-judged t c =
     let lower_len : length c.lower.new.passed ≡ length c.args.asked.now = c.lower.auto.passed ∙ c.fill.auto.words ∙ c.requires.passed_len in
     let lower_room : length c.args.nodes.now ≤ size c.lower.new.passed = omega (arith, c.requires.room, lower_len) in
     judge_right c.args.nodes.now c.requires.order (view c.args.instance.now) c.args.asked.now c.args.passed.now c.close.new.asked c.fill.new.words c.lower.new.passed c.conclude.new.passed
-    asked_room passed_room c.close.ensures c.fill.ensures c.lower.ensures.lowered lower_room c.conclude.ensures
+    asked_room passed_room c.close.ensures c.fill.ensures c.lower.ensures.lowered lower_room c.conclude.ensures.concluded
 
 pub judge-returns-clause-kept : goal.judge-returns-clause-kept
 judge-returns-clause-kept t c =
@@ -114,6 +118,7 @@ lower_members-returns t c =
     record {
       lowered = lowered c.args.nodes.now c.args.asked.now (object ms) c.args.passed.now c.fold_names.new.passed (λ known rs. refl)
           (folded_append c.args.nodes.now c.args.asked.now (members_each ms) (titles ms) c.args.passed.now c.fold_members.new.passed c.fold_names.new.passed c.fold_members.ensures.folded c.fold_names.ensures.folded);
+      same = c.fold_names.ensures.same ∙ c.fold_members.ensures.same;
     }
 
 pub fold_child-returns-then-not-collect-clause-told : goal.fold_child-returns-then-not-collect-clause-told
@@ -124,7 +129,7 @@ fold_child-returns-clause-none t c = λ e. absurd cc
 
 pub fold_each_member-loop-name-init : goal.fold_each_member-loop-name-init
 fold_each_member-loop-name-init t c =
-    (tt, tt, c.requires.passed_len, c.requires.below_asked, c.requires.below_len, (subst (λ l. Going c.args.nodes.now c.args.asked.now c.args.passed.now c.args.passed.now (members_each (members_view l)) (members_each (members_view c.args.members.now.entries))) (sym (c.into_iter-name-iterator.ensures.into_iter_gives ∙ c.iter-name-items.ensures.rest)) (λ known table k x at on. refl)))
+    (tt, tt, c.requires.passed_len, c.requires.below_asked, c.requires.below_len, (subst (λ l. Going c.args.nodes.now c.args.asked.now c.args.passed.now c.args.passed.now (members_each (members_view l)) (members_each (members_view c.args.members.now.entries))) (sym (c.into_iter-name-iterator.ensures.into_iter_gives ∙ c.iter-name-items.ensures.rest)) (λ known table k x at on. refl)), c.requires.searched, refl)
 
 pub fold_each_member-loop-name-preserved-then-fold_child : goal.fold_each_member-loop-name-preserved-then-fold_child
 fold_each_member-loop-name-preserved-then-fold_child t c = (
@@ -135,6 +140,8 @@ fold_each_member-loop-name-preserved-then-fold_child t c = (
   c.fold_child.auto.below_passed ∙ c.loop-name.invariant.4,
   goes_on c.args.nodes.now c.args.asked.now c.args.passed.now c.loop-name.passed c.fold_child.new.passed _ _ (members_each (members_view c.next.new.self)) (members_each (members_view c.args.members.now.entries)) c.loop-name.invariant.5
       (member_next c.in-Some.name.now c.as_str.result.now c.in-Some.member.now c.loop-name.name-iterator c.next.new.self c.in-Some.ensures.steps c.as_str.ensures.value) c.fold_child.ensures.folded,
+  still _ _ c.args.nodes.now c.fold_child.ensures.same c.loop-name.invariant.6,
+  c.fold_child.ensures.same ∙ c.loop-name.invariant.7,
 )
 
 pub fold_each_member-loop-name-preserved : goal.fold_each_member-loop-name-preserved
@@ -146,8 +153,16 @@ fold_each_member-loop-name-preserved t c = (
   c.fold_child.auto.below_passed ∙ c.loop-name.invariant.4,
   goes_on c.args.nodes.now c.args.asked.now c.args.passed.now c.loop-name.passed c.fold_child.new.passed _ _ (members_each (members_view c.next.new.self)) (members_each (members_view c.args.members.now.entries)) c.loop-name.invariant.5
       (member_next c.in-Some.name.now c.as_str.result.now c.in-Some.member.now c.loop-name.name-iterator c.next.new.self c.in-Some.ensures.steps c.as_str.ensures.value) c.fold_child.ensures.folded,
+  still _ _ c.args.nodes.now c.fold_child.ensures.same c.loop-name.invariant.6,
+  c.fold_child.ensures.same ∙ c.loop-name.invariant.7,
 )
 
 pub fold_each_member-returns : goal.fold_each_member-returns
 fold_each_member-returns t c =
-    record { folded = ends c.args.nodes.now c.args.asked.now c.args.passed.now c.loop-name.passed _ (members_each (members_view c.args.members.now.entries)) c.loop-name.invariant.5 (ap (λ l. members_each (members_view l)) c.in-None.ensures.steps.0) }
+    record { folded = ends c.args.nodes.now c.args.asked.now c.args.passed.now c.loop-name.passed _ (members_each (members_view c.args.members.now.entries)) c.loop-name.invariant.5 (ap (λ l. members_each (members_view l)) c.in-None.ensures.steps.0); same = c.loop-name.invariant.7 }
+
+pub judge-conclude-requires-clause-searched : goal.judge-conclude-requires-clause-searched
+judge-conclude-requires-clause-searched t c = still _ _ c.args.nodes.now c.lower.ensures.same c.requires.searched
+
+pub lower_members-fold_names-requires-clause-searched : goal.lower_members-fold_names-requires-clause-searched
+lower_members-fold_names-requires-clause-searched t c = still _ _ c.args.nodes.now c.fold_members.ensures.same c.requires.searched

@@ -3,8 +3,8 @@ use Rattle.schema_levels.specs.Bits.{bit, size}
 use Rattle.schema_levels.proofs.Marks.{bit_same}
 use Rattle.schema_levels.proofs.run.passes_within.Goals as goal
 
-pub returns : goal.returns
-returns c = λ known table.
+pub returns-clause-value : goal.returns-clause-value
+returns-clause-value c = λ known table.
     let clear : List ℕ = c.fill.new.words in
     let len : length clear ≡ c.args.words = c.fill.auto.words ∙ c.split_at_mut-asked.ensures.front_len in
     let within : c.args.number < size clear = omega (arith, len, c.requires.number, c.requires.room) in

@@ -22,6 +22,7 @@ returns-in_ok-copy-in-OneOf c = subst (λ k. Fits c.args.targets.now c.args.rank
 pub returns-in_default : goal.returns-in_default
 returns-in_default c =
     let none : AsksNone c.args.keyword = record {
+      not_pattern = c.in_default.not-Pattern;
       not_properties = c.in_default.not-Properties;
       not_additional_properties = c.in_default.not-AdditionalProperties;
       not_property_names = c.in_default.not-PropertyNames;
@@ -35,6 +36,7 @@ returns-in_default c =
       not_not = c.in_default.not-Not;
       not_then = c.in_default.not-Then;
       not_else = c.in_default.not-Else;
+      not_dependent_schemas = c.in_default.not-DependentSchemas;
       not_ref = c.in_default.not-Ref;
     } in
     IfOk-weaker c.alone.result _ _ (λ r h. fits_alone c.args.targets.now c.args.ranks.now (view c.args.root.now) (known_near c.args.near.now) c.args.keyword (view c.args.value.now) c.args.row.now r none h) c.alone.ensures

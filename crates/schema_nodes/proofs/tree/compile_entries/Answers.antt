@@ -26,7 +26,7 @@ order_of-requires c =
     let found : slice_get es c.args.whole ≡ Some e = slice_get_read es (length es) c.args.whole e refl c.requires.within c.index-entries-whole.is in
     let same = same_doc (view e.schema.now) r (sym (doc_is es c.args.whole e found) ∙ c.requires.whole) in
     let rows : AreRows (doc_at es) (members_in r) e.rows.items = subst (λ d. AreRows (doc_at es) (members_in d) e.rows.items) same (rows_at r (doc_at es) es c.args.whole e c.requires.are found) in
-    let ts : Targets = record { whole = c.args.whole; named = c.in_ok-definitions.field-0 } in
+    let ts : Targets = record { whole = c.args.whole; named = c.in_ok-definitions.field-0; patterns = c.args.patterns } in
     let is : IsTargets r c.args.whole e.rows.items ts = record { whole = refl; named = λ schema have. c.in_ok-definitions.ensures schema (subst (HaveRows schema (members_in r)) (sym c.deref.ensures.value) have) } in
     let g = c.in_ok-graph.graph.items in
     let targets = targets_at r es c.args.whole e.rows.items ts c.requires.are c.requires.whole rows is in
@@ -40,7 +40,7 @@ returns c =
     let found : slice_get es c.args.whole ≡ Some e = slice_get_read es (length es) c.args.whole e refl c.requires.within c.index-entries-whole.is in
     let same = same_doc (view e.schema.now) r (sym (doc_is es c.args.whole e found) ∙ c.requires.whole) in
     let rows : AreRows (doc_at es) (members_in r) e.rows.items = subst (λ d. AreRows (doc_at es) (members_in d) e.rows.items) same (rows_at r (doc_at es) es c.args.whole e c.requires.are found) in
-    let ts : Targets = record { whole = c.args.whole; named = c.in_ok-definitions.field-0 } in
+    let ts : Targets = record { whole = c.args.whole; named = c.in_ok-definitions.field-0; patterns = c.args.patterns } in
     let is : IsTargets r c.args.whole e.rows.items ts = record { whole = refl; named = λ schema have. c.in_ok-definitions.ensures schema (subst (HaveRows schema (members_in r)) (sym c.deref.ensures.value) have) } in
     let g = c.in_ok-graph.graph.items in
     let targets = targets_at r es c.args.whole e.rows.items ts c.requires.are c.requires.whole rows is in
@@ -54,7 +54,7 @@ nodes_of-requires-clause-within c =
     let found : slice_get es c.args.whole ≡ Some e = slice_get_read es (length es) c.args.whole e refl c.requires.within c.index-entries-whole.is in
     let same = same_doc (view e.schema.now) r (sym (doc_is es c.args.whole e found) ∙ c.requires.whole) in
     let rows : AreRows (doc_at es) (members_in r) e.rows.items = subst (λ d. AreRows (doc_at es) (members_in d) e.rows.items) same (rows_at r (doc_at es) es c.args.whole e c.requires.are found) in
-    let ts : Targets = record { whole = c.args.whole; named = c.in_ok-definitions.field-0 } in
+    let ts : Targets = record { whole = c.args.whole; named = c.in_ok-definitions.field-0; patterns = c.args.patterns } in
     let is : IsTargets r c.args.whole e.rows.items ts = record { whole = refl; named = λ schema have. c.in_ok-definitions.ensures schema (subst (HaveRows schema (members_in r)) (sym c.deref.ensures.value) have) } in
     let g = c.in_ok-graph.graph.items in
     let targets = targets_at r es c.args.whole e.rows.items ts c.requires.are c.requires.whole rows is in
@@ -70,7 +70,7 @@ pub counters_of-requires : goal.counters_of-requires
 counters_of-requires c =
     let r = view c.args.root.now in
     let es = c.args.entries.now in
-    let ts : Targets = record { whole = c.args.whole; named = c.in_ok-definitions.field-0 } in
+    let ts : Targets = record { whole = c.args.whole; named = c.in_ok-definitions.field-0; patterns = c.args.patterns } in
     let g = c.in_ok-graph.graph.items in
     let o = c.in-Some.order in
     let places = o.places.items in
@@ -90,7 +90,7 @@ returns-in-Some c =
     let found : slice_get es c.args.whole ≡ Some e = slice_get_read es (length es) c.args.whole e refl c.requires.within c.index-entries-whole.is in
     let same = same_doc (view e.schema.now) r (sym (doc_is es c.args.whole e found) ∙ c.requires.whole) in
     let rows : AreRows (doc_at es) (members_in r) e.rows.items = subst (λ d. AreRows (doc_at es) (members_in d) e.rows.items) same (rows_at r (doc_at es) es c.args.whole e c.requires.are found) in
-    let ts : Targets = record { whole = c.args.whole; named = c.in_ok-definitions.field-0 } in
+    let ts : Targets = record { whole = c.args.whole; named = c.in_ok-definitions.field-0; patterns = c.args.patterns } in
     let is : IsTargets r c.args.whole e.rows.items ts = record { whole = refl; named = λ schema have. c.in_ok-definitions.ensures schema (subst (HaveRows schema (members_in r)) (sym c.deref.ensures.value) have) } in
     let g = c.in_ok-graph.graph.items in
     let targets = targets_at r es c.args.whole e.rows.items ts c.requires.are c.requires.whole rows is in
@@ -101,7 +101,7 @@ returns-in-Some c =
     let nodes = c.in_ok-nodes-in-Some.nodes.items in
     let made : AreMade ts ranks r es places nodes = subst (λ l. AreMade ts l r es places nodes) c.deref-in-Some-2.ensures.value (subst (λ l. AreMade ts c.deref-in-Some-2.result.now r es l nodes) c.deref-in-Some.ensures.value c.in_ok-nodes-in-Some.ensures) in
     let whole : c.rank_of.result ≡ at ranks c.args.whole = c.rank_of.ensures ∙ ap (λ (l : List ℕ). at l c.args.whole) c.deref-in-Some-4.ensures.value in (
-      subst (IsCompiled r nodes) (sym whole) (compiled r es c.args.whole e.rows.items ts c.requires.are c.requires.whole rows is g places ranks nodes c.in_ok-graph.ensures order made c.requires.many c.requires.room),
+      subst (IsCompiled r nodes) (sym whole) (compiled r es c.args.whole e.rows.items ts c.requires.are c.requires.whole rows is g places ranks nodes c.in_ok-graph.ensures order made c.requires.many c.requires.room c.requires.patterns),
       subst (λ l. AreCounted l c.in_ok-counters-in-Some.counters) c.deref-in-Some-3.ensures.value c.in_ok-counters-in-Some.ensures,
       λ looped. order.no_loop (graph_looped ts r es targets c.requires.are g c.in_ok-graph.ensures c.args.whole c.requires.whole looped),
     )

@@ -7,13 +7,13 @@ use Rattle.store_commits.proofs.Replays.{damaged_first, replayed_first, replayed
 use Rattle.store_commits.proofs.replaying.replay.Goals as goal
 
 pub loop-rest-init : goal.loop-rest-init
-loop-rest-init c = (replayed_start c.args.version c.args.seq c.args.bytes.now c.at-machine.result c.at-machine.ensures.empty, ap (λ (s : State). s.seq) c.at-machine.ensures.empty, c.at-machine.ensures.good)
+loop-rest-init c = (replayed_start c.args.profile c.args.version c.args.seq c.args.bytes.now c.at-machine.result c.at-machine.ensures.empty, ap (λ (s : State). s.seq) c.at-machine.ensures.empty, ap (λ (s : State). s.profile) c.at-machine.ensures.empty, c.at-machine.ensures.good)
 
 pub returns-in_err-after-clause-damaged : goal.returns-in_err-after-clause-damaged
 returns-in_err-after-clause-damaged c =
     let nonempty : c.loop-rest.rest.now ≢ [] = search rules in
     let p = err_from_is_err_and c.from_residual.result c.from_residual.ensures.1 in
-    rw (p.1, p.2) (λ damaged. damaged_first c.args.version c.args.seq c.args.bytes.now c.loop-rest.rest.now c.loop-rest.machine c.loop-rest.invariant.0 nonempty
+    rw (p.1, p.2) (λ damaged. damaged_first c.args.profile c.args.version c.args.seq c.args.bytes.now c.loop-rest.rest.now c.loop-rest.machine c.loop-rest.invariant.0 nonempty
     (c.in_err-after.ensures.damaged damaged))
 
 pub loop-rest-preserved : goal.loop-rest-preserved
@@ -21,8 +21,9 @@ loop-rest-preserved c =
     let nonempty : c.loop-rest.rest.now ≢ [] = search rules in
     let first = c.in_ok-after.ensures.taken in
     let len = c.in_ok-after.len in (
-      subst (λ (l : List ℕ). Replayed c.args.version c.args.seq c.args.bytes.now l c.in_ok-after.after) (sym (take_rest c.loop-rest.rest.now len))
-          (replayed_first c.args.version c.args.seq c.args.bytes.now c.loop-rest.rest.now c.loop-rest.machine c.in_ok-after.after len c.loop-rest.invariant.0 nonempty first),
+      subst (λ (l : List ℕ). Replayed c.args.profile c.args.version c.args.seq c.args.bytes.now l c.in_ok-after.after) (sym (take_rest c.loop-rest.rest.now len))
+          (replayed_first c.args.profile c.args.version c.args.seq c.args.bytes.now c.loop-rest.rest.now c.loop-rest.machine c.in_ok-after.after len c.loop-rest.invariant.0 nonempty first),
       ap (λ (s : State). s.seq) first.new_is ∙ c.loop-rest.invariant.1,
+      ap (λ (s : State). s.profile) first.new_is ∙ c.loop-rest.invariant.2,
       c.in_ok-after.ensures.good,
     )

@@ -4,7 +4,7 @@ use Rattle.store_commits.specs.Replay.{Replayed}
 use Rattle.store_commits.proofs.replaying.replay.Given as goal
 
 abbrev pub invariant-loop-rest : goal.invariant-loop-rest
-invariant-loop-rest l = Replayed l.version l.seq l.bytes l.rest l.machine × (l.machine.seq ≡ l.seq) × Good l.machine
+invariant-loop-rest l = Replayed l.fn.profile l.version l.seq l.bytes l.rest l.machine × (l.machine.seq ≡ l.seq) × (l.machine.profile ≡ l.fn.profile) × Good l.machine
 
 abbrev pub decreases-loop-rest : goal.decreases-loop-rest
 decreases-loop-rest l = length l.rest

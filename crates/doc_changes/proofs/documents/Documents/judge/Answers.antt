@@ -20,4 +20,4 @@ returns-clause-judged c =
 pub returns-in_err-judged-clause-own : goal.returns-in_err-judged-clause-own
 returns-in_err-judged-clause-own c =
     err_same c.from_residual.result c.in_err-judged.field-0.0 IsOwn
-    (own_alone c.args.self.now.documents (change_of c.args.command.now) c.in_err-judged.field-0.0 c.in_err-judged.ensures) c.from_residual.ensures.1
+    (own_alone c.args.self.now.profile c.args.self.now.documents (change_of c.args.command.now) c.in_err-judged.field-0.0 c.in_err-judged.ensures) c.from_residual.ensures.1

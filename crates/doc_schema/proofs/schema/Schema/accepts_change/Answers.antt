@@ -1,16 +1,8 @@
-use Rattle.std.proofs.Common.{map, sym, subst, true}
-use Rattle.doc_tree.specs.Place.{place_of}
-use Rattle.doc_tree.specs.TreeView.{view}
-use Rattle.doc_schema.specs.Judge.{Judges}
-use Rattle.doc_schema.proofs.Lifted.{loop_above}
-use Rattle.schema_levels.specs.Table.{IsTable}
-use Rattle.doc_schema.proofs.Tables.{judged_again}
+use Rattle.std.proofs.Common.{◌≡◌, true, false, refl, sym}
 use Rattle.doc_schema.proofs.schema.Schema.accepts_change.Goals as goal
 
-pub returns : goal.returns
-returns c = λ valid was agree.
-    let r = view c.self.inside.source in
-    let u = view c.args.instance.now in
-    let is = judged_again r c.self.inside.nodes.nodes.items c.self.inside.nodes.whole (map place_of c.args.path.now) valid u c.passes_again.result c.self.invariant.1 (λ l. c.self.invariant.0.loops (loop_above r l))
-    (λ known t. c.passes_again.ensures known (subst (λ l. IsTable l known) (sym c.deref.ensures.value) t)) (subst (λ s. Judges (view s) valid true) (sym c.self.view_is) was) agree in
-    subst (λ s. Judges (view s) u c.passes_again.result) c.self.view_is is
+pub returns-then-has_patterns : goal.returns-then-has_patterns
+returns-then-has_patterns c = λ e. (let h : true ≡ false = c.if-has_patterns.ensures.1 e in absurd cc)
+
+pub judged_again-requires : goal.judged_again-requires
+judged_again-requires c = sym (c.if-has_patterns.ensures.0 refl)

@@ -1,8 +1,10 @@
-use Rattle.std.proofs.Common.{◌∙◌, subst, sym}
+use Rattle.std.proofs.Common.{rules, ◌≡◌, ◌∙◌, ◌⊎◌, subst, sym, true, false}
+use Rattle.sector_device.specs.Disk.{Image, LeavesOnly}
+use Rattle.store_commits.specs.Account.{Account}
 use Rattle.store_commits.specs.Copying.{copy_of, target_of}
-use Rattle.doc_store.specs.Formats.{IsNamed}
-use Rattle.doc_store.proofs.Formats.{format_moments, images_are, stays_formatted}
-use Rattle.doc_store.proofs.Pumps.{held_so}
+use Rattle.doc_store.specs.Formats.{InEither}
+use Rattle.doc_store.specs.declared.format.Format.{Format}
+use Rattle.doc_store.proofs.Formats.{OneOf, images_are, in_three, in_two, stays_formatted}
 use Rattle.doc_store.proofs.store.Store.set_format.Goals as goal
 
 pub returns-then-rides-clause-any_moment : goal.returns-then-rides-clause-any_moment
@@ -14,21 +16,18 @@ pub returns-then-rides-clause-done : goal.returns-then-rides-clause-done
 returns-then-rides-clause-done g c = rw (← c.self.view_is)
     (images_are g.D.SectorDevice.disk c.self.inside.journal c.self.inside.journal c.self.inside.machine (copy_of (target_of c.self.inside.copy)) c.self.invariant.held (sym c.is_broken.ensures.broken ∙ c.if-is_broken.false))
 
-pub returns-in_err-name_format-clause-any_moment : goal.returns-in_err-name_format-clause-any_moment
-returns-in_err-name_format-clause-any_moment g c = rw (← c.self.view_is) (λ honest works.
-    format_moments g.D.SectorDevice.disk c.self.inside.journal c.name_format.new.journal c.self.inside.machine (copy_of (target_of c.self.inside.copy)) c.self.invariant.held c.args.format
-    c.rides-3.result c.rides-3.ensures c.name_format.ensures.any_moment honest)
+pub returns-in-Two-clause-any_moment : goal.returns-in-Two-clause-any_moment
+returns-in-Two-clause-any_moment g c = λ honest works.
+    let old = g.D.SectorDevice.disk c.args.self.now.device in
+    let new = g.D.SectorDevice.disk c.lower.new.self.device in
+    let a = c.args.self.now.account in
+    let rides : a.rides ≡ true = search (rules, c.rides.ensures, c.rides-2.ensures, c.if-rides.false, c.in-Two.is, c.self.view_is) in
+    subst (λ (f : Format). LeavesOnly old new (InEither a f)) (sym c.in-Two.is) (subst (λ (b : Account). LeavesOnly old new (OneOf a b)) (sym (in_two a rides)) (c.lower.ensures.any_moment honest))
 
-pub returns-clause-any_moment : goal.returns-clause-any_moment
-returns-clause-any_moment g c = rw (← c.self.view_is) (λ honest works.
-    format_moments g.D.SectorDevice.disk c.self.inside.journal c.name_format.new.journal c.self.inside.machine (copy_of (target_of c.self.inside.copy)) c.self.invariant.held c.args.format
-    c.rides-3.result c.rides-3.ensures c.name_format.ensures.any_moment honest)
-
-pub returns-clause-done : goal.returns-clause-done
-returns-clause-done g c =
-    let disk = g.D.SectorDevice.disk in
-    let before = c.self.inside.journal in
-    let now = c.name_format.new.journal in
-    let named = subst (IsNamed (disk before.device) (disk now.device) before now) c.rides-3.ensures c.in_ok-name_format.ensures.ok in
-    let held = held_so (disk before.device) (disk now.device) before now c.self.inside.machine c.self.invariant.held c.name_format.ensures.honest.1 c.name_format.ensures.kept named.version named.seq named.bytes named.settled in
-    images_are disk now now c.self.inside.machine (copy_of (target_of c.take-copy.result)) held named.works
+pub returns-in-Three-clause-any_moment : goal.returns-in-Three-clause-any_moment
+returns-in-Three-clause-any_moment g c = λ honest works.
+    let old = g.D.SectorDevice.disk c.args.self.now.device in
+    let new = g.D.SectorDevice.disk c.raise.new.self.device in
+    let a = c.args.self.now.account in
+    let rides : a.rides ≡ false = search (rules, c.rides.ensures, c.rides-2.ensures, c.if-rides.false, c.in-Three.is, c.self.view_is) in
+    subst (λ (f : Format). LeavesOnly old new (InEither a f)) (sym c.in-Three.is) (subst (λ (b : Account). LeavesOnly old new (OneOf a b)) (sym (in_three a rides)) (c.raise.ensures.any_moment honest))

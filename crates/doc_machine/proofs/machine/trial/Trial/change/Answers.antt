@@ -16,6 +16,7 @@ use Rattle.doc_changes.proofs.Judgements.{err_same}
 use Rattle.doc_changes.proofs.Known.{own_alone}
 use Rattle.doc_changes.proofs.Made.{judged_below}
 use Rattle.doc_machine.proofs.Pasts.{back_push, past_of-push}
+use Rattle.doc_machine.proofs.Readied.{ready_on}
 use Rattle.doc_machine.proofs.machine.trial.Trial.change.Goals as goal
 
 pub make-requires-clause-storable : goal.make-requires-clause-storable
@@ -24,10 +25,20 @@ make-requires-clause-storable c = subst (λ es. AllByRecursion IsStorable (map d
 pub returns-in_err-undo-clause-own : goal.returns-in_err-undo-clause-own
 returns-in_err-undo-clause-own c =
     err_same c.from_residual-in_err-undo.result c.in_err-undo.field-0.0 IsOwn
-    (own_alone (map document_of c.reserve.new.self.entries) (change_of c.args.command) c.in_err-undo.field-0.0 c.in_err-undo.ensures.refused) c.from_residual-in_err-undo.ensures.1
+    (own_alone c.self.inside.profile (map document_of c.reserve.new.self.entries) (change_of c.args.command) c.in_err-undo.field-0.0 (c.in_err-undo.ensures.refused c.self.inside.profile)) c.from_residual-in_err-undo.ensures.1
 
-made : (c : goal.After-self-1) → IsMade (map document_of c.self.inside.documents.entries) (change_of c.args.command) (c.self.inside.seq + 1) c.in_ok-undo.undo (map document_of c.make.new.documents.entries)
-made c = subst (λ es. IsMade (map document_of es) (change_of c.args.command) (c.self.inside.seq + 1) c.in_ok-undo.undo (map document_of c.make.new.documents.entries)) c.in_ok-reserve.ensures.entries c.in_ok-undo.ensures.made
+pub make-requires-clause-ready : goal.make-requires-clause-ready
+make-requires-clause-ready c = (
+  c.self.inside.profile,
+  ready_on _ (tried c.self.inside) (map document_of c.reserve.new.self.entries) (change_of c.args.command) c.args.judged (sym (ap (λ (v : TrialView). v.state) c.self.view_is))
+      (ap (map document_of) c.in_ok-reserve.ensures.entries) c.requires.ready,
+)
+
+made : (c : goal.After-self-1) → IsMade c.self.inside.profile (map document_of c.self.inside.documents.entries) (change_of c.args.command) (c.self.inside.seq + 1) c.in_ok-undo.undo (map document_of c.make.new.documents.entries)
+made c =
+    subst (λ es. IsMade c.self.inside.profile (map document_of es) (change_of c.args.command) (c.self.inside.seq + 1) c.in_ok-undo.undo (map document_of c.make.new.documents.entries)) c.in_ok-reserve.ensures.entries
+    (c.in_ok-undo.ensures.made c.self.inside.profile (ready_on _ (tried c.self.inside) (map document_of c.reserve.new.self.entries) (change_of c.args.command) c.args.judged (sym (ap (λ (v : TrialView). v.state) c.self.view_is))
+    (ap (map document_of) c.in_ok-reserve.ensures.entries) c.requires.ready))
 
 judged : (c : goal.After-self-1) → IsJudged (tried c.self.inside) (change_of c.args.command) (made c).judged
 judged c =
@@ -35,15 +46,15 @@ judged c =
     judged_below (tried c.self.inside) (change_of c.args.command) (made c).judged (c.accepted_changes_are_framed.ensures (tried c.self.inside) (change_of c.args.command)) (made c).is_judged low
 
 abbrev now : (c : goal.After-self-1) → State
-now c = record { documents = map document_of c.make.new.documents.entries; seq = c.self.inside.seq + 1 }
+now c = record { documents = map document_of c.make.new.documents.entries; seq = c.self.inside.seq + 1; profile = c.self.inside.profile }
 
 now_is : (c : goal.After-self-1) → now c ≡ after (tried c.self.inside) (change_of c.args.command)
-now_is c = ap (λ (ds : List Document). record { documents = ds; seq = c.self.inside.seq + 1 }) (made c).after
+now_is c = ap (λ (ds : List Document). record { documents = ds; seq = c.self.inside.seq + 1; profile = c.self.inside.profile }) (made c).after
 
 before_is : (c : goal.After-self-1) → before c.in_ok-undo.undo (now c) ≡ tried c.self.inside
 before_is c =
     let seq : c.self.inside.seq + 1 - 1 ≡ c.self.inside.seq = omega arith in
-    λ i. record { documents = (made c).undo.back i; seq = seq i }
+    λ i. record { documents = (made c).undo.back i; seq = seq i; profile = c.self.inside.profile }
 
 log_is : (c : goal.After-self-1) → c.push.new.self.items ≡ c.self.inside.log.items ++ c.in_ok-undo.undo ∷ []
 log_is c =

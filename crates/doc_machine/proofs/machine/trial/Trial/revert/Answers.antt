@@ -17,10 +17,10 @@ pub overflow_sub-self : goal.overflow_sub-self
 overflow_sub-self c = (newest c.self.inside.log.items c.pop.new.self.items c.pop.result c.unwrap-undo.result (tried c.self.inside) c.pop.ensures.items c.unwrap-undo.ensures c.self.invariant.back).1.counted
 
 abbrev now : (c : goal.After-self-1) → State
-now c = record { documents = map document_of c.unmake.new.documents.entries; seq = c.self.inside.seq - 1 }
+now c = record { documents = map document_of c.unmake.new.documents.entries; seq = c.self.inside.seq - 1; profile = c.self.inside.profile }
 
 now_is : (c : goal.After-self-1) → now c ≡ before c.unwrap-undo.result (tried c.self.inside)
-now_is c = ap (λ (ds : List Document). record { documents = ds; seq = c.self.inside.seq - 1 }) c.unmake.ensures.before
+now_is c = ap (λ (ds : List Document). record { documents = ds; seq = c.self.inside.seq - 1; profile = c.self.inside.profile }) c.unmake.ensures.before
 
 pub invariant_of-self : goal.invariant_of-self
 invariant_of-self c =

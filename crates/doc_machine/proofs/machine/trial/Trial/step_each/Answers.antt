@@ -3,7 +3,6 @@ use Rattle.std.proofs.lemmas.List.{append_assoc, map-append}
 use Rattle.std.specs.Vec.Iter.{into_iter_items}
 use Rattle.record_text.specs.Change.{Change, change_of}
 use Rattle.record_text.specs.declared.command.Command.{Command}
-use Rattle.doc_changes.specs.State.{State}
 use Rattle.doc_machine.specs.Transaction.{AreMade, StopsAt, first_refused, kept_by, kept_by_all, large_refusal, refused_at}
 use Rattle.doc_machine.specs.Trial.{TrialView}
 use Rattle.doc_changes.specs.declared.refusal.Refusal.{Refusal}

@@ -1,5 +1,5 @@
--- A schema without a fault of profile 1 says the same in profile 2, since no name in it became a keyword.
-use Rattle.std.proofs.Common.{◌≡◌, ℕ, zero, suc, ◌+◌, ◌*◌, ◌≤◌, List, [], ◌∷◌, ◌++◌, length, Bool, true, false, not, ◌||◌, Option, Some, None, option_map, refl, sym, ap, ap₂, subst, ◌∙◌}
+-- A schema without a fault of profile 1 has none in later profiles and says the same, since no name in it became a keyword.
+use Rattle.std.proofs.Common.{◌≡◌, ⊎_elim, map, ℕ, zero, suc, ◌+◌, ◌*◌, ◌≤◌, List, [], ◌∷◌, ◌++◌, length, Bool, true, false, not, ◌||◌, Option, Some, None, option_map, refl, sym, ap, ap₂, subst, ◌∙◌}
 use Rattle.std.specs.Prelude.{⊤}
 use Rattle.doc_tree.specs.Doc.{Doc, null, boolean, int, text, list, object, Elements, no_elements, element, Members, no_members, member, height, Place, name, index}
 use Rattle.schema_graph.specs.Loops.{HasLoop, AreJoined}
@@ -7,16 +7,21 @@ use Rattle.schema_graph.specs.Walks.{In, first, later}
 use Rattle.schema_graph.proofs.Among.{In-left, In-right}
 use Rattle.schema_rules.specs.Keywords.{keyword_of, shape_of}
 use Rattle.schema_rules.specs.Parts.{members_in}
+use Rattle.schema_pattern.specs.Tables.{are_patterns}
+use Rattle.schema_rules.specs.PatternTexts.{offered_texts, texts_by, texts_in, texts_of}
+use Rattle.schema_rules.specs.Profiles.{offered}
 use Rattle.schema_rules.specs.Rules.{Ask, asks, joins}
 use Rattle.schema_rules.specs.declared.keyword.Keyword.{Keyword}
-use Rattle.schema_rules.specs.declared.keyword.Keyword.TheVariants.{DependentRequired, PropertyNames, Contains, MinContains, MaxContains, If, Then, Else, LeftOut}
+use Rattle.schema_rules.specs.declared.keyword.Keyword.TheVariants.{DependentRequired, PropertyNames, Contains, MinContains, MaxContains, If, Then, Else, Pattern, DependentSchemas, LeftOut}
 use Rattle.schema_rules.specs.declared.keyword.Shape.{Shape}
 use Rattle.schema_rules.specs.declared.keyword.Shape.TheVariants.{One, Several, Named}
+use Rattle.schema_rules.specs.declared.profile.Profile.{Profile}
+use Rattle.schema_rules.specs.declared.profile.Profile.TheVariants.{Two, Three}
 use Rattle.doc_schema.specs.Defects.{is_root, is_wrong, lacks_form, some_member, HasDefect}
-use Rattle.doc_schema.specs.Faults.{IsFaultless}
+use Rattle.doc_schema.specs.Faults.{IsFaultless, are_too_large}
 use Rattle.doc_schema.specs.Judge.{both, answers, all_say, judge, enough}
 use Rattle.doc_schema.specs.Loops.{led_by_members, leads, HasSchemaLoop}
-use Rattle.doc_schema.specs.Positions.{Position, position, positions, positions_in, positions_each, positions_named, positions_below}
+use Rattle.doc_schema.specs.Positions.{Position, position, positions, offered_in, offered_each, offered_named, offered_below, offered_positions}
 use Rattle.doc_schema.specs.Schemas.{schemas, IsLoopedSchema}
 use Rattle.doc_schema.specs.Profile1Forms.{is_left_out_1}
 use Rattle.doc_schema.specs.Profile1Keywords.{keyword_1, shape_1}
@@ -24,7 +29,7 @@ use Rattle.doc_schema.specs.Profile1Rules.{joins_1, led_by_1}
 use Rattle.doc_schema.specs.Profile1.{is_wrong_1, lacks_form_1, positions_1, positions_in_1, positions_each_1, positions_named_1, positions_below_1, some_member_1, has_defect_1, HasDefect_1, led_by_members_1, leads_1, IsFaultless_1, says_1, all_say_1, judge_1}
 use Rattle.doc_schema.specs.declared.defects.Defect.{Defect}
 use Rattle.doc_schema.specs.declared.defects.Defect.TheVariants.{Form, LeftOut as Omitted, Reference}
-use Rattle.doc_schema.proofs.Closed.{own, to_position}
+use Rattle.doc_schema.proofs.Closed.{offered_are, own, schema_of, to_position}
 use Rattle.doc_schema.proofs.Fuel.{asked_by, part_in}
 use Rattle.doc_schema.proofs.Lifted.{loop_above}
 use Rattle.doc_schema.proofs.ProfileRows.{demoted, named, WasOne, same_shape, same_form, same_left_out, same_dangling, same_asks, same_joins, same_led}
@@ -40,6 +45,8 @@ stays MaxContains h = absurd (h refl)
 stays If h = absurd (h refl)
 stays Then h = absurd (h refl)
 stays Else h = absurd (h refl)
+stays Pattern h = absurd (h refl)
+stays DependentSchemas h = absurd (h refl)
 stays _ h = refl
 
 abbrev Kept : Members → Type 0
@@ -48,6 +55,13 @@ Kept (member k v ms) = (keyword_1 k ≡ keyword_of k) × Kept ms
 
 abbrev AllKept : List Position → Type 0
 AllKept ps = (p : Position) → In p ps → Kept (members_in p.schema)
+
+-- a keyword of profile 1 is offered by each
+still : (profile : Profile) (k : Keyword) → WasOne k → offered profile k ≡ k
+still Two Pattern w = absurd cc
+still Two DependentSchemas w = absurd cc
+still Two _ w = refl
+still Three _ w = refl
 
 was : (k : List ℕ) → keyword_1 k ≡ keyword_of k → WasOne (keyword_of k)
 was k kept = sym (named k) ∙ kept
@@ -71,36 +85,37 @@ kept_at root none p i = by_defect (has_defect_1 Omitted root p) refl
 
 -- ---- the same positions
 
-mutual
-  same_in : (h : Shape) (here : List Place) (v : Doc) → AllKept (positions_in_1 h here v) → positions_in_1 h here v ≡ positions_in h here v
-  same_in One here (object ms) f = ap (λ l. position here (object ms) ∷ l) (same_below here ms (f (position here (object ms)) first) (λ p i. f p (later i)))
-  same_in One here null f = refl
-  same_in One here (boolean b) f = refl
-  same_in One here (int z) f = refl
-  same_in One here (text s) f = refl
-  same_in One here (list ds) f = refl
-  same_in Several here (list ds) f = same_each here 0 ds f
-  same_in Named here (object ms) f = same_named here ms f
-  same_in _ here _ f = refl
+module _ (profile : Profile) where
+  mutual
+    pub same_in : (h : Shape) (here : List Place) (v : Doc) → AllKept (positions_in_1 h here v) → positions_in_1 h here v ≡ offered_in profile h here v
+    same_in One here (object ms) f = ap (λ l. position here (object ms) ∷ l) (same_below here ms (f (position here (object ms)) first) (λ p i. f p (later i)))
+    same_in One here null f = refl
+    same_in One here (boolean b) f = refl
+    same_in One here (int z) f = refl
+    same_in One here (text s) f = refl
+    same_in One here (list ds) f = refl
+    same_in Several here (list ds) f = same_each here 0 ds f
+    same_in Named here (object ms) f = same_named here ms f
+    same_in _ here _ f = refl
 
-  same_each : (here : List Place) (n : ℕ) (ds : Elements) → AllKept (positions_each_1 here n ds) → positions_each_1 here n ds ≡ positions_each here n ds
-  same_each here n no_elements f = refl
-  same_each here n (element d ds) f =
-      ap₂ (λ a b. a ++ b) (same_in One (here ++ index n ∷ []) d (λ p i. f p (In-left p _ _ i))) (same_each here (suc n) ds (λ p i. f p (In-right p (positions_in_1 One (here ++ index n ∷ []) d) _ i)))
+    same_each : (here : List Place) (n : ℕ) (ds : Elements) → AllKept (positions_each_1 here n ds) → positions_each_1 here n ds ≡ offered_each profile here n ds
+    same_each here n no_elements f = refl
+    same_each here n (element d ds) f =
+        ap₂ (λ a b. a ++ b) (same_in One (here ++ index n ∷ []) d (λ p i. f p (In-left p _ _ i))) (same_each here (suc n) ds (λ p i. f p (In-right p (positions_in_1 One (here ++ index n ∷ []) d) _ i)))
 
-  same_named : (here : List Place) (ms : Members) → AllKept (positions_named_1 here ms) → positions_named_1 here ms ≡ positions_named here ms
-  same_named here no_members f = refl
-  same_named here (member k d ms) f =
-      ap₂ (λ a b. a ++ b) (same_in One (here ++ name k ∷ []) d (λ p i. f p (In-left p _ _ i))) (same_named here ms (λ p i. f p (In-right p (positions_in_1 One (here ++ name k ∷ []) d) _ i)))
+    same_named : (here : List Place) (ms : Members) → AllKept (positions_named_1 here ms) → positions_named_1 here ms ≡ offered_named profile here ms
+    same_named here no_members f = refl
+    same_named here (member k d ms) f =
+        ap₂ (λ a b. a ++ b) (same_in One (here ++ name k ∷ []) d (λ p i. f p (In-left p _ _ i))) (same_named here ms (λ p i. f p (In-right p (positions_in_1 One (here ++ name k ∷ []) d) _ i)))
 
-  same_below : (here : List Place) (ms : Members) → Kept ms → AllKept (positions_below_1 here ms) → positions_below_1 here ms ≡ positions_below here ms
-  same_below here no_members kept f = refl
-  same_below here (member k v ms) kept f =
-      let there = here ++ name k ∷ [] in
-      let shape : shape_1 (keyword_1 k) ≡ shape_of (keyword_of k) = ap shape_1 kept.0 ∙ same_shape (keyword_of k) (was k kept.0) in
-      let held : AllKept (positions_in_1 (shape_of (keyword_of k)) there v) = subst (λ h. AllKept (positions_in_1 h there v)) shape (λ p i. f p (In-left p _ _ i)) in
-      ap (λ h. positions_in_1 h there v ++ positions_below_1 here ms) shape
-      ∙ ap₂ (λ a b. a ++ b) (same_in (shape_of (keyword_of k)) there v held) (same_below here ms kept.1 (λ p i. f p (In-right p (positions_in_1 (shape_1 (keyword_1 k)) there v) _ i)))
+    same_below : (here : List Place) (ms : Members) → Kept ms → AllKept (positions_below_1 here ms) → positions_below_1 here ms ≡ offered_below profile here ms
+    same_below here no_members kept f = refl
+    same_below here (member k v ms) kept f =
+        let there = here ++ name k ∷ [] in
+        let shape : shape_1 (keyword_1 k) ≡ shape_of (offered profile (keyword_of k)) = ap shape_1 kept.0 ∙ same_shape (keyword_of k) (was k kept.0) ∙ ap shape_of (sym (still profile (keyword_of k) (was k kept.0))) in
+        let held : AllKept (positions_in_1 (shape_of (offered profile (keyword_of k))) there v) = subst (λ h. AllKept (positions_in_1 h there v)) shape (λ p i. f p (In-left p _ _ i)) in
+        ap (λ h. positions_in_1 h there v ++ positions_below_1 here ms) shape
+        ∙ ap₂ (λ a b. a ++ b) (same_in (shape_of (offered profile (keyword_of k))) there v held) (same_below here ms kept.1 (λ p i. f p (In-right p (positions_in_1 (shape_1 (keyword_1 k)) there v) _ i)))
 
 -- ---- the same faults
 
@@ -114,10 +129,12 @@ same_lack Form _ = refl
 same_lack Omitted _ = refl
 same_lack Reference _ = refl
 
-some_same : (d : Defect) (root : Doc) (at_root : Bool) (ms : Members) → Kept ms → some_member_1 (is_wrong_1 d root at_root) ms ≡ some_member (is_wrong d root at_root) ms
-some_same d root at_root no_members kept = refl
-some_same d root at_root (member k v ms) kept =
-    ap₂ (λ a b. a || b) (ap (λ w. is_wrong_1 d root at_root w v) kept.0 ∙ same_wrong d root at_root (keyword_of k) v (was k kept.0)) (some_same d root at_root ms kept.1)
+some_same : (profile : Profile) (d : Defect) (root : Doc) (at_root : Bool) (ms : Members) → Kept ms → some_member_1 (is_wrong_1 d root at_root) ms ≡ some_member profile (is_wrong d root at_root) ms
+some_same profile d root at_root no_members kept = refl
+some_same profile d root at_root (member k v ms) kept =
+    ap₂ (λ a b. a || b)
+    (ap (λ w. is_wrong_1 d root at_root w v) kept.0 ∙ same_wrong d root at_root (keyword_of k) v (was k kept.0) ∙ ap (λ w. is_wrong d root at_root w v) (sym (still profile (keyword_of k) (was k kept.0))))
+    (some_same profile d root at_root ms kept.1)
 
 led_same : (root : Doc) (here : List Place) (ms : Members) → Kept ms → led_by_members_1 root here ms ≡ led_by_members root here ms
 led_same root here no_members kept = refl
@@ -134,15 +151,41 @@ joined_alike : (ms : Members) (k : Keyword) (v t : Doc) → WasOne k → (o : Op
 joined_alike ms k v t w None = refl
 joined_alike ms k v t w (Some bs) = ap (λ b. Some b) (same_joins ms k v t bs w)
 
+-- ---- no patterns
+
+no_text : (profile : Profile) (k : Keyword) (v : Doc) → WasOne k → texts_of (offered profile k) v ≡ []
+no_text profile Pattern v w = absurd cc
+no_text Two _ v w = refl
+no_text Three _ v w = refl
+
+no_text_by : (profile : Profile) (ms : Members) → Kept ms → texts_by profile ms ≡ []
+no_text_by profile no_members kept = refl
+no_text_by profile (member k v ms) kept = ap₂ (λ a b. a ++ b) (no_text profile (keyword_of k) v (was k kept.0)) (no_text_by profile ms kept.1)
+
+none_searched : (profile : Profile) (ps : List Position) → AllKept ps → texts_in profile (map schema_of ps) ≡ []
+none_searched profile [] f = refl
+none_searched profile (p ∷ ps) f = ap₂ (λ a b. a ++ b) (no_text_by profile (members_in p.schema) (f p first)) (none_searched profile ps (λ q i. f q (later i)))
+
 module _ (root : Doc) (none : HasDefect_1 Omitted root → ⊥) where
+  same_offered : (profile : Profile) → positions_1 root ≡ offered_positions profile root
+  same_offered profile = same_in profile One [] root (kept_at root none)
+
   same_positions : positions_1 root ≡ positions root
-  same_positions = same_in One [] root (kept_at root none)
+  same_positions = same_offered Three
 
   kept_in : AllKept (positions root)
   kept_in p i = kept_at root none p (subst (λ l. In p l) (sym same_positions) i)
 
-  defect_same : (d : Defect) → HasDefect d root → HasDefect_1 d root
-  defect_same d h = (h.0, subst (λ l. In h.0 l) (sym same_positions) h.1, ap₂ (λ a b. a || b) (same_lack d h.0.schema) (some_same d root (is_root h.0.location) (members_in h.0.schema) (kept_in h.0 h.1)) ∙ h.2)
+  defect_same : (profile : Profile) (d : Defect) → HasDefect profile d root → HasDefect_1 d root
+  defect_same profile d h =
+      let at = subst (λ l. In h.0 l) (sym (same_offered profile)) h.1 in
+      (h.0, at, ap₂ (λ a b. a || b) (same_lack d h.0.schema) (some_same profile d root (is_root h.0.location) (members_in h.0.schema) (kept_at root none h.0 at)) ∙ h.2)
+
+  -- there are no patterns
+  no_texts : (profile : Profile) → offered_texts profile root ≡ []
+  no_texts profile =
+      let ps = offered_positions profile root in
+      ap (texts_in profile) (sym (offered_are profile root)) ∙ none_searched profile ps (λ p i. kept_at root none p (subst (λ l. In p l) (sym (same_offered profile)) i))
 
   loop_same : HasSchemaLoop root → HasLoop (leads_1 root) (positions_1 root)
   loop_same l = (
@@ -187,12 +230,12 @@ module _ (root : Doc) (none : HasDefect_1 Omitted root → ⊥) where
 
 -- ---- the law
 
-pub faultless_stays : (s : Doc) → IsFaultless_1 s → IsFaultless s
-faultless_stays s f = record {
-  size = f.size;
-  form = λ h. f.form (defect_same s f.keywords Form h);
-  keywords = λ h. f.keywords (defect_same s f.keywords Omitted h);
-  references = λ h. f.references (defect_same s f.keywords Reference h);
+pub faultless_stays : (profile : Profile) (s : Doc) → IsFaultless_1 s → IsFaultless profile s
+faultless_stays profile s f = record {
+  size = λ h. ⊎_elim (λ a. f.size a) (λ b. (let none : false ≡ true = sym (ap are_too_large (no_texts s f.keywords profile)) ∙ b in absurd cc)) h;
+  form = λ h. ⊎_elim (λ a. f.form (defect_same s f.keywords profile Form a)) (λ b. (let all : true ≡ false = sym (ap are_patterns (no_texts s f.keywords profile)) ∙ b in absurd cc)) h;
+  keywords = λ h. f.keywords (defect_same s f.keywords profile Omitted h);
+  references = λ h. f.references (defect_same s f.keywords profile Reference h);
   loops = λ l. f.loops (loop_same s f.keywords l);
 }
 

@@ -1,0 +1,27 @@
+-- The texts of the patterns that are searched for, by numbers.
+use Rattle.std.specs.Prelude.{ℕ, List, [], map, slice_index_or, Bool, is_some}
+use Rattle.std.specs.List.{list_all, list_any}
+use Rattle.regex.specs.Strings.{regex_source}
+use Rattle.schema_pattern.specs.Patterns.{pattern_in, is_found}
+use Rattle.schema_pattern.specs.declared.pattern.Pattern.{Pattern}
+use Rattle.schema_pattern.specs.declared.pattern.Search.{Search}
+
+abbrev pub sources : List Search → List (List ℕ)
+sources = map (λ s. s.source.now)
+
+-- the text of that number, empty past the last
+abbrev pub source_at : List (List ℕ) → ℕ → List ℕ
+source_at ts n = slice_index_or ts n []
+
+-- some of the patterns is found in the text
+abbrev pub some_found : List (List ℕ) → List ℕ → Bool
+some_found ps t = list_any (λ p. is_found (pattern_in p) t) ps
+
+-- ---- patterns that were read
+
+abbrev pub pattern_sources : List Pattern → List (List ℕ)
+pattern_sources = map (λ p. regex_source p.regex)
+
+-- each of the texts is a pattern
+abbrev pub are_patterns : List (List ℕ) → Bool
+are_patterns ts = list_all (λ t. is_some (pattern_in t)) ts
