@@ -1,6 +1,3 @@
-pub mod Agreeing
-pub mod Beside
-pub mod AtEnd
 pub mod Entries
 pub mod Goodness
 pub mod Schemas

@@ -1,4 +1,3 @@
-pub mod Along
 pub mod Names
 pub mod Refusals
 pub mod Schema

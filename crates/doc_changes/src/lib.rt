@@ -3,16 +3,14 @@
 //! `Documents` are lent to read and to judge. `make` does a judged change on the map that keeps them, and answers the
 //! `Undo` by which `unmake` takes it back without memory; `make_for_good` keeps none, and `patch_read_for_good` does
 //! the same of a patch that was read already. A patch is judged and made in its document's place: only what it can have
-//! changed is judged (`changed_steps`, `accepts_patched`). What a change makes, and why it is refused, is defined in
+//! changed is judged (`changed_at`, `accepts_patched`). What a change makes, and why it is refused, is defined in
 //! `specs/Step.antt`; what every state keeps, in `specs/State.antt`; refusals as calls answer them, in
 //! `specs/Refusals.antt`.
 #![tactic(auto)]
 
 mod accepts;
-mod changed;
 mod checks;
 mod documents;
-mod ends;
 mod judge;
 mod judged;
 pub mod laws;
@@ -24,18 +22,17 @@ mod offered;
 mod patching;
 mod refusal;
 mod rules;
-mod steps;
 mod stored;
 mod undo;
 
 pub use accepts::accepts_patched;
-pub use changed::changed_steps;
 pub use doc_schema::Profile;
 pub use documents::Documents;
 pub use judged::Judged;
 pub use lent::Lent;
 pub use making::{make, make_for_good, unmake};
 pub use names::is_valid_name;
+pub use patched_places::{Changed, changed_at, changed_places, changed_steps};
 pub use patching::patch_read_for_good;
 pub use refusal::Refusal;
 pub use stored::Stored;

@@ -8,8 +8,8 @@ use Rattle.schema_levels.specs.Rules.{Rule}
 use Rattle.schema_levels.specs.Table.{IsTable, node_passes, passes_at, rule_of, rules_pass, told_by}
 use Rattle.schema_levels.specs.declared.node.Node.{Node}
 use Rattle.schema_levels.proofs.Tables.{and_true, passes_at_get, passes_past}
-use Rattle.schema_changes.specs.Agree.{AgreeOff}
-use Rattle.schema_changes.specs.Again.{IsPassedAgain}
+use Rattle.schema_changes.specs.Agree.{AgreeButShifted, AgreeOff, AgreeOffEach}
+use Rattle.schema_changes.specs.Again.{IsPassedAfter, IsPassedAgain, IsPassedShifted}
 use Rattle.schema_nodes.specs.Compiled.{IsCompiled}
 use Rattle.schema_nodes.specs.Nodes.{IsNodeFor}
 use Rattle.schema_nodes.specs.Rules.{schemas_asked, AreRulesOf}
@@ -60,6 +60,24 @@ judged root nodes whole t b c none h =
 pub judged_again : (root : Doc) (nodes : List Node) (whole : ℕ) (ps : List Place) (valid t : Doc) (b : Bool) → IsCompiled root nodes whole → (IsLoopedSchema root → ⊥)
     → ((known : ℕ → Doc → Bool) → IsTable nodes known → IsPassedAgain known whole ps t b) → Judges root valid true → AgreeOff ps valid t → Judges root t b
 judged_again root nodes whole ps valid t b c none h was agree =
+    let same : Some (verdict root root valid) ≡ Some true = sym (enough_is root none valid (enough root valid) (omega arith)) ∙ was in
+    let passed : verdict root root valid ≡ true = cc in
+    enough_is root none t (enough root t) (omega arith)
+    ∙ ap (λ v. Some v) (sym (h (λ p u. verdict root (c.schema p) u) (table root nodes whole c none) valid (ap (λ s. verdict root s valid) c.is_whole ∙ passed) agree ∙ ap (λ s. verdict root s t) c.is_whole))
+
+-- and off several, one after another
+pub judged_after : (root : Doc) (nodes : List Node) (whole : ℕ) (pss : List (List Place)) (valid t : Doc) (b : Bool) → IsCompiled root nodes whole → (IsLoopedSchema root → ⊥)
+    → ((known : ℕ → Doc → Bool) → IsTable nodes known → IsPassedAfter known whole pss t b) → Judges root valid true → AgreeOffEach pss valid t → Judges root t b
+judged_after root nodes whole pss valid t b c none h was agree =
+    let same : Some (verdict root root valid) ≡ Some true = sym (enough_is root none valid (enough root valid) (omega arith)) ∙ was in
+    let passed : verdict root root valid ≡ true = cc in
+    enough_is root none t (enough root t) (omega arith)
+    ∙ ap (λ v. Some v) (sym (h (λ p u. verdict root (c.schema p) u) (table root nodes whole c none) valid (ap (λ s. verdict root s valid) c.is_whole ∙ passed) agree ∙ ap (λ s. verdict root s t) c.is_whole))
+
+-- and where an element came or went at its end
+pub judged_shifted : (root : Doc) (nodes : List Node) (whole : ℕ) (ps : List Place) (valid t : Doc) (b : Bool) → IsCompiled root nodes whole → (IsLoopedSchema root → ⊥)
+    → ((known : ℕ → Doc → Bool) → IsTable nodes known → IsPassedShifted known whole ps t b) → Judges root valid true → AgreeButShifted ps valid t → Judges root t b
+judged_shifted root nodes whole ps valid t b c none h was agree =
     let same : Some (verdict root root valid) ≡ Some true = sym (enough_is root none valid (enough root valid) (omega arith)) ∙ was in
     let passed : verdict root root valid ≡ true = cc in
     enough_is root none t (enough root t) (omega arith)

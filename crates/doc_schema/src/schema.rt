@@ -8,7 +8,7 @@ ghost use Rattle.doc_tree.specs.TreeView.{view};
 ghost use Rattle.doc_schema.specs.Checked.{IsChecked};
 ghost use Rattle.doc_schema.specs.Faults.{IsFaultless, IsFaultOf, IsTooLong};
 ghost use Rattle.doc_schema.specs.Judge.{Judges};
-ghost use Rattle.schema_changes.specs.Agree.{AgreeOff};
+ghost use Rattle.schema_changes.specs.Agree.{AgreeButShifted, AgreeOff, AgreeOffEach};
 ghost use Rattle.schema_nodes.specs.Compiled.{IsFound};
 ghost use Rattle.schema_pattern.specs.Tables.{pattern_sources, sources};
 ghost use Rattle.schema_rules.specs.PatternTexts.{offered_texts, pattern_texts};
@@ -21,7 +21,7 @@ use crate::patterns::{are_too_large, patterns_of, texts_of_patterns};
 use crate::trial::Trial;
 use doc_tree::{Step, Tree};
 use refusals::numbers::{SCHEMA_FORM, SCHEMA_KEYWORD, SCHEMA_LOOP, SCHEMA_REF, SCHEMA_SIZE};
-use schema_changes::passes_again;
+use schema_changes::{passes_after, passes_again, passes_shifted};
 use schema_levels::passes;
 use schema_nodes::{Compiled, compile};
 use schema_pattern::{Pattern, Search, searches_of};
@@ -135,6 +135,35 @@ impl Schema {
         Some(self.judged_again(&mut none, instance, path))
     }
 
+    /// The same of an instance that agrees with a valid one off all of these locations: a document may have changed at one
+    /// after another, and only the last is judged, along each of them. Takes no memory.
+    pub fn accepts_changes(&self, instance: &Tree, paths: &[Vec<Step>]) -> Option<bool>
+        ensures { MatchOption result (pattern_texts (view self.now) ≡ [] → ⊥)
+            (λ b. (valid : Doc) → Judges (view self.now) valid true → AgreeOffEach (map (λ p. map place_of p.items) paths.now) valid (view instance.now)
+            → Judges (view self.now) (view instance.now) b) }
+    {
+        if self.has_patterns() {
+            return None;
+        }
+        let mut none: [Search<'_>; 0] = [];
+        Some(self.judged_after(&mut none, instance, paths))
+    }
+
+    /// The same of an instance that agrees with a valid one off the location of these steps, if an element came to the
+    /// end of the location, or went from there, between others: those after it have other indexes, and are judged again
+    /// only if some schema asks something else of them by their place. Takes no memory.
+    pub fn accepts_shift(&self, instance: &Tree, path: &[Step]) -> Option<bool>
+        ensures { MatchOption result (pattern_texts (view self.now) ≡ [] → ⊥)
+            (λ b. (valid : Doc) → Judges (view self.now) valid true → AgreeButShifted (map place_of path.now) valid (view instance.now)
+            → Judges (view self.now) (view instance.now) b) }
+    {
+        if self.has_patterns() {
+            return None;
+        }
+        let mut none: [Search<'_>; 0] = [];
+        Some(self.judged_shifted(&mut none, instance, path))
+    }
+
     /// Whether the instance is valid, with the searches for its patterns.
     pub(crate) fn judged(&self, searches: &mut [Search<'_>], instance: &Tree) -> bool
         requires { sources searches.old ≡ pattern_texts (view self.now) }
@@ -168,6 +197,50 @@ impl Schema {
             searches,
             self.nodes.whole,
             instance,
+            path,
+        )
+    }
+
+    /// The same of an instance that agrees with a valid one off all of these locations.
+    pub(crate) fn judged_after(
+        &self,
+        searches: &mut [Search<'_>],
+        changed: &Tree,
+        paths: &[Vec<Step>],
+    ) -> bool
+        requires { sources searches.old ≡ pattern_texts (view self.now) }
+        ensures judged { (valid : Doc) → Judges (view self.now) valid true → AgreeOffEach (map (λ p. map place_of p.items) paths.now) valid (view changed.now)
+            → Judges (view self.now) (view changed.now) result }
+        ensures same { sources searches.new ≡ sources searches.old }
+    {
+        passes_after(
+            &self.nodes.nodes,
+            &self.nodes.counters,
+            searches,
+            self.nodes.whole,
+            changed,
+            paths,
+        )
+    }
+
+    /// The same if an element came to the end of these steps, or went from there.
+    pub(crate) fn judged_shifted(
+        &self,
+        searches: &mut [Search<'_>],
+        shifted: &Tree,
+        path: &[Step],
+    ) -> bool
+        requires { sources searches.old ≡ pattern_texts (view self.now) }
+        ensures judged { (valid : Doc) → Judges (view self.now) valid true → AgreeButShifted (map place_of path.now) valid (view shifted.now)
+            → Judges (view self.now) (view shifted.now) result }
+        ensures same { sources searches.new ≡ sources searches.old }
+    {
+        passes_shifted(
+            &self.nodes.nodes,
+            &self.nodes.counters,
+            searches,
+            self.nodes.whole,
+            shifted,
             path,
         )
     }

@@ -5,7 +5,7 @@ ghost use Rattle.doc_tree.specs.Doc.{Doc};
 ghost use Rattle.doc_tree.specs.Place.{place_of};
 ghost use Rattle.doc_tree.specs.TreeView.{view};
 ghost use Rattle.doc_schema.specs.Judge.{Judges};
-ghost use Rattle.schema_changes.specs.Agree.{AgreeOff};
+ghost use Rattle.schema_changes.specs.Agree.{AgreeButShifted, AgreeOff, AgreeOffEach};
 ghost use Rattle.schema_pattern.specs.Tables.{sources};
 ghost use Rattle.schema_rules.specs.PatternTexts.{pattern_texts};
 
@@ -38,5 +38,27 @@ impl<'s> Trial<'s> {
         ensures same { self.new.schema ≡ self.old.schema }
     {
         self.schema.judged_again(&mut self.searches, instance, path)
+    }
+
+    /// The same of an instance that agrees with a valid one off all of these locations: a document may have changed at one
+    /// after another, and only the last is judged, along each of them. Takes no memory.
+    pub fn accepts_changes(&mut self, instance: &Tree, paths: &[Vec<Step>]) -> bool
+        ensures judged { (valid : Doc) → Judges (view self.old.schema.now) valid true → AgreeOffEach (map (λ p. map place_of p.items) paths.now) valid (view instance.now)
+            → Judges (view self.old.schema.now) (view instance.now) result }
+        ensures same { self.new.schema ≡ self.old.schema }
+    {
+        self.schema
+            .judged_after(&mut self.searches, instance, paths)
+    }
+
+    /// The same of an instance that agrees with a valid one off the location of these steps, if an element came to the
+    /// end of the location, or went from there, between others. Takes no memory.
+    pub fn accepts_shift(&mut self, instance: &Tree, path: &[Step]) -> bool
+        ensures judged { (valid : Doc) → Judges (view self.old.schema.now) valid true → AgreeButShifted (map place_of path.now) valid (view instance.now)
+            → Judges (view self.old.schema.now) (view instance.now) result }
+        ensures same { self.new.schema ≡ self.old.schema }
+    {
+        self.schema
+            .judged_shifted(&mut self.searches, instance, path)
     }
 }

@@ -1,5 +1,5 @@
 -- Nodes that hold, up to the next one of a set.
-use Rattle.std.proofs.Common.{◌≡◌, ◌⊎◌, inl, inr, ⊎_elim, ℕ, ◌+◌, ◌<◌, ◌≤◌, List, Bool, true, false, Option, Some, length, get_or, sym, ap, subst, ◌∙◌, arith}
+use Rattle.std.proofs.Common.{◌≡◌, ◌⊎◌, ⊎_elim, ℕ, ◌+◌, ◌<◌, ◌≤◌, List, Bool, true, false, Some, length, get_or, sym, ap, subst, ◌∙◌, arith}
 use Rattle.schema_levels.specs.Bits.{bit}
 use Rattle.schema_levels.specs.Nodes.{node_get}
 use Rattle.schema_levels.specs.declared.node.Node.{Node}

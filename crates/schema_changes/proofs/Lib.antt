@@ -8,3 +8,5 @@ pub mod Alone
 pub mod Values
 pub mod Told
 pub mod Holding
+pub mod Chain
+pub mod Shifting

@@ -1,5 +1,5 @@
 -- One value along a change: what must pass it passes exactly where what is judged again does.
-use Rattle.std.proofs.Common.{◌≡◌, ◌≢◌, ℕ, zero, suc, ◌<◌, ◌⊎◌, inl, inr, ⊎_elim, List, [], ◌∷◌, Bool, true, false, ◌&&◌, Option, Some, None, refl, sym, subst, ◌∙◌, if◌then◌else◌, arith}
+use Rattle.std.proofs.Common.{◌≡◌, ℕ, zero, suc, ◌<◌, ⊎_elim, List, [], ◌∷◌, Bool, true, false, ◌&&◌, Option, Some, None, refl, sym, subst, ◌∙◌, if◌then◌else◌, arith}
 use Rattle.doc_tree.specs.Doc.{Doc, text, Place, name, child}
 use Rattle.schema_graph.specs.Walks.{In}
 use Rattle.schema_graph.proofs.Among.{In-left, In-parts, In-right, none_in}
@@ -9,15 +9,14 @@ use Rattle.schema_levels.specs.Closure.{here, rules_at}
 use Rattle.schema_levels.specs.Nodes.{asked_here, node_get, AreOrdered}
 use Rattle.schema_levels.specs.Conclude.{rules_here}
 use Rattle.schema_levels.specs.PlaceInValue.{member_name}
-use Rattle.schema_levels.specs.Table.{Child, child_at, children, IsTable, lower, rules_together, said}
+use Rattle.schema_levels.specs.Table.{Child, children, IsTable, lower, rules_together, said}
 use Rattle.schema_levels.specs.declared.node.Node.{Node}
 use Rattle.schema_levels.specs.declared.node.Rule.{Rule}
 use Rattle.schema_levels.specs.declared.node.Rule.TheVariants.{Says, Asserts, Matches, All, Any, One, Not, Then, Else, Dependent, Refers, Properties, Others, Names, ByPlace, Rest, Contains, AtLeast, AtMost}
 use Rattle.schema_levels.proofs.Tables.{passes_past, rules_at_get, table_at}
-use Rattle.schema_changes.specs.Agree.{AgreeBeside, AgreeOff, AtChild}
-use Rattle.schema_changes.specs.Again.{AllAgain, AllPass, IsSorted, PassBelow, PassedBelow, is_list, must_all_here, must_here, node_again, rules_again, site_of, some_counts}
+use Rattle.schema_changes.specs.Again.{AllAgain, AllPass, HoldsHere, PassBelow, is_list, must_all_here, must_here, node_again, rules_again, site_of, some_counts}
 use Rattle.schema_changes.proofs.Marking.{LeadsIn}
-use Rattle.schema_changes.proofs.Children.{both_true, child_of, children_all, each, left_true, named_of, right_true, same_place}
+use Rattle.schema_changes.proofs.Children.{both_true, child_of, children_all, left_true, named_of, right_true}
 use Rattle.schema_changes.proofs.Rules.{lower_each, rules_again_from, rules_below_from, rules_below_must, rules_here_from, rules_must, together_alone}
 
 pub none_past : (xs : List Node) (i : ℕ) → node_get xs i ≡ None → rules_at xs i ≡ []
@@ -100,33 +99,21 @@ module _ (nodes : List Node) (known : ℕ → Doc → Bool) (table : IsTable nod
         rules_below_must (λ j. known j (text k)) x member_name x.rules.items j (named_of (λ c. rules_below (λ j. known j c.value) x c.place x.rules.items) k d t low (subst (λ q. child q t ≡ Some d) is at)) must);
   }
 
-  -- ---- what passed the old value passes the new one
+  -- ---- what holds again, with children that pass, passes
 
-  module _ (order : AreOrdered nodes) (asked : List ℕ) (old new : Doc) (p : Place) (closed : (i : ℕ) → LeadsIn nodes asked i) (passed : AllPass known asked old) (sorted : IsSorted new)
-      (beside : AgreeBeside p old new) (again : AllAgain (λ j. known j new) (is_list new) new nodes asked) (below : (d : Doc) → child p new ≡ Some d → PassBelow known nodes asked p d) where
+  module _ (order : AreOrdered nodes) (asked : List ℕ) (new : Doc) (closed : (i : ℕ) → LeadsIn nodes asked i) (holds : HoldsHere known nodes asked new) (below : (q : Place) (d : Doc) → child q new ≡ Some d → PassBelow known nodes asked q d) where
     lower_holds : (i : ℕ) (x : Node) → node_get nodes i ≡ Some x → bit asked i ≡ true → lower known x (children new) ≡ true
     lower_holds i x at on =
         lower_each known x x.rules.items (children new)
-        ∙ children_all P new sorted (λ q d found. value q d found (same_place q p)) (λ k d found. named k d found (same_place (name k) p))
+        ∙ children_all P new holds.sorted
+        (λ q d found. rules_below_from (λ j. known j d) x (site_of q) x.rules.items (λ j must. (below q d found).value i j x at on must))
+        (λ k d found. rules_below_from (λ j. known j (text k)) x member_name x.rules.items (λ j must. (below (name k) d found).named k refl i j x at on must))
       where
         P : Child → Bool
         P c = rules_below (λ j. known j c.value) x c.place x.rules.items
 
-        was : each P (children old) ≡ true
-        was = sym (lower_each known x x.rules.items (children old)) ∙ (passes_parts i x old at (passed i on)).0
-
-        value : (q : Place) (d : Doc) → child q new ≡ Some d → (q ≡ p) ⊎ (q ≢ p) → P (child_at (site_of q) d) ≡ true
-        value q d found (inl e) = subst (λ r. P (child_at (site_of r) d) ≡ true) (sym e)
-            (rules_below_from (λ j. known j d) x (site_of p) x.rules.items (λ j must. (below d (subst (λ r. child r new ≡ Some d) e found)).value i j x at on must))
-        value q d found (inr ne) = child_of P q d old was (beside q ne ∙ found)
-
-        named : (k : List ℕ) (d : Doc) → child (name k) new ≡ Some d → (name k ≡ p) ⊎ (name k ≢ p) → P (child_at member_name (text k)) ≡ true
-        named k d found (inl e) =
-            rules_below_from (λ j. known j (text k)) x member_name x.rules.items (λ j must. (below d (subst (λ r. child r new ≡ Some d) e found)).named k (sym e) i j x at on must)
-        named k d found (inr ne) = named_of P k d old was (beside (name k) ne ∙ found)
-
     node_holds : (i : ℕ) (x : Node) → node_get nodes i ≡ Some x → bit asked i ≡ true → ((j : ℕ) → j < i → bit asked j ≡ true → known j new ≡ true) → known i new ≡ true
-    node_holds i x at on before = by_counts (is_list new && some_counts x.rules.items) refl (again i x at on)
+    node_holds i x at on before = by_counts (is_list new && some_counts x.rules.items) refl (holds.again i x at on)
       where
         musts : (j : ℕ) → In j (must_all_here x.rules.items) → known j new ≡ true
         musts j must = before j (order.falls i j x at (must_asked x.rules.items j must)) (closed i on j (subst (λ rs. In j (must_all_here rs)) (sym (rules_at_get nodes i x at)) must))
@@ -146,19 +133,3 @@ module _ (nodes : List Node) (known : ℕ → Doc → Bool) (table : IsTable nod
     -- all that must pass the new value do
     pub all_hold : AllPass known asked new
     all_hold i on = below_holds (suc i) i (omega arith) on
-
--- ---- along the location
-
-module _ (nodes : List Node) (known : ℕ → Doc → Bool) (table : IsTable nodes known) (asked : List ℕ) (p : Place) (ps : List Place) where
-  -- the child before the change, if there was one
-  child_before : (old : Doc) (o : Option Doc) (d : Doc) → AllPass known asked old → child p old ≡ o → AtChild ps (AgreeOff ps) o (Some d) → PassedBelow known nodes asked p ps d
-  child_before old None d all at agree = inl agree
-  child_before old (Some e) d all at agree = inr (e, pass_below nodes known table asked old p e all at, agree)
-
-  -- a value holds where its parts along the location do
-  pub holds_along : (order : AreOrdered nodes) (new : Doc) → ((i : ℕ) → LeadsIn nodes asked i) → IsSorted new → AllAgain (λ j. known j new) (is_list new) new nodes asked
-      → ((d : Doc) → child p new ≡ Some d → PassedBelow known nodes asked p ps d → PassBelow known nodes asked p d) → (old : Doc) → AllPass known asked old → AgreeOff (p ∷ ps) old new → AllPass known asked new
-  holds_along order new closed sorted again below old all (inl same) = subst (AllPass known asked) same all
-  holds_along order new closed sorted again below old all (inr agree) =
-      all_hold nodes known table order asked old new p closed all sorted agree.1 again
-      (λ d at. below d at (child_before old (child p old) d all refl (subst (λ o. AtChild ps (AgreeOff ps) (child p old) o) at agree.2)))

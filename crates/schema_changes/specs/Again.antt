@@ -1,11 +1,11 @@
 -- The second judgement of a value that certain nodes must pass: the rules that rest on what may have changed.
-use Rattle.std.specs.Prelude.{◌≡◌, ◌⊎◌, ⊤, ℕ, zero, suc, List, [], ◌∷◌, ◌++◌, Bool, true, false, ◌&&◌, ◌||◌, Option, Some, None, if◌then◌else◌}
+use Rattle.std.specs.Prelude.{◌≡◌, ◌⊎◌, ⊤, ℕ, zero, suc, List, [], ◌∷◌, ◌++◌, length, replicate, Bool, true, false, nat_le, ◌&&◌, ◌||◌, Option, Some, None, if◌then◌else◌}
 use Rattle.std.specs.Option.{option_to_list}
-use Rattle.doc_tree.specs.Doc.{Doc, text, list, object, Members, no_members, member, Place, name, index}
+use Rattle.doc_tree.specs.Doc.{Doc, text, list, object, Members, no_members, member, Place, name, index, child}
 use Rattle.doc_tree.specs.Sound.{IsBefore}
 use Rattle.schema_graph.specs.Walks.{In}
 use Rattle.schema_levels.specs.Below.{below}
-use Rattle.schema_levels.specs.Bits.{bit, mark_all}
+use Rattle.schema_levels.specs.Bits.{bit, mark_all, put}
 use Rattle.schema_levels.specs.Closure.{rules_at}
 use Rattle.schema_levels.specs.Nodes.{node_get}
 use Rattle.schema_levels.specs.Conclude.{rule_here}
@@ -14,8 +14,8 @@ use Rattle.schema_levels.specs.PlaceInValue.{PlaceInValue}
 use Rattle.schema_levels.specs.EachInSet.{walk}
 use Rattle.schema_levels.specs.declared.node.Node.{Node}
 use Rattle.schema_levels.specs.declared.node.Rule.{Rule}
-use Rattle.schema_levels.specs.declared.node.Rule.TheVariants.{All, Any, One, Not, Then, Else, Dependent, Refers, Contains, AtLeast, AtMost}
-use Rattle.schema_changes.specs.Agree.{AgreeOff}
+use Rattle.schema_levels.specs.declared.node.Rule.TheVariants.{All, Any, One, Not, Then, Else, Dependent, Refers, ByPlace, Rest, Contains, AtLeast, AtMost}
+use Rattle.schema_changes.specs.Agree.{AgreeButShifted, AgreeOff, AgreeOffEach}
 
 -- ---- what must hold
 
@@ -160,14 +160,77 @@ pub record PassBelow (known : ℕ → Doc → Bool) (nodes : List Node) (asked :
   pub value : ValuePasses known nodes asked (site_of p) d
   pub named : NamePasses known nodes asked p
 
--- what a value was before it changed at the location passed; a value that changed itself may be new
-abbrev pub PassedBefore : (ℕ → Doc → Bool) → List ℕ → List Place → Doc → Type 0
-PassedBefore known asked ps t = (ps ≡ []) ⊎ ((old : Doc) × AllPass known asked old × AgreeOff ps old t)
+-- what must hold again at a value that changed below it
+pub record HoldsHere (known : ℕ → Doc → Bool) (nodes : List Node) (asked : List ℕ) (t : Doc) : Type 0 where
+  pub sorted : IsSorted t
+  pub again : AllAgain (λ j. known j t) (is_list t) t nodes asked
 
--- the same of a child at that place
-abbrev pub PassedBelow : (ℕ → Doc → Bool) → List Node → List ℕ → Place → List Place → Doc → Type 0
-PassedBelow known nodes asked p ps d = (ps ≡ []) ⊎ ((old : Doc) × PassBelow known nodes asked p old × AgreeOff ps old d)
+-- the nodes that must pass a value: those of the set, and those that must because they do
+abbrev pub closed : List Node → List ℕ → List ℕ
+closed nodes asked = close_must nodes (length nodes) asked
+
+-- the nodes that must pass the child at that place if those of the set pass the value
+abbrev pub asked_at : List Node → List ℕ → Place → List ℕ
+asked_at nodes asked p = collect_must asked (site_of p) 0 nodes (replicate (length asked) 0)
+
+-- what must hold again of a value that changed at the location: at itself, and at each value on the way there
+abbrev pub HoldsAlong : (ℕ → Doc → Bool) → List Node → List ℕ → List Place → Doc → Type 0
+HoldsAlong known nodes asked [] t = AllPass known asked t
+HoldsAlong known nodes asked (p ∷ ps) t =
+    HoldsHere known nodes (closed nodes asked) t
+    × ((d : Doc) → child p t ≡ Some d → NamePasses known nodes (closed nodes asked) p × HoldsAlong known nodes (asked_at nodes (closed nodes asked) p) ps d)
+
+-- the rule asks the same of each element from that index on
+abbrev pub is_steady : ℕ → Node → Rule → Bool
+is_steady n x (ByPlace v) = nat_le (length v.items) n
+is_steady n x (Rest j) = nat_le x.prefix n
+is_steady n x _ = true
+
+abbrev pub all_steady : ℕ → Node → List Rule → Bool
+all_steady n x [] = true
+all_steady n x (r ∷ rs) = is_steady n x r && all_steady n x rs
+
+-- each node in the set does
+abbrev pub AreSteady : ℕ → List Node → List ℕ → Type 0
+AreSteady n nodes asked = (i : ℕ) (x : Node) → node_get nodes i ≡ Some x → bit asked i ≡ true → all_steady n x x.rules.items ≡ true
+
+-- if the location ends here at an element that may have moved others
+abbrev pub IsSteadyAt : Bool → Place → List Place → List Node → List ℕ → Type 0
+IsSteadyAt false p ps nodes asked = ⊤
+IsSteadyAt true (index n) [] nodes asked = AreSteady n nodes asked
+IsSteadyAt true (name k) [] nodes asked = ⊥
+IsSteadyAt true p (q ∷ ps) nodes asked = ⊤
+
+-- the same as along a location, if an element came to its end, or went from there: those after it are asked the same as before, or
+-- the list is judged whole
+abbrev pub HoldsShifted : (ℕ → Doc → Bool) → List Node → List ℕ → List Place → Doc → Type 0
+HoldsShifted known nodes asked [] t = AllPass known asked t
+HoldsShifted known nodes asked (p ∷ []) t = AllPass known asked t ⊎ (IsSteadyAt true p [] nodes (closed nodes asked) × HoldsAlong known nodes asked (p ∷ []) t)
+HoldsShifted known nodes asked (p ∷ q ∷ ps) t =
+    HoldsHere known nodes (closed nodes asked) t
+    × ((d : Doc) → child p t ≡ Some d → NamePasses known nodes (closed nodes asked) p × HoldsShifted known nodes (asked_at nodes (closed nodes asked) p) (q ∷ ps) d)
+
+abbrev pub HoldsBy : Bool → (ℕ → Doc → Bool) → List Node → List ℕ → List Place → Doc → Type 0
+HoldsBy false known nodes asked ps t = HoldsAlong known nodes asked ps t
+HoldsBy true known nodes asked ps t = HoldsShifted known nodes asked ps t
+
+-- the set of one number, in that many words
+abbrev pub only : ℕ → ℕ → List ℕ
+only words n = put (replicate words 0) n true
+
+-- if true, what must hold along the location does; and it is true if the node passes
+pub record TellsBy (shifts : Bool) (known : ℕ → Doc → Bool) (nodes : List Node) (words n : ℕ) (ps : List Place) (t : Doc) (b : Bool) : Type 0 where
+  pub holds : b ≡ true → HoldsBy shifts known nodes (only words n) ps t
+  pub all : known n t ≡ true → b ≡ true
 
 -- the result is whether the node passes, if it passed a value that agrees with this one off the location
 abbrev pub IsPassedAgain : (ℕ → Doc → Bool) → ℕ → List Place → Doc → Bool → Type 0
 IsPassedAgain known n ps t b = (old : Doc) → known n old ≡ true → AgreeOff ps old t → b ≡ known n t
+
+-- the same of one that agrees with it off all of these locations
+abbrev pub IsPassedAfter : (ℕ → Doc → Bool) → ℕ → List (List Place) → Doc → Bool → Type 0
+IsPassedAfter known n pss t b = (old : Doc) → known n old ≡ true → AgreeOffEach pss old t → b ≡ known n t
+
+-- the same of one in which an element came to the end of the location, or went from there
+abbrev pub IsPassedShifted : (ℕ → Doc → Bool) → ℕ → List Place → Doc → Bool → Type 0
+IsPassedShifted known n ps t b = (old : Doc) → known n old ≡ true → AgreeButShifted ps old t → b ≡ known n t

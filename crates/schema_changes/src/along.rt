@@ -8,11 +8,12 @@ ghost use Rattle.schema_levels.specs.Nodes.{AreOrdered};
 ghost use Rattle.schema_levels.specs.Searched.{AreSearched};
 ghost use Rattle.schema_levels.specs.Table.{IsTable};
 ghost use Rattle.schema_pattern.specs.Tables.{sources};
-ghost use Rattle.schema_changes.specs.Again.{AllPass, NamePasses, PassBelow, PassedBefore, PassedBelow, Tells};
+ghost use Rattle.schema_changes.specs.Again.{AllPass, HoldsBy, NamePasses, PassBelow, Tells, asked_at};
 
 use crate::again::all_hold;
 use crate::must::{close, collect};
 use crate::places::{child, open_members, spot_of};
+use crate::steady::moves_others;
 use crate::whole::all_pass;
 use doc_tree::{Step, Tree};
 use schema_levels::bits::fill;
@@ -20,8 +21,8 @@ use schema_levels::{ChildPlace, Counters, Node};
 use schema_pattern::Search;
 use schema_rules::Instance;
 
-/// Whether the value passes each node of the set, if it did before it changed at the location. All sets are written
-/// over.
+/// Whether what must hold again along the location does, if the nodes of the set must pass the value. All sets are
+/// written over. If `shifts`, an element came to the location's end, or went from there, between others.
 #[cycle(along)]
 pub(crate) fn along(
     nodes: &[Node],
@@ -29,6 +30,7 @@ pub(crate) fn along(
     searches: &mut [Search<'_>],
     value: &Tree,
     path: &[Step],
+    shifts: bool,
     asked: &mut [u64],
     below: &mut [u64],
     judging: &mut [u64],
@@ -43,8 +45,7 @@ pub(crate) fn along(
     requires below_len { length below.old ≡ length asked.old }
     requires judging_len { length judging.old ≡ length asked.old }
     requires passed_len { length passed.old ≡ length asked.old }
-    ensures sound { result ≡ true → (known : ℕ → Doc → Bool) → IsTable nodes.now known
-        → PassedBefore known asked.old (map place_of path.now) (view value.now) → AllPass known asked.old (view value.now) }
+    ensures sound { result ≡ true → (known : ℕ → Doc → Bool) → IsTable nodes.now known → HoldsBy shifts known nodes.now asked.old (map place_of path.now) (view value.now) }
     ensures complete { (known : ℕ → Doc → Bool) → IsTable nodes.now known → AllPass known asked.old (view value.now) → result ≡ true }
     ensures same { sources searches.new ≡ sources searches.old }
 {
@@ -61,6 +62,18 @@ pub(crate) fn along(
         ),
         Some((step, rest)) => {
             close(nodes, asked);
+            if moves_others(nodes, asked, step, rest, shifts) {
+                return all_pass(
+                    nodes,
+                    counters,
+                    searches,
+                    Instance::Value(value),
+                    asked,
+                    judging,
+                    passed,
+                    free,
+                );
+            }
             open_members(value);
             all_hold(
                 nodes, counters, searches, value, asked, judging, passed, free,
@@ -71,6 +84,7 @@ pub(crate) fn along(
                 child(value, step),
                 step,
                 rest,
+                shifts,
                 asked,
                 below,
                 judging,
@@ -81,7 +95,7 @@ pub(crate) fn along(
     }
 }
 
-// Whether the child to which the step leads, if there is one, passes what it must.
+// Whether what must hold of the child to which the step leads, if there is one, and along the rest, does.
 #[cycle(along)]
 fn child_passes(
     nodes: &[Node],
@@ -90,6 +104,7 @@ fn child_passes(
     found: Option<&Tree>,
     step: &Step,
     rest: &[Step],
+    shifts: bool,
     asked: &mut [u64],
     below: &mut [u64],
     judging: &mut [u64],
@@ -105,7 +120,7 @@ fn child_passes(
     requires judging_len { length judging.old ≡ length asked.old }
     requires passed_len { length passed.old ≡ length asked.old }
     ensures sound { result ≡ true → (known : ℕ → Doc → Bool) → IsTable nodes.now known → (d : Doc) → option_map (λ t. view t.now) found.entry ≡ Some d
-        → PassedBelow known nodes.now asked.old (place_of step.now) (map place_of rest.now) d → PassBelow known nodes.now asked.old (place_of step.now) d }
+        → NamePasses known nodes.now asked.old (place_of step.now) × HoldsBy shifts known nodes.now (asked_at nodes.now asked.old (place_of step.now)) (map place_of rest.now) d }
     ensures complete { (known : ℕ → Doc → Bool) → IsTable nodes.now known
         → ((d : Doc) → option_map (λ t. view t.now) found.entry ≡ Some d → PassBelow known nodes.now asked.old (place_of step.now) d) → result ≡ true }
     ensures same { sources searches.new ≡ sources searches.old }
@@ -121,7 +136,7 @@ fn child_passes(
             fill(below, 0);
             collect(nodes, asked, spot_of(step), below);
             along(
-                nodes, counters, searches, value, rest, below, asked, judging, passed, free,
+                nodes, counters, searches, value, rest, shifts, below, asked, judging, passed, free,
             )
         }
     }

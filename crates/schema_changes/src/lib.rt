@@ -1,6 +1,6 @@
 //! Judging again what changed, by numbered nodes.
 //!
-//! If a document passed and another agrees with it off one location, only the values along that location are judged
+//! If a document passed and another agrees with it off one location, or several, only the values along them are judged
 //! again: what must hold of each other value still holds. Rules that join the answers of other nodes at a value, as
 //! those of `anyOf` and `not`, are judged there as far as they reach.
 #![tactic(auto)]
@@ -10,7 +10,8 @@ mod along;
 mod must;
 mod places;
 mod run;
+mod steady;
 mod whole;
 
 pub use places::child;
-pub use run::passes_again;
+pub use run::{passes_after, passes_again, passes_shifted};

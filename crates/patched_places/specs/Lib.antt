@@ -1,0 +1,5 @@
+pub mod Along
+pub mod Apart
+pub mod Moved
+pub mod Shift
+pub mod Changed
