@@ -126,11 +126,11 @@ enum jpstore_refusal {
     JPSTORE_REFUSAL_PATCH_LONG = 36,        /* the patch has over 4,096 operations or 2,097,152 bytes, or nests too deep */
     JPSTORE_REFUSAL_NO_VALUE = 37,          /* the document has no value at this place */
     JPSTORE_REFUSAL_POINTER = 38,           /* the place is no JSON Pointer */
-    JPSTORE_REFUSAL_SCHEMA_FORM = 40,       /* a schema is neither a boolean nor an object, or a keyword has a wrong form */
+    JPSTORE_REFUSAL_SCHEMA_FORM = 40,       /* a schema is no boolean or object, a keyword has a wrong form, a pattern is none */
     JPSTORE_REFUSAL_SCHEMA_KEYWORD = 41,    /* a keyword of the schema isn't supported */
     JPSTORE_REFUSAL_SCHEMA_REF = 42,        /* a $ref leads nowhere */
     JPSTORE_REFUSAL_SCHEMA_LOOP = 43,       /* the schema leads back to itself at the same value */
-    JPSTORE_REFUSAL_SCHEMA_SIZE = 44,       /* the schema has over 262,144 bytes, or nests too deep */
+    JPSTORE_REFUSAL_SCHEMA_SIZE = 44,       /* the schema has over 262,144 bytes or 64 patterns, nests too deep */
     JPSTORE_REFUSAL_INVALID = 45,           /* the document would not be valid under its schema */
     JPSTORE_REFUSAL_PATH = 50,              /* the query is no JSONPath */
     JPSTORE_REFUSAL_PATH_LEFT_OUT = 51,     /* the query has match, search, or another number than a 64-bit whole one */
@@ -140,14 +140,15 @@ enum jpstore_refusal {
     JPSTORE_REFUSAL_FULL = 60,              /* the store has no room for the change */
     JPSTORE_REFUSAL_DEVICE = 61,            /* the disk failed during the change */
     JPSTORE_REFUSAL_BROKEN = 62,            /* the disk has failed before */
-    JPSTORE_REFUSAL_MEMORY = 63,            /* out of memory for this; it may be tried again */
+    JPSTORE_REFUSAL_MEMORY = 63,            /* out of memory for this, or for the schema's patterns */
     JPSTORE_REFUSAL_SEQ_END = 64,           /* the count of changes is at its end */
     JPSTORE_REFUSAL_TRANSACTION_LARGE = 65, /* a transaction copies over 33,554,432 bytes */
     JPSTORE_REFUSAL_ALREADY_A_STORE = 70,   /* (only programs in Rattle are told this) */
     JPSTORE_REFUSAL_SMALL = 71,             /* (only programs in Rattle are told this) */
     JPSTORE_REFUSAL_NOT_A_STORE = 72,       /* the file is no store */
     JPSTORE_REFUSAL_DAMAGED = 73,           /* the file is a damaged store */
-    JPSTORE_REFUSAL_NO_ROOM = 74            /* the documents don't fit in the new file, or in format 2 */
+    JPSTORE_REFUSAL_NO_ROOM = 74,           /* the documents don't fit in the new file, or in format 2 */
+    JPSTORE_REFUSAL_NEWER_SCHEMA = 76       /* a document's schema is none of format 2 */
 };
 
 /* Why a call wasn't done. A call sets all of it. */
@@ -222,11 +223,12 @@ int jpstore_check(const char *path, jpstore_state *state, jpstore_cause *cause);
  * path.
  *
  * Answers: *state, the copy's.
- * Faults: as jpstore_format; a new file is removed then. JPSTORE_REFUSED with JPSTORE_REFUSAL_NO_ROOM: the documents don't fit. */
+ * Faults: as jpstore_format; a new file is removed then. JPSTORE_REFUSED with JPSTORE_REFUSAL_NO_ROOM: the documents don't fit;
+ *     with JPSTORE_REFUSAL_NEWER_SCHEMA: a schema is none of format 2. */
 int jpstore_copy(const char *path, const char *new_path, uint64_t sectors, jpstore_state *state, jpstore_cause *cause);
 
-/* Brings the store in the file at path to this format, 2 or 3; 0 is 3. It counts as an opening, needs no room, and loses
- * nothing if it is stopped.
+/* Brings the store in the file at path to this format, 2 or 3; 0 is 3. It counts as an opening, and loses nothing if it is
+ * stopped. Format 2 is made by a snapshot.
  *
  * Answers: *before, the format that it had.
  * Faults: as jpstore_open. */

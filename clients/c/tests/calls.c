@@ -99,6 +99,41 @@ static void formats(const char *file)
     CHECK(stat(file, &made) == 0 && made.st_size == 65536 * 512 && made.st_blocks < 6553);
 }
 
+/* What a creation under a schema is refused by, in a new file of a format; 0 if it isn't. */
+static int refusal_in(const char *file, uint64_t format, const char *schema)
+{
+    jpstore *store;
+    jpstore_cause cause = {0};
+    remove(file);
+    CHECK(jpstore_format(file, 64, &(jpstore_format_options){.format = format}, NULL, NULL) == JPSTORE_OK);
+    CHECK(jpstore_open(file, NULL, &store, NULL) == JPSTORE_OK);
+    const int fault = jpstore_create(store, "d", "\"a\"", schema, NULL, &cause);
+    CHECK(fault == (cause.refusal ? JPSTORE_REFUSED : JPSTORE_OK));
+    jpstore_free(store);
+    return cause.refusal;
+}
+
+/* The keywords that format 3 alone reads, and that a store with one stays in it. */
+static void profiles(const char *file)
+{
+    static char long_pattern[4200] = "{\"pattern\":\"";
+    memset(long_pattern + strlen(long_pattern), 'a', 4097);
+    strcat(long_pattern, "\"}");
+    CHECK(refusal_in(file, 2, "{\"pattern\":\"^a\"}") == JPSTORE_REFUSAL_SCHEMA_KEYWORD);
+    CHECK(refusal_in(file, 3, "{\"pattern\":\"(\"}") == JPSTORE_REFUSAL_SCHEMA_FORM);
+    CHECK(refusal_in(file, 3, long_pattern) == JPSTORE_REFUSAL_SCHEMA_SIZE);
+    CHECK(refusal_in(file, 3, "{\"pattern\":\"((a{100}){100}){100}\"}") == JPSTORE_REFUSAL_MEMORY);
+    CHECK(refusal_in(file, 3, "{\"pattern\":\"b\"}") == JPSTORE_REFUSAL_INVALID);
+    CHECK(refusal_in(file, 3, "{\"patternProperties\":{}}") == JPSTORE_REFUSAL_SCHEMA_KEYWORD);
+    CHECK(refusal_in(file, 3, "{\"pattern\":\"^a\",\"dependentSchemas\":{\"b\":false}}") == 0);
+    jpstore_cause cause = {0};
+    char copy[4096];
+    snprintf(copy, sizeof copy, "%s-copy", file);
+    CHECK(jpstore_upgrade(file, 2, NULL, &cause) == JPSTORE_REFUSED && cause.refusal == JPSTORE_REFUSAL_NEWER_SCHEMA);
+    CHECK(jpstore_copy(file, copy, 128, NULL, &cause) == JPSTORE_REFUSED && cause.refusal == JPSTORE_REFUSAL_NEWER_SCHEMA);
+    CHECK(access(copy, F_OK) != 0);
+}
+
 /* The permission bits that a new file gets under an umask. */
 static mode_t made_with(const char *file, uint64_t mode, mode_t mask)
 {
@@ -334,6 +369,7 @@ int main(int count, char **words)
     batches(file);
     statuses(file);
     formats(file);
+    profiles(file);
     modes(file);
     large_transactions(file);
     copies(folder, file);

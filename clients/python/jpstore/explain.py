@@ -2,9 +2,10 @@
 import copy
 import itertools
 from dataclasses import dataclass
-from typing import Any, Callable, Dict, Iterable, List, Optional, Sequence, Tuple
+from typing import Any, Callable, Dict, Iterable, Iterator, List, Optional, Sequence, Tuple
 
 from .errors import Invalid, JpstoreError
+from .patterns import finds
 from .wire.values import escaped
 
 __all__ = ["Fault", "explain", "faults_of", "first_reason"]
@@ -42,16 +43,32 @@ def explain(doc: Any, schema: Any, most: Optional[int] = None) -> List[Fault]:
 
     `most` is the greatest number of faults: those that are found first.
     """
-    try:
-        from jsonschema import Draft202012Validator
-    except ImportError:
-        raise JpstoreError(_HOW_TO_GET) from None
-    errors = itertools.islice(Draft202012Validator(schema).iter_errors(doc), most)
+    validator = _validator()
+    if isinstance(schema, dict):
+        # A schema that names its dialect is judged by the library's own meaning of patterns.
+        schema = {word: value for word, value in schema.items() if word != "$schema"}
+    errors = itertools.islice(validator(schema).iter_errors(doc), most)
     try:
         return sorted((_fault(error, schema) for error in errors), key=lambda fault: fault.place)
     except Exception as error:
         # Which errors these are differs by the version of the library.
         raise JpstoreError(f"jsonschema cannot judge the document: {error}") from error
+
+
+def _validator() -> Any:
+    """The library's validator, to which patterns mean what they mean in the store."""
+    try:
+        from jsonschema import Draft202012Validator, validators
+    except ImportError:
+        raise JpstoreError(_HOW_TO_GET) from None
+    return validators.extend(Draft202012Validator, {"pattern": _pattern})
+
+
+def _pattern(validator: Any, pattern: Any, doc: Any, _schema: Any) -> Iterator[Any]:
+    from jsonschema import ValidationError
+    # What can't be said here is left to the store.
+    if isinstance(doc, str) and finds(pattern, doc) is False:
+        yield ValidationError(f"{doc!r} does not match {pattern!r}")
 
 
 def faults_of(command: Dict[str, Any], read: _Read, most: Optional[int] = None,

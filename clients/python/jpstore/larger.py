@@ -51,7 +51,7 @@ class Larger:
         # A buffer of its own: one that is left from an earlier time has what the file no longer says.
         with accessing(self._file), open(os.dup(self._old.fileno()), "rb") as old:
             found = committed_in(old)
-            self._format = int.from_bytes(found.sector[8:12], "big")
+            self._format = found.version
             with contextlib.suppress(FileNotFoundError):
                 os.unlink(self._base)
             with create_private(self._base) as made:

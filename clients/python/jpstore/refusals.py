@@ -2,6 +2,7 @@
 
 `docs/use/PROTOCOL.md` shows the same texts; `python -m jpstore.refusals` prints its table of refusals.
 """
+import json
 from dataclasses import dataclass
 from typing import Any, Dict, Mapping, Optional
 
@@ -86,21 +87,23 @@ _ROWS = [
             "the path is not a JSON Pointer",
             "begin it with `/`, or leave it empty for the whole document; write `~` as `~0` and `/` in a name as `~1`"),
     Refusal(40, "schema-form",
-            "a schema is neither a boolean nor an object, or a keyword's value has a wrong form",
-            "compare the schema with JSON Schema Validation 2020-12, section 6"),
+            "a schema is neither a boolean nor an object, a keyword's value has a wrong form, or a `pattern` is none",
+            "compare the schema with JSON Schema Validation 2020-12, section 6, and a `pattern` with "
+            "`docs/use/MODELLING.md`"),
     Refusal(41, "schema-keyword",
-            "the schema has a keyword that is not supported, such as `pattern` or `dependentSchemas`, has `$id` or "
-            "`$schema` below its root, or names another dialect",
-            "leave the keyword out, or use supported ones"),
+            "the schema has a keyword that is not supported (in format 2 also `pattern` and `dependentSchemas`), has "
+            "`$id` or `$schema` below its root, or names another dialect",
+            "leave the keyword out, or use supported ones; `jpstore upgrade FILE` makes format 3"),
     Refusal(42, "schema-ref",
             "a `$ref` is neither `#` nor `#/$defs/NAME` with a NAME that the root's `$defs` has",
             "define the schema under `$defs` of the root"),
     Refusal(43, "schema-loop",
-            "by `$ref`, `allOf`, `anyOf`, `oneOf`, `not`, `if`, `then` and `else` a schema leads back to itself "
-            "without a step into the value",
+            "by `$ref`, `allOf`, `anyOf`, `oneOf`, `not`, `if`, `then`, `else` and `dependentSchemas` a schema leads "
+            "back to itself without a step into the value",
             "put `properties` or `items` between"),
     Refusal(44, "schema-size",
-            "the schema's compact text has over 262,144 bytes, or it nests deeper than 64 levels",
+            "the schema's compact text has over 262,144 bytes, it nests deeper than 64 levels, or it has over 64 "
+            "patterns, or one of over 4,096 bytes",
             "make the schema smaller, for instance by `$defs` and `$ref`"),
     Refusal(45, "invalid",
             "the document, as the change would leave it, is not valid under its schema",
@@ -135,8 +138,9 @@ _ROWS = [
             "the last change that was answered as done",
             _OPEN_AGAIN),
     Refusal(63, "memory",
-            "the program ran out of memory for this line or its batch; nothing was changed",
-            "send the line again; a smaller document or query needs less"),
+            "the program ran out of memory for this line or its batch, or a schema's patterns take too much; nothing "
+            "was changed",
+            "send the line again; a smaller document, query or pattern needs less"),
     Refusal(64, "seq-end",
             "the count of accepted changes is at its end (2^64-1)",
             "go on reading; for more changes `dump` it, and `load` the dump into a new store"),
@@ -164,10 +168,13 @@ _ROWS = [
             "file of format 1 in format 2, said when it is opened; nothing was written",
             "copy it to a larger file; one of format 1: dump it with the earlier program that wrote it, make a larger "
             "store by `format`, and load the dump"),
+    Refusal(76, "newer-schema",
+            "a schema has a keyword that format 2 lacks; said by `upgrade` and `copy`",
+            "change the schema, or stay in format 3"),
 ]
 
 # Those whose advice depends on the command.
-_PATCH_MISSING, _PATCH_ROOT, _SCHEMA_KEYWORD = 32, 35, 41
+_PATCH_MISSING, _PATCH_ROOT, _SCHEMA_KEYWORD, _MEMORY = 32, 35, 41, 63
 
 #: The dialect that a schema may name.
 DIALECT = "https://json-schema.org/draft/2020-12/schema"
@@ -230,6 +237,9 @@ def advice_for(number: int, command: Mapping[str, Any], operation: Optional[int]
     schema = command.get("schema")
     if number == _SCHEMA_KEYWORD and isinstance(schema, dict) and schema.get("$schema") not in (None, DIALECT):
         return "`jpstore-cli schema adapt FILE` makes a schema of it that the store reads"
+    if number == _MEMORY and '"pattern"' in json.dumps(schema, default=str):
+        return ("send the line again; if it is the schema's patterns, bound lengths by `maxLength` in place of large "
+                "counts, and name classes of fewer characters than `\\p{L}` has")
     return ""
 
 

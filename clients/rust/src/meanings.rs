@@ -1,7 +1,7 @@
 //! What each refusal means, and what to do about it: the table of `docs/use/PROTOCOL.md`, with which a test compares it.
 
 /// The number, the meaning and the advice of each refusal.
-pub(crate) const ROWS: [(u16, &str, &str); 42] = [
+pub(crate) const ROWS: [(u16, &str, &str); 43] = [
     (
         10,
         "the line has over 1,048,576 bytes",
@@ -107,14 +107,16 @@ pub(crate) const ROWS: [(u16, &str, &str); 42] = [
     ),
     (
         40,
-        "a schema is neither a boolean nor an object, or a keyword's value has a wrong form",
-        "compare the schema with JSON Schema Validation 2020-12, section 6",
+        "a schema is neither a boolean nor an object, a keyword's value has a wrong form, or a \
+         `pattern` is none",
+        "compare the schema with JSON Schema Validation 2020-12, section 6, and a `pattern` \
+         with `docs/use/MODELLING.md`",
     ),
     (
         41,
-        "the schema has a keyword that is not supported, such as `pattern` or \
-         `dependentSchemas`, has `$id` or `$schema` below its root, or names another dialect",
-        "leave the keyword out, or use supported ones",
+        "the schema has a keyword that is not supported (in format 2 also `pattern` and \
+         `dependentSchemas`), has `$id` or `$schema` below its root, or names another dialect",
+        "leave the keyword out, or use supported ones; `jpstore upgrade FILE` makes format 3",
     ),
     (
         42,
@@ -123,13 +125,14 @@ pub(crate) const ROWS: [(u16, &str, &str); 42] = [
     ),
     (
         43,
-        "by `$ref`, `allOf`, `anyOf`, `oneOf`, `not`, `if`, `then` and `else` a schema leads \
-         back to itself without a step into the value",
+        "by `$ref`, `allOf`, `anyOf`, `oneOf`, `not`, `if`, `then`, `else` and \
+         `dependentSchemas` a schema leads back to itself without a step into the value",
         "put `properties` or `items` between",
     ),
     (
         44,
-        "the schema's compact text has over 262,144 bytes, or it nests deeper than 64 levels",
+        "the schema's compact text has over 262,144 bytes, it nests deeper than 64 levels, or \
+         it has over 64 patterns, or one of over 4,096 bytes",
         "make the schema smaller, for instance by `$defs` and `$ref`",
     ),
     (
@@ -188,8 +191,9 @@ pub(crate) const ROWS: [(u16, &str, &str); 42] = [
     ),
     (
         63,
-        "the program ran out of memory for this line or its batch; nothing was changed",
-        "send the line again; a smaller document or query needs less",
+        "the program ran out of memory for this line or its batch, or a schema's patterns take \
+         too much; nothing was changed",
+        "send the line again; a smaller document, query or pattern needs less",
     ),
     (
         64,
@@ -198,8 +202,8 @@ pub(crate) const ROWS: [(u16, &str, &str); 42] = [
     ),
     (
         65,
-        "what a transaction copies, and the documents that it puts under other schemas, have over \
-         33,554,432 bytes of text",
+        "what a transaction copies, and the documents that it puts under other schemas, have \
+         over 33,554,432 bytes of text",
         "divide it",
     ),
     (
@@ -233,5 +237,10 @@ pub(crate) const ROWS: [(u16, &str, &str); 42] = [
          written",
         "copy it to a larger file; one of format 1: dump it with the earlier program that wrote \
          it, make a larger store by `format`, and load the dump",
+    ),
+    (
+        76,
+        "a schema has a keyword that format 2 lacks; said by `upgrade` and `copy`",
+        "change the schema, or stay in format 3",
     ),
 ];

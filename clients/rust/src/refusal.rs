@@ -106,7 +106,7 @@ pub enum Reason {
     NoValue = 37,
     /// The place is no JSON Pointer.
     Pointer = 38,
-    /// A schema is neither a boolean nor an object, or a keyword has a wrong form.
+    /// A schema is neither a boolean nor an object, a keyword has a wrong form, or a `pattern` is none.
     SchemaForm = 40,
     /// A keyword of the schema isn't supported.
     SchemaKeyword = 41,
@@ -114,7 +114,7 @@ pub enum Reason {
     SchemaRef = 42,
     /// The schema leads back to itself at the same value.
     SchemaLoop = 43,
-    /// The schema has over 262,144 bytes, or nests too deep.
+    /// The schema has over 262,144 bytes or 64 patterns, a pattern over 4,096 bytes, or it nests too deep.
     SchemaSize = 44,
     /// The document would not be valid under its schema.
     Invalid = 45,
@@ -134,7 +134,7 @@ pub enum Reason {
     Device = 61,
     /// The disk has failed before. Questions are answered; open the store again for changes.
     Broken = 62,
-    /// Out of memory for this; it may be tried again.
+    /// Out of memory for this, or the schema's patterns take too much of it; it may be tried again.
     Memory = 63,
     /// The count of changes is at its end.
     SeqEnd = 64,
@@ -150,9 +150,11 @@ pub enum Reason {
     Damaged = 73,
     /// The documents don't fit in the new file of a copy, or of a store of format 1 in format 2.
     NoRoom = 74,
+    /// A document's schema has a keyword that only stores of format 3 read, and format 2 was asked for.
+    NewerSchema = 76,
 }
 
-const ALL: [Reason; 42] = [
+const ALL: [Reason; 43] = [
     Reason::LineTooLong,
     Reason::NotJson,
     Reason::Number,
@@ -195,6 +197,7 @@ const ALL: [Reason; 42] = [
     Reason::NotAStore,
     Reason::Damaged,
     Reason::NoRoom,
+    Reason::NewerSchema,
 ];
 
 impl Reason {

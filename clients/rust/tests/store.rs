@@ -194,6 +194,43 @@ fn copies_and_formats() {
 }
 
 #[test]
+fn schemas_of_format_3() {
+    let long = format!("{{\"pattern\":\"{}\"}}", "a".repeat(4097));
+    let rows = [
+        (2, r#"{"pattern":"^a"}"#, Reason::SchemaKeyword),
+        (3, r#"{"pattern":"("}"#, Reason::SchemaForm),
+        (3, &long, Reason::SchemaSize),
+        (3, r#"{"pattern":"b"}"#, Reason::Invalid),
+        (3, r#"{"patternProperties":{}}"#, Reason::SchemaKeyword),
+    ];
+    for (format, schema, reason) in rows {
+        let file = File::none("profiles");
+        FormatOptions::new()
+            .format(format)
+            .make(&file.0, 64)
+            .unwrap();
+        let mut store = Store::open(&file.0).unwrap();
+        let refused = store.create("d", "\"a\"", schema).unwrap_err();
+        assert_eq!(refusal(refused), reason.number(), "{schema}");
+    }
+    let (file, new) = (File::none("newer"), File::none("newer-copy"));
+    FormatOptions::new().format(3).make(&file.0, 64).unwrap();
+    let mut store = Store::open(&file.0).unwrap();
+    let schema = r#"{"dependentSchemas":{"b":false},"pattern":"^a"}"#;
+    assert_eq!(store.create("d", "\"a\"", schema), Ok(1));
+    store.close().unwrap();
+    assert_eq!(
+        refusal(upgrade(&file.0, 2).unwrap_err()),
+        Reason::NewerSchema.number()
+    );
+    assert_eq!(
+        refusal(copy(&file.0, &new.0, 64).unwrap_err()),
+        Reason::NewerSchema.number()
+    );
+    assert!(!new.0.exists());
+}
+
+#[test]
 fn permission_bits() {
     // The umask may take bits of the others away, and no host takes those of the owner.
     for (mode, wanted) in [(0, 0o600), (0o640, 0o600), (0o400, 0o400)] {

@@ -8,10 +8,7 @@ from .numbers import BOUNDS, bound, divisor, has_unsendable
 if TYPE_CHECKING:
     from .schema import Work
 
-__all__ = ["MOST_SCHEMA_BYTES", "TRANSLATED", "unknown_in"]
-
-#: The most bytes of a schema (44).
-MOST_SCHEMA_BYTES = 262144
+__all__ = ["TRANSLATED", "unknown_in"]
 
 _Out = Dict[str, Any]
 _Translation = Callable[["Work", At, Dict[str, Any], _Out], None]
@@ -178,6 +175,9 @@ def _dependencies(work: "Work", at: At, schema: Dict[str, Any], out: _Out) -> No
 
 def _dependent_schemas(work: "Work", at: At, schema: Dict[str, Any], out: _Out) -> None:
     value = schema["dependentSchemas"]
+    if work.profile > 2:
+        _named("dependentSchemas")(work, at, schema, out)
+        return
     for name, part in value.items() if isinstance(value, dict) else ():
         _depend(work, at.below("dependentSchemas", name), name, part, out)
 
@@ -304,6 +304,12 @@ def _only_in_draft_3(word: str, translation: _Translation) -> _Translation:
     return translate
 
 
+def _pattern(work: "Work", at: At, schema: Dict[str, Any], out: _Out) -> None:
+    value = schema["pattern"]
+    is_read = work.profile > 2 and isinstance(value, str)
+    out["pattern"] = work.rewritten(at.below("pattern"), value, out, ("pattern",)) if is_read else value
+
+
 def _patterned(work: "Work", at: At, schema: Dict[str, Any], out: _Out) -> None:
     _named("patternProperties")(work, at, schema, out)
 
@@ -330,8 +336,8 @@ TRANSLATED: Dict[str, _Translation] = {
     "dependentSchemas": _dependent_schemas, "disallow": _only_in_draft_3("disallow", _disallow),
     "divisibleBy": _multiple("divisibleBy"), "enum": _enum, "extends": _only_in_draft_3("extends", _extends),
     "id": _foreign_identity, "items": _items, "multipleOf": _multiple("multipleOf"), "nullable": _nullable,
-    "patternProperties": _patterned, "pattern": lambda work, at, schema, out: out.update(pattern=schema["pattern"]),
-    "properties": _properties, "required": _required, "type": _type,
+    "pattern": _pattern, "patternProperties": _patterned, "properties": _properties, "required": _required,
+    "type": _type,
     "unevaluatedItems": _unevaluated("unevaluatedItems", "items"),
     "unevaluatedProperties": _unevaluated("unevaluatedProperties", "additionalProperties"),
 }

@@ -8,10 +8,13 @@ import re
 from dataclasses import dataclass
 from typing import Any, Collection, Dict, List, NamedTuple, Optional, Tuple
 
-from ..faults.schema import DIALECT, SchemaFault, faults_of_schema
-from ..wire.values import canonical
+from ..faults.positions import subschemas
+from ..faults.schema import DIALECT, SchemaFault, faults_of_schema, told_pattern
+from ..faults.words import pointer_of
+from ..patterns import NoPattern, read_ecma, written
+from ..wire.values import escaped
 from .documents import At, Documents, Read, Tokens
-from .keywords import MOST_SCHEMA_BYTES, TRANSLATED, unknown_in
+from .keywords import TRANSLATED, unknown_in
 from .numbers import has_unsendable
 
 __all__ = ["Adapted", "Change", "Schema", "Work"]
@@ -50,33 +53,37 @@ class Schema:
     """What can be done with a schema by itself."""
 
     @staticmethod
-    def faults(schema: Any) -> List[SchemaFault]:
-        """Each reason why the store does not read a schema, with its place; none if it reads it."""
-        return list(faults_of_schema(schema))
+    def faults(schema: Any, *, profile: int = 2) -> List[SchemaFault]:
+        """Each reason why the store does not read a schema, with its place; none if it reads it.
+
+        The profile is 2, or 3 for a store of format 3, which reads patterns too.
+        """
+        return list(faults_of_schema(schema, profile))
 
     @staticmethod
-    def adapt(schema: Any, *, drop: Collection[str] = (), read: Optional[Read] = None) -> Adapted:
+    def adapt(schema: Any, *, drop: Collection[str] = (), read: Optional[Read] = None, profile: int = 2) -> Adapted:
         """A schema of an earlier draft, or with references to others, as one that the store reads.
 
         `drop` are keywords to leave out where the store does not read them; the result's `$comment` says so. `read` is
-        called with the URI of each document that a reference leads to, and returns its schema or None.
+        called with the URI of each document that a reference leads to, and returns its schema or None. In profile 3
+        patterns are kept, and rewritten so that they mean in the store what ECMA-262 says.
         """
-        work = Work(schema, drop, read)
+        work = Work(schema, drop, read, profile)
         made = work.translated(work.documents.first, schema)
         made = work.finished(made)
-        left = list(faults_of_schema(made))
-        if not left and len(canonical(made)) > MOST_SCHEMA_BYTES:
-            left.append(SchemaFault(44, "", f"it has over {MOST_SCHEMA_BYTES:,} bytes: leave out what is not used"))
-        return Adapted(made, work.changes, left)
+        return Adapted(made, work.changes, work.all_left(made))
 
 
 class Work:
     """A translation that is under way."""
 
-    def __init__(self, schema: Any, drop: Collection[str], read: Optional[Read]) -> None:
+    def __init__(self, schema: Any, drop: Collection[str], read: Optional[Read], profile: int = 2) -> None:
         self.documents = Documents(schema, read)
         self.drop = frozenset(drop)
+        self.profile = profile
         self.changes: List[Change] = []
+        # The patterns that can't be rewritten: the schema made, the way from it, and why.
+        self._unwritten: List[Tuple[Dict[str, Any], Tokens, str]] = []
         self._dropped: Dict[str, int] = {}
         # The names of what references lead to, by its place, and what is still to be translated.
         self._names: Dict[Tuple[str, Tokens], str] = {}
@@ -85,6 +92,28 @@ class Work:
     def note(self, at: At, message: str) -> None:
         """Notes that something is not as it was."""
         self.changes.append(Change(at.pointer, message))
+
+    def rewritten(self, at: At, pattern: str, out: Dict[str, Any], way: Tokens) -> str:
+        """A pattern of ECMA-262 in the store's dialect; as it is where that can't be, which is left."""
+        try:
+            read = read_ecma(pattern)
+        except NoPattern as none:
+            self._unwritten.append((out, way, told_pattern(pattern, none)))
+            return pattern
+        for note in read.notes:
+            self.note(at, note)
+        return written(read.tokens)
+
+    def all_left(self, made: Any) -> List[SchemaFault]:
+        """What the store does not read of the schema that was made, or would read in another way."""
+        places = {id(part): trail for trail, part in subschemas(made, self.profile) if self._unwritten}
+        found = {}
+        for out, way, message in self._unwritten:
+            if id(out) in places:
+                place = pointer_of(places[id(out)]) + "".join("/" + escaped(token) for token in way)
+                found[place] = SchemaFault(40, place, message)
+        others = [fault for fault in faults_of_schema(made, self.profile) if fault.place not in found]
+        return [*found.values(), *others]
 
     def translated(self, at: At, schema: Any) -> Any:
         """A schema of 2020-12 that says the same."""
@@ -158,7 +187,9 @@ class Work:
             counts = ", ".join(f"{word} ({count})" for word, count in sorted(self._dropped.items()))
             before = made.get("$comment")
             made["$comment"] = f"{before}; " * isinstance(before, str) + f"left out for jpstore: {counts}"
-        return {**made, "$defs": defs} if defs else made
+        if defs:
+            made["$defs"] = defs
+        return made
 
 
 def _listed(words: List[str]) -> str:

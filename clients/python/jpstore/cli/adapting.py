@@ -20,7 +20,7 @@ _NOT_READ = 6
 
 def _adapt(words: argparse.Namespace) -> Optional[int]:
     schema, folder = value_in(words.store), os.path.dirname(os.path.abspath(words.store))
-    adapted = Schema.adapt(schema, drop=words.drop, read=lambda uri: _beside(folder, uri))
+    adapted = Schema.adapt(schema, drop=words.drop, read=lambda uri: _beside(folder, uri), profile=words.profile)
     if getattr(words, "json", False):
         print(json.dumps(_told(adapted), ensure_ascii=False))
     else:
@@ -57,5 +57,7 @@ def _beside(folder: str, uri: str) -> Any:
 #: The sub-command, whose STORE is the file of a schema.
 ADAPT: Row = (_adapt, "makes a schema of an earlier draft, or in several files, one that the store reads",
               "schema adapt package.schema.json --drop pattern > schema.json", [
+                  ("--profile", {"type": int, "choices": (2, 3), "default": 2,
+                                 "help": "3 keeps patterns, for a store of format 3 (default: 2)"}),
                   ("--drop", {"metavar": "KEYWORD", "action": "append", "default": [],
                               "help": "leave this keyword out, if the store does not read it; `$comment` says so"})])

@@ -1,10 +1,11 @@
 """Which member of a command is at fault (14), which character of a name (15), and where a document is too deep (13)."""
 import re
-from typing import Any, Dict, Iterator, List, Optional, Tuple
+from typing import Any, Dict, Iterator, Tuple
 
 from ..wire.forms import CHANGES, FORMS, TRANSACTION
 from ..wire.limits import MOST_CHANGES
-from .words import Trail, nearest, place_in, pointer_of, shown
+from .depths import deeper_than
+from .words import nearest, place_in, shown
 
 __all__ = ["fault_of_depth", "fault_of_form", "fault_of_name"]
 
@@ -77,7 +78,7 @@ def fault_of_name(command: Dict[str, Any]) -> str:
 def fault_of_depth(command: Dict[str, Any]) -> str:
     """The place at which a document, or what an operation puts into it, is deeper than a document may be."""
     for place, value, above in _values_of(command):
-        deep = _deeper_than(value, _DEEPEST - above)
+        deep = deeper_than(value, _DEEPEST - above)
         if deep is not None:
             return f"level {_DEEPEST + 1} begins at {place_in(place + deep)}"
     return ""
@@ -91,19 +92,3 @@ def _values_of(command: Dict[str, Any]) -> Iterator[Tuple[str, Any, int]]:
     for index, operation in enumerate(operations if isinstance(operations, list) else ()):
         if isinstance(operation, dict) and "value" in operation and isinstance(operation.get("path"), str):
             yield f"/ops/{index}/value", operation["value"], operation["path"].count("/")
-
-
-def _deeper_than(value: Any, levels: int) -> Optional[str]:
-    """The place of the first object or list that is so many levels deep; None if there is none."""
-    waiting: List[Tuple[Trail, Any]] = [((), value)]
-    for _ in range(levels):
-        waiting = [((trail, token), part) for trail, parent in waiting for token, part in _parts(parent)]
-    deep = next((trail for trail, part in waiting if isinstance(part, (dict, list, tuple))), None)
-    return None if deep is None else pointer_of(deep)
-
-
-def _parts(value: Any) -> Iterator[Tuple[Any, Any]]:
-    if isinstance(value, dict):
-        yield from value.items()
-    elif isinstance(value, (list, tuple)):
-        yield from enumerate(value)

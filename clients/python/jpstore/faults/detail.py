@@ -4,7 +4,7 @@ from typing import Any, Dict, Optional
 from .command import fault_of_depth, fault_of_form, fault_of_name
 from .patch import fault_of_patch, fault_of_pointer
 from .query import fault_of_query
-from .schema import faults_of_schema
+from .schema import faults_of_schema, unsure_of_schema
 from .words import place_in
 
 __all__ = ["detail_of"]
@@ -29,10 +29,17 @@ def detail_of(number: int, command: Optional[Dict[str, Any]], operation: Optiona
         return fault_of_patch(number, command, operation)
     if number in (37, 38):
         return _of_pointer(number, command.get("path"))
-    if 40 <= number <= 43:
-        found = (str(fault) for fault in faults_of_schema(command.get("schema")) if fault.number == number)
-        return next(found, "")
+    if 40 <= number <= 44:
+        return _of_schema(number, command.get("schema"))
     return _of_query(number, command.get("path")) if number in (50, 51) else ""
+
+
+def _of_schema(number: int, schema: Any) -> str:
+    # Which profile the store has isn't known: what both refuse is told first.
+    profiles = (3, 2) if number in (41, 42) else (2, 3)
+    found = (str(fault) for profile in profiles for fault in faults_of_schema(schema, profile)
+             if fault.number == number)
+    return next(found, "") or (unsure_of_schema(schema) if number == 40 else "")
 
 
 def _of_pointer(number: int, pointer: Any) -> str:

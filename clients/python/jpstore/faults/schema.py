@@ -1,23 +1,25 @@
-"""Where a schema is not one that the store reads (40 to 43), what is wrong there, and what is nearest to it.
+"""Where a schema is not one that the store reads (40 to 44), what is wrong there, and what is nearest to it.
 
 The rules are those of `docs/use/PROTOCOL.md`, under *Names, schemas, places and queries*.
 """
-import re
-from typing import Any, Callable, Dict, Iterator, List, NamedTuple, Optional, Set, Tuple
+from typing import Any, Callable, Dict, Iterator, List, NamedTuple, Optional, Tuple
 
 from ..called import called
+from ..patterns import NoPattern, read_dialect, script_in
 from ..refusals import DIALECT
 from ..wire.values import canonical
-from .words import Trail, nearest, place_in, pointer_of, shown
+from .depths import deeper_than
+from .positions import subschemas
+from .references import References
+from .words import Trail, place_in, pointer_of, shown
 
-__all__ = ["DIALECT", "NOT_SUPPORTED", "SchemaFault", "faults_of_schema", "subschemas"]
+__all__ = ["DIALECT", "FORMAT_3_ONLY", "NOT_SUPPORTED", "SchemaFault", "faults_of_schema", "told_pattern",
+           "unsure_of_schema"]
 
-#: The keywords of 2020-12 that are refused (41), each with what is nearest to it.
+#: The keywords of 2020-12 that are refused (41) in each format, each with what is nearest to it.
 NOT_SUPPORTED = {
-    "pattern": "`enum` or `const` list the texts, and `minLength` and `maxLength` bound their lengths",
     "patternProperties": "`properties` has the members whose names are known, `additionalProperties` all others, and "
-                         "`propertyNames` bounds the names",
-    "dependentSchemas": "`allOf` with `if`: {\"required\": [NAME]} and `then` says the same",
+                         "`propertyNames` bounds the names, in format 3 by a `pattern` too",
     "unevaluatedProperties": "`additionalProperties` beside all `properties` says the same for one schema",
     "unevaluatedItems": "`items` after `prefixItems` says the same for one schema",
     "$anchor": "`$defs` of the root has a schema by name, for `#/$defs/NAME`",
@@ -26,18 +28,22 @@ NOT_SUPPORTED = {
     "$vocabulary": "it is for schemas of schemas, and can be left out",
 }
 
-_ONE = ("additionalProperties", "propertyNames", "items", "contains", "not", "if", "then", "else")
-_SEVERAL = ("prefixItems", "allOf", "anyOf", "oneOf")
-_NAMED = ("properties", "$defs")
+#: Those that are refused (41) in a store of format 2, and read in one of format 3, each with what is nearest to it.
+FORMAT_3_ONLY = {
+    "pattern": "`enum` or `const` list the texts, and `minLength` and `maxLength` bound their lengths",
+    "dependentSchemas": "`allOf` with `if`: {\"required\": [NAME]} and `then` says the same",
+}
 
-# The keywords by which a schema leads to another for the same value.
-_IN_PLACE = ("allOf", "anyOf", "oneOf", "not", "if", "then", "else")
+# The most bytes of a schema, levels in it, patterns of it, and bytes of each (44).
+_MOST_BYTES, _MOST_LEVELS, _MOST_PATTERNS, _MOST_PATTERN_BYTES = 262_144, 64, 64, 4_096
 
 # The most steps of a loop that are shown.
 _MOST_STEPS = 4
 
+# So many letters of a pattern are shown.
+_MOST_LETTERS = 20
+
 _TYPES = ("null", "boolean", "object", "array", "number", "string", "integer")
-_REFERENCE = re.compile(r"#/\$defs/([A-Za-z0-9_.-]+)")
 
 
 class SchemaFault(NamedTuple):
@@ -101,6 +107,8 @@ _FORMS: Dict[str, _Form] = {
     "dependentRequired": (_are_dependents, "an object whose members are lists of different names"),
     "prefixItems": _SCHEMAS, "allOf": _SCHEMAS, "anyOf": _SCHEMAS, "oneOf": _SCHEMAS,
     "properties": _OBJECT, "$defs": _OBJECT, "$ref": (_is_text, "a text"),
+    # Those of profile 3, which profile 2 refuses whatever they have.
+    "pattern": (_is_text, "a text"), "dependentSchemas": _OBJECT,
 }
 
 # What is wrong with a form that earlier drafts had, by keyword and type of the value.
@@ -113,17 +121,79 @@ _EARLIER_FORMS = {
 }
 
 
-def faults_of_schema(schema: Any) -> Iterator[SchemaFault]:
-    """Each reason why the store refuses a schema, by 40 to 42 in the order of the text, and then 43."""
-    for trail, part in subschemas(schema):
+def faults_of_schema(schema: Any, profile: int = 2) -> Iterator[SchemaFault]:
+    """Each reason why the store refuses a schema: its size (44), then 40 to 42 and 44 in the order of the text, and 43.
+
+    The profile is 2, or 3 in a store of format 3.
+    """
+    yield from _of_size(schema)
+    references, patterns = References(schema, profile), 0
+    for trail, part in subschemas(schema, profile):
         if isinstance(part, dict):
             for word, value in part.items():
-                yield from _of_member(schema, trail, word, value)
+                yield from _of_member(references, profile, trail, word, value)
+            if profile > 2 and isinstance(part.get("pattern"), str):
+                patterns += 1
+                yield from _of_pattern((trail, "pattern"), part["pattern"], patterns)
         elif not isinstance(part, bool):
             yield SchemaFault(40, pointer_of(trail), _no_schema(trail, part))
-    loop = _loop_in(schema)
+    loop = references.loop()
     if loop:
         yield SchemaFault(43, pointer_of(loop[0]), _told_loop(loop))
+
+
+def _of_size(schema: Any) -> Iterator[SchemaFault]:
+    deep = deeper_than(schema, _MOST_LEVELS)
+    if deep is not None:
+        yield SchemaFault(44, deep, f"here begins level {_MOST_LEVELS + 1}, and a schema may have {_MOST_LEVELS}: "
+                                    "put what is deep under `$defs` of the root, and `$ref` to it")
+    elif _is_long(schema):
+        yield SchemaFault(44, "", f"its compact text has over {_MOST_BYTES:,} bytes: leave out what is not used, and "
+                                  "let `$ref` lead to what is there twice")
+
+
+def _is_long(schema: Any) -> bool:
+    try:
+        return len(canonical(schema)) > _MOST_BYTES
+    except (TypeError, ValueError):
+        # A value that no line can have is told elsewhere.
+        return False
+
+
+def _of_pattern(trail: Trail, pattern: str, count: int) -> Iterator[SchemaFault]:
+    """What is wrong with a pattern, with which the schema has so many."""
+    place = pointer_of(trail)
+    if count == _MOST_PATTERNS + 1:
+        yield SchemaFault(44, place, f"a schema has at most {_MOST_PATTERNS} patterns, and this is one more: let "
+                                     "`$ref` lead to one schema under `$defs` where they are the same")
+    size = len(pattern.encode("utf-8", "surrogatepass"))
+    if size > _MOST_PATTERN_BYTES:
+        yield SchemaFault(44, place, f"the pattern has {size:,} bytes, and may have {_MOST_PATTERN_BYTES:,}")
+        return
+    try:
+        read_dialect(pattern)
+    except NoPattern as none:
+        yield SchemaFault(40, place, told_pattern(pattern, none))
+    except RecursionError:
+        return
+
+
+def unsure_of_schema(schema: Any) -> str:
+    """The first pattern with a name that only the store's tables of Unicode have, or have not."""
+    for trail, part in subschemas(schema, 3):
+        pattern = part.get("pattern") if isinstance(part, dict) else None
+        name = script_in(pattern) if isinstance(pattern, str) else None
+        if name is not None:
+            place = place_in(pointer_of((trail, "pattern")))
+            return f"at {place}: it is no pattern if Unicode has no property or script `{name}`"
+    return ""
+
+
+def told_pattern(pattern: str, none: NoPattern) -> str:
+    """Where a text is no pattern, and why."""
+    rest = pattern[none.place:none.place + _MOST_LETTERS]
+    shown_rest = f" (`{rest}{'..' if len(pattern) > none.place + _MOST_LETTERS else ''}`)" if rest else " (the end)"
+    return f"it is no pattern from character {none.place + 1}{shown_rest} on: {none.message}"
 
 
 def _told_loop(loop: List[Trail]) -> str:
@@ -137,39 +207,20 @@ def _no_schema(trail: Trail, part: Any) -> str:
     return f"{shown(part)} is no schema: it is an object, true or false" + (f" ({earlier})" if earlier else "")
 
 
-def subschemas(schema: Any) -> Iterator[Tuple[Trail, Any]]:
-    """The schema and those in it, each with the way to it."""
-    waiting: List[Tuple[Trail, Any]] = [((), schema)]
-    while waiting:
-        trail, part = waiting.pop()
-        yield trail, part
-        if isinstance(part, dict):
-            waiting.extend(reversed([inner for word, value in part.items() for inner in _below(trail, word, value)]))
-
-
-def _below(trail: Trail, word: Any, value: Any) -> Iterator[Tuple[Trail, Any]]:
-    """The schemas that the value of a keyword has."""
-    at = (trail, word)
-    if word in _ONE:
-        yield at, value
-    elif word in _SEVERAL and isinstance(value, (list, tuple)):
-        yield from (((at, index), item) for index, item in enumerate(value))
-    elif word in _NAMED and isinstance(value, dict):
-        yield from (((at, name), item) for name, item in value.items())
-
-
-def _of_member(root: Any, trail: Trail, word: Any, value: Any) -> Iterator[SchemaFault]:
+def _of_member(references: References, profile: int, trail: Trail, word: Any, value: Any) -> Iterator[SchemaFault]:
     fault: Optional[Tuple[int, str]] = None
     if word in NOT_SUPPORTED:
         fault = 41, f"`{word}` is not supported; {NOT_SUPPORTED[word]}"
+    elif word in FORMAT_3_ONLY and profile == 2:
+        fault = 41, f"`{word}` needs a store of format 3; in format 2 {FORMAT_3_ONLY[word]}"
     elif word in ("$id", "$schema"):
         fault = _of_identity(bool(trail), word, value)
     elif word in _FORMS and not _FORMS[word][0](value):
         earlier = _EARLIER_FORMS.get((word, type(value).__name__))
         hint = f" ({earlier})" if earlier else ""
         fault = 40, f"`{word}` is {shown(value)}, and must be {_FORMS[word][1]}{hint}"
-    elif word == "$ref" and _target(root, value) is None:
-        fault = 42, _dangling(root, value)
+    elif word == "$ref" and references.target(value) is None:
+        fault = 42, references.dangling(value, f"`{called()} schema adapt`")
     if fault is not None:
         yield SchemaFault(fault[0], pointer_of((trail, word)), fault[1])
 
@@ -183,70 +234,3 @@ def _of_identity(is_below: bool, word: str, value: Any) -> Optional[Tuple[int, s
         return 41, (f"{shown(value)} is another dialect than {DIALECT}: `{called()} schema adapt` translates "
                     "earlier drafts")
     return None
-
-
-def _target(root: Any, reference: str) -> Optional[Tuple[Trail, Any]]:
-    """The schema that a reference leads to, with its place; None if it leads to none."""
-    if reference == "#":
-        return (), root
-    found = _REFERENCE.fullmatch(reference)
-    defs = root.get("$defs") if isinstance(root, dict) else None
-    if found is None or not isinstance(defs, dict) or found[1] not in defs:
-        return None
-    return (((), "$defs"), found[1]), defs[found[1]]
-
-
-def _dangling(root: Any, reference: str) -> str:
-    defs = root.get("$defs") if isinstance(root, dict) else None
-    names = [name for name in defs if isinstance(name, str)] if isinstance(defs, dict) else []
-    last = reference.rpartition("/")[2]
-    said = f"{shown(reference)} is not the name of a schema"
-    if last in names:
-        return f"{said}: write `#/$defs/{last}`"
-    near = nearest(last, names)
-    if near is not None:
-        return f"{said}: perhaps `#/$defs/{near}` is meant"
-    if not reference.startswith("#"):
-        adapted = f"`{called()} schema adapt`"
-        return f"{said}: put that schema under `$defs` of the root, as {adapted} does with files"
-    return f"{said}: put that schema under `$defs` of the root, by a name of letters, digits, `_`, `-` and `.`"
-
-
-def _loop_in(root: Any) -> List[Trail]:
-    """A way that leads from a schema back to it for the same value; empty if there is none."""
-    done: Set[int] = set()
-    for trail, part in subschemas(root):
-        loop = _loop_from(root, trail, part, done) if id(part) not in done else []
-        if loop:
-            return loop
-    return []
-
-
-def _loop_from(root: Any, trail: Trail, part: Any, done: Set[int]) -> List[Trail]:
-    # A search in depth by hand: references may lead further than calls may go.
-    way = [(trail, part, iter(_in_place(root, trail, part)))]
-    places = {id(part): 0}
-    while way:
-        _, at, following = way[-1]
-        step = next(following, None)
-        if step is None:
-            way.pop()
-            done.add(id(at))
-            del places[id(at)]
-        elif id(step[1]) in places:
-            return [each for each, _, _ in way[places[id(step[1])]:]]
-        elif id(step[1]) not in done:
-            places[id(step[1])] = len(way)
-            way.append((*step, iter(_in_place(root, *step))))
-    return []
-
-
-def _in_place(root: Any, trail: Trail, part: Any) -> List[Tuple[Trail, Any]]:
-    """The schemas that are asked of the same value, each with its place."""
-    if not isinstance(part, dict):
-        return []
-    found = [inner for word in _IN_PLACE if word in part for inner in _below(trail, word, part[word])]
-    reference = part.get("$ref")
-    target = _target(root, reference) if isinstance(reference, str) else None
-    # True and false are one object each wherever they are, and lead nowhere.
-    return [inner for inner in ([*found, target] if target else found) if isinstance(inner[1], dict)]

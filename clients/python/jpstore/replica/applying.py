@@ -68,7 +68,7 @@ class Applier:
 
     def __init__(self, store: ReplicaStore, note: Note, version: str, reckoning: Reckoning, history: History) -> None:
         self._store, self._reckoning, self._history = store, reckoning, history
-        #: The version of the program.
+        #: The version of the program, and the format of its file if that decides what is read.
         self.version = version
         #: The place of the store, and the number of its last change, which is that of the note.
         self.note, self.seq = note, int(store.status["seq"])
@@ -138,7 +138,7 @@ class Applier:
     def _check_version(self, entry: Entry, version: str) -> None:
         if entry.kind is EntryKind.VERSION and version != self.version:
             raise OtherVersion(f"from entry {entry.n} on the log is for {version}, and this is {self.version}: "
-                               "install that version here")
+                               "install that version here, or bring the file to that format by `upgrade`")
         if entry.kind is EntryKind.LINES and self.note.version != self.version:
             raise OtherVersion(f"entry {entry.n} of the log is for {self.note.version}, and this is {self.version}: "
                                "run that version here until they are done, or make the store anew by `replica join`")

@@ -9,14 +9,15 @@ from typing import Any, Dict, Optional, Sequence
 from ..dump import give_name, sync_folder
 from ..errors import JpstoreError
 from ..wire.commands import get, get_schema, line_of
-from ..wire.program import check_file, copy_file, find_program, version_of
+from ..wire.program import check_file, copy_file, upgrade_file
 from ..wire.replies import seq_in
+from ..wire.store_file import format_of
 from .capacity import LEAST_CAPACITY, room_of
 from .copying import receive_copy
 from .engine import Member
 from .log import Agreed, Log
 from .note import NAME, Note
-from .store import ReplicaStore
+from .store import ReplicaStore, judge_of
 
 __all__ = ["init", "join"]
 
@@ -33,7 +34,7 @@ async def init(file: str, members: Sequence[Member], name: str, capacity: Option
         await _check_capacity(store, capacity)
         digest = await _state_digest(store)
         agreed = await _agree(Log(members, name), Agreed(uuid.uuid4().hex, capacity, digest))
-        await _take(store, Note(agreed.log, version_of(find_program(program))))
+        await _take(store, Note(agreed.log, judge_of(file, program)))
     finally:
         ended = await store.close()
     if ended.status != 0:
@@ -95,6 +96,8 @@ def join(new: str, node: str, source: str, members: Sequence[Member], name: str,
     try:
         size = receive_copy(source, part)
         copy_file(part, whole, sectors or size, program)
+        if format_of(part) > 2:
+            upgrade_file(whole, format_of(part), program)
         status = check_file(whole, program)
         place = asyncio.run(_place(whole, program, members, name))
         give_name(whole, new)

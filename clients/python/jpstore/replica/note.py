@@ -25,7 +25,7 @@ class Note(NamedTuple):
 
     #: The identity of the log.
     log: str
-    #: The version of the program that judges.
+    #: The version of the program that judges, and the format of its file if that decides what is read.
     version: str
     #: The last entry that is done whole: its number, its revision and its name.
     n: int = 0

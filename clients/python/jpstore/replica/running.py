@@ -7,7 +7,6 @@ import sys
 from typing import Any, Awaitable, Dict, List, NamedTuple, Optional, Sequence
 
 from ..errors import JpstoreError
-from ..wire.program import find_program, version_of
 from ..wire.standard_streams import announce
 from .applying import Applier
 from .capacity import Reckoning, room_of
@@ -17,7 +16,7 @@ from .errors import Astray, Changed, WrongLog
 from .history import History
 from .log import Log
 from .node import Node, Settings
-from .store import ReplicaStore
+from .store import ReplicaStore, judge_of
 from .tasks import end_tasks
 from .unix_socket import Listening, check_free
 
@@ -84,8 +83,8 @@ async def _made(serving: Serving, settings: Settings, store: ReplicaStore) -> No
                            f"agreed on {agreed.capacity:,} at least: make the store in a larger file by `replica join`")
     # Every node numbers the changes in the same way, so a watcher may go on at another one.
     history = History(store.status["seq"], name=note.log)
-    version = version_of(find_program(serving.program))
-    applier = Applier(store, note, version, Reckoning(agreed.capacity), history)
+    judge = judge_of(serving.file, serving.program)
+    applier = Applier(store, note, judge, Reckoning(agreed.capacity), history)
     return Node(settings, store, applier, room_of(agreed.capacity), history, logs)
 
 

@@ -8,12 +8,13 @@ from ..errors import Ended, JpstoreError
 from ..wire import commands
 from ..wire.commands import LIST, SNAPSHOT, STATUS, line_of
 from ..wire.limits import MOST_GROUP
-from ..wire.program import find_program, serve_words
+from ..wire.program import find_program, serve_words, version_of
 from ..wire.replies import REFUSED, text_in, without_document
 from ..wire.spawn import ended_serving, opened_serving
+from ..wire.store_file import format_of
 from .note import NAME, Note, note_in
 
-__all__ = ["Faulty", "ReplicaStore"]
+__all__ = ["Faulty", "ReplicaStore", "judge_of"]
 
 # Refusals that are no answers of the log: those of this machine (60 to 64), as another node may have accepted the
 # change, and that of an entry as a whole (65), which the reckoning leaves to none.
@@ -22,6 +23,15 @@ _FAULTS = (60, 61, 62, 63, 64, 65)
 
 class Faulty(JpstoreError):
     """The store of this node had a fault of its own. What it has done is whole, and a new start may go on."""
+
+
+def judge_of(file: str, program: Optional[str]) -> str:
+    """By what the changes of a store are judged: the version of the program, and the format if it is over 2.
+
+    Only stores of format 3 read some keywords of schemas. So files of two formats would differ after the same log.
+    """
+    version, number = version_of(find_program(program)), format_of(file)
+    return version if number == 2 else f"{version}, format {number}"
 
 
 class ReplicaStore:

@@ -3,9 +3,9 @@ import os
 import struct
 from typing import BinaryIO, Iterator, NamedTuple
 
-from ..errors import JpstoreError
+from ..errors import JpstoreError, accessing
 
-__all__ = ["SECTOR", "Committed", "committed_in"]
+__all__ = ["SECTOR", "Committed", "committed_in", "format_of"]
 
 #: The length of a sector.
 SECTOR = 512
@@ -34,6 +34,11 @@ class Committed(NamedTuple):
     riding: bytes
 
     @property
+    def version(self) -> int:
+        """The format of the store."""
+        return int.from_bytes(self.sector[8:12], "big")
+
+    @property
     def capacity(self) -> int:
         """How many bytes a half has."""
         return SECTOR * ((self.sectors - 1) // 2)
@@ -58,6 +63,12 @@ class Committed(NamedTuple):
             if len(piece) < count:
                 raise JpstoreError(f"{file.name} is shorter than a store is")
             yield piece
+
+
+def format_of(path: str) -> int:
+    """The format of the store in a file."""
+    with accessing(path), open(path, "rb") as opened:
+        return committed_in(opened).version
 
 
 def committed_in(file: BinaryIO) -> Committed:

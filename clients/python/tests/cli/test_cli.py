@@ -402,7 +402,7 @@ def test_a_schema_of_other_people_is_adapted(place):
     changed, left = noted.splitlines()
     assert changed == ("changed: at `other.json/definitions/n/minimum`: the bound 0.5 is `minimum` 1 for whole "
                        "numbers")
-    assert left.startswith("left: at `/propertyNames/pattern`: `pattern` is not supported; ")
+    assert left.startswith("left: at `/propertyNames/pattern`: `pattern` needs a store of format 3; ")
     made = told(place, "schema", "adapt", "schema.json", "--drop", "pattern", "--json")
     assert json.loads(made)["schema"]["$comment"] == "left out for jpstore: pattern (1)"
     place.format(16)

@@ -118,7 +118,7 @@ def test_what_is_wrong_in_a_document_a_schema_or_a_query(place):
     told(place, "new", "store", "d", "{}", status=0)
     place.text("schema.json", '{"properties": {"a": {"pattern": "^a"}}}')
     rows = [
-        (["schema", "store", "d", "--to", "schema.json"], "at `/properties/a/pattern`: `pattern` is not supported"),
+        (["schema", "store", "d", "--to", "schema.json"], "at `/properties/a/pattern`: `pattern` needs a store of "),
         (["find", "store", "d", "$[?@.a = 1]"], "at character 8 (`= 1]`): one `=` compares nothing: write `==`"),
         (["new", "store", "e", "[0.5]"], "/doc/0: 0.5 is not a whole number: send a whole number, or a text"),
         (["new", "store", "e", "[1,\n}"], "line 2, column 1"), (["new", "store", "e", "\ufeff[]"], "byte order mark"),

@@ -1,11 +1,12 @@
 """What the client says of a refused command: which member, which keyword, which character, and what helps."""
 import json
+import os
 import random
 import re
 import subprocess
 
 import pytest
-from jpstore import Malformed, Refused, TooLarge, create, patch
+from jpstore import Malformed, Refused, TooLarge, create, format_file, patch
 from jpstore.errors import refusal_of
 from jpstore.faults import detail_of, fault_of_query, faults_of_schema
 from support import raised
@@ -22,7 +23,7 @@ _SCHEMAS = [
     ({"exclusiveMinimum": True}, 40, "/exclusiveMinimum", "it is the bound itself, in place of `minimum`"),
     ({"allOf": [{}, 5]}, 40, "/allOf/1", "5 is no schema: it is an object, true or false"),
     ({"multipleOf": 0}, 40, "/multipleOf", "must be a whole number from 1"),
-    ({"properties": {"a": {"pattern": "^a"}}}, 41, "/properties/a/pattern", "`pattern` is not supported; `enum`"),
+    ({"properties": {"a": {"pattern": "^a"}}}, 41, "/properties/a/pattern", "`pattern` needs a store of format 3"),
     ({"$defs": {"a": {"patternProperties": {}}}}, 41, "/$defs/a/patternProperties", "`properties` has the members"),
     ({"items": {"$id": "x"}}, 41, "/items/$id", "`$id` is for the root only"),
     ({"$schema": _OLD}, 41, "/$schema", "`python3 -m jpstore schema adapt` translates earlier drafts"),
@@ -166,12 +167,12 @@ def _wrong_query(chance):
     return "".join(letters)
 
 
-def _some_schema(chance, depth):
+def _some_schema(chance, depth, values=_VALUES, holders=_HOLDERS):
     if depth == 0 or chance.random() < 0.2:
         return chance.choice([True, False, {}, {}, {}, 1])
-    schema = {word: chance.choice(_VALUES[word]) for word in chance.sample(sorted(_VALUES), chance.randint(0, 1))}
-    for word in chance.sample(sorted(_HOLDERS), chance.randint(0, 2)):
-        schema[word] = _HOLDERS[word](lambda: _some_schema(chance, depth - 1))
+    schema = {word: chance.choice(values[word]) for word in chance.sample(sorted(values), chance.randint(0, 1))}
+    for word in chance.sample(sorted(holders), chance.randint(0, 2)):
+        schema[word] = holders[word](lambda: _some_schema(chance, depth - 1, values, holders))
     return schema
 
 
@@ -194,6 +195,30 @@ def test_the_store_and_the_client_agree_on_schemas(place):
     assert set(numbers) == {None, 40, 41, 42, 43}
     for schema, number in zip(schemas, numbers):
         found = {fault.number for fault in faults_of_schema(schema)}
+        assert number in found if number else not found, schema
+
+
+# What profile 3 has beside that, and what some patterns are by the documentation of Rust's crate.
+_VALUES_IN_3 = {
+    **_VALUES,
+    "pattern": ["a", "(", "a{2,1}", r"[\w&&[^_]]", r"\d{2}", r"(?=a)", "[a", r"\p{L}", "a" * 4097, "(?i)a", r"\q"],
+    "unevaluatedItems": [True],
+}
+_HOLDERS_IN_3 = {**_HOLDERS, "dependentSchemas": lambda part: {"a": part(), "b": part()}}
+
+
+def test_the_store_and_the_client_agree_on_schemas_of_profile_3(place):
+    chance, file = random.Random(73), os.path.join(place.folder, "third")
+    schemas = [_some_schema(chance, 3, _VALUES_IN_3, _HOLDERS_IN_3) for _ in range(1000)]
+    format_file(file, 65536, place.program, version=3)
+    lines = [create(f"d{number}", 1, schema) for number, schema in enumerate(schemas)]
+    given = "".join(json.dumps(line) + "\n" for line in lines).encode()
+    ended = subprocess.run([place.program, "serve", file], input=given, stdout=subprocess.PIPE, check=True)
+    replies = [json.loads(line) for line in ended.stdout.splitlines()]
+    numbers = [None if reply.get("number") == 45 else reply.get("number") for reply in replies]
+    assert set(numbers) == {None, 40, 41, 42, 43, 44}
+    for schema, number in zip(schemas, numbers):
+        found = {fault.number for fault in faults_of_schema(schema, 3)}
         assert number in found if number else not found, schema
 
 

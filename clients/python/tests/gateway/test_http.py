@@ -189,7 +189,7 @@ def test_if_match_of_a_schema(gateway):
     for schema, status, number in (({"type": "array"}, 422, 45), ({"pattern": "x"}, 422, 41)):
         told = is_problem(gateway.put("/schemas/of-schema", schema, If_Match=tag), status, number)
         assert "change" not in told
-        assert number == 45 or told["detail"].startswith("at `/pattern`: `pattern` is not supported; ")
+        assert number == 45 or told["detail"].startswith("at `/pattern`: `pattern` needs a store of format 3; ")
     assert gateway.get("/schemas/of-schema").json() == COUNTS
     new = gateway.put("/schemas/of-schema", {"type": "object"}, If_Match=tag)
     assert (new.status, new.tag(), gateway.get("/schemas/of-schema").json()) == \

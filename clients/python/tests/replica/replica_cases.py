@@ -17,7 +17,7 @@ from jpstore.replica.engine import Engine, members_in, packed
 from jpstore.replica.log import Log
 from jpstore.replica.capacity import room_of
 from replica_check import played, state_of
-from replicas import LOG, NODES, Members, Replicas, crashing_program
+from replicas import FORMAT, LOG, NODES, Members, Replicas, crashing_program
 from support import PATIENCE
 
 SECTORS, CAPACITY = (4096, 4096, 8192), 1_000_000
@@ -632,6 +632,28 @@ def other_version(folder, program):
         are_same(nodes)
 
 
+def other_format(folder, program):
+    """A node whose file has another format tells the log so, the others end until theirs have it."""
+    FORMAT[0] = 2
+    with cluster(folder, program) as nodes:
+        newer = create("y", "a", {"pattern": "^a"})
+        assert nodes.ask("a", create("x", 1), newer)[1]["number"] == 41
+        states(nodes)
+        nodes.stop("c")
+        _bring_to_format_3(nodes, "c")
+        for node in "ab":
+            assert nodes.ended(node) == 1 and ", format 3" in nodes.output(node), nodes.output(node)
+            _bring_to_format_3(nodes, node)
+        assert nodes.ask("b", newer)[0]["ok"]
+        are_same(nodes)
+
+
+def _bring_to_format_3(nodes, node):
+    subprocess.run([nodes.program, "upgrade", nodes.file(node)], check=True, stdout=subprocess.DEVNULL)
+    nodes.start(node)
+    nodes.wait(node)
+
+
 def begun_with_documents(folder, program):
     """A store with documents may be the first state; it keeps their revisions at all nodes."""
     members, nodes = Members(folder), None
@@ -722,7 +744,7 @@ CASES = [(case.__doc__.partition("\n")[0].rstrip("."), case) for case in (
     refusals_in_one_entry, odd_lines, hidden_note, clients_of_all_kinds, one_order_in_a_connection,
     reads_at_another_node, lost_answers, late_append_of_a_killed_node, trimmed_log, foreign_changes, older_log,
     put_back_log, full_store, heavy_entries, stopped_line_by_line, without_space, without_majority, differing_nodes,
-    differing_entries, other_version, begun_with_documents, with_tls, stopped_node)]
+    differing_entries, other_version, other_format, begun_with_documents, with_tls, stopped_node)]
 
 # The cases that run once more with the other format for each file: files are handed on, written anew, filled, or left
 # by a stop.

@@ -13,8 +13,8 @@ from support import PACKAGE, PATIENCE
 
 LOG = "test"
 
-# The format of each node's file.
-FORMATS = {"a": 2, "b": 3, "c": 2}
+# The format of the nodes' files.
+FORMAT = [2]
 
 # The folder of the package that nodes run; a wrong one takes its place.
 DEFAULT_PACKAGE = PACKAGE
@@ -175,7 +175,7 @@ class Replicas:
         return {**os.environ, "PYTHONPATH": self._package}
 
     def format(self, node, sectors):
-        self._run_program("format", self.file(node), "--sectors", str(sectors), "--format", str(FORMATS.get(node, 3)))
+        self._run_program("format", self.file(node), "--sectors", str(sectors), "--format", str(FORMAT[0]))
 
     def _run_program(self, *words):
         subprocess.run([self.program, *words], check=True, stdout=subprocess.DEVNULL)
@@ -190,7 +190,6 @@ class Replicas:
         self.wait(first)
         for node, count in zip(others, sectors[1:]):
             self.run("join", self.file(node), "--node", node, "--from", self.socket(first), "--sectors", str(count))
-            self._run_program("upgrade", self.file(node), "--format", str(FORMATS.get(node, 3)))
             self.start(node)
         for node in others:
             self.wait(node)

@@ -25,7 +25,7 @@ use tokio::sync::Semaphore;
 use tokio::time::timeout;
 
 /// The refusals of which more can be told.
-const TOLD: [u64; 10] = [13, 14, 15, 40, 41, 42, 43, 45, 50, 51];
+const TOLD: [u64; 11] = [13, 14, 15, 40, 41, 42, 43, 44, 45, 50, 51];
 const INVALID: u64 = 45;
 
 /// How many processes look beside each other.

@@ -1,0 +1,42 @@
+"""The schemas in a schema: those that its keywords have, by the shapes of their values."""
+from typing import Any, Iterator, List, Tuple
+
+from .words import Trail
+
+__all__ = ["IN_PLACE", "below", "subschemas"]
+
+_ONE = ("additionalProperties", "propertyNames", "items", "contains", "not", "if", "then", "else")
+_SEVERAL = ("prefixItems", "allOf", "anyOf", "oneOf")
+_NAMED = ("properties", "$defs")
+
+# What profile 3 has beside them.
+_NAMED_IN_3 = ("dependentSchemas",)
+
+#: The keywords by which a schema leads to another for the same value.
+IN_PLACE = ("allOf", "anyOf", "oneOf", "not", "if", "then", "else", "dependentSchemas")
+
+
+def _is_named(word: Any, profile: int) -> bool:
+    return word in _NAMED or (profile > 2 and word in _NAMED_IN_3)
+
+
+def subschemas(schema: Any, profile: int) -> Iterator[Tuple[Trail, Any]]:
+    """The schema and those in it, each with the way to it."""
+    waiting: List[Tuple[Trail, Any]] = [((), schema)]
+    while waiting:
+        trail, part = waiting.pop()
+        yield trail, part
+        if isinstance(part, dict):
+            waiting.extend(reversed([inner for word, value in part.items()
+                                     for inner in below(trail, word, value, profile)]))
+
+
+def below(trail: Trail, word: Any, value: Any, profile: int) -> Iterator[Tuple[Trail, Any]]:
+    """The schemas that the value of a keyword has."""
+    at = (trail, word)
+    if word in _ONE:
+        yield at, value
+    elif word in _SEVERAL and isinstance(value, (list, tuple)):
+        yield from (((at, index), item) for index, item in enumerate(value))
+    elif _is_named(word, profile) and isinstance(value, dict):
+        yield from (((at, name), item) for name, item in value.items())

@@ -1,0 +1,96 @@
+"""What stores of formats 2 and 3 say of schemas, through each client, and that schemas of format 3 stay in it."""
+import pytest
+from gateways import Gateway
+from hubs import Hub
+from jpstore import Ended, Invalid, Refused, Store, copy_file, grow_file, upgrade_file
+from jpstore.errors import refusal_of
+from support import raised
+
+# A schema, the numbers by which a document that is the text `a` is refused under it in format 2 and in format 3, and
+# what the client tells of the place in format 3.
+_ROWS = [
+    ({"pattern": "^a$"}, 41, None, ""),
+    ({"pattern": "b"}, 41, 45, ""),
+    ({"properties": {"n": {"pattern": "a(?!b)"}}}, 41, 40,
+     "at `/properties/n/pattern`: it is no pattern from character 2 (`(?!b)`) on: looking ahead and behind"),
+    ({"pattern": "a" * 4097}, 41, 44, "at `/pattern`: the pattern has 4,097 bytes, and may have 4,096"),
+    ({"allOf": [{"pattern": "a"}] * 65}, 41, 44, "at `/allOf/64/pattern`: a schema has at most 64 patterns"),
+    ({"dependentSchemas": {"a": 5}}, 41, 40, "at `/dependentSchemas/a`: 5 is no schema"),
+    ({"patternProperties": {}}, 41, 41, "at `/patternProperties`: `patternProperties` is not supported; "),
+]
+
+
+@pytest.mark.parametrize("version", [2, 3])
+@pytest.mark.parametrize("through", ["file", "hub"])
+def test_each_format_says_what_it_reads(place, version, through):
+    place.format(version=version)
+    hub = Hub(place) if through == "hub" else None
+    try:
+        with hub.connect() if hub else place.store() as store:
+            for schema, *numbers, said in _ROWS:
+                _is_refused(store, schema, numbers[version - 2], said if version == 3 else "")
+    finally:
+        if hub:
+            hub.__exit__()
+
+
+def _is_refused(store, schema, number, said):
+    if number is None:
+        store.create("d", "a", schema)
+        store.delete("d")
+        return
+    refused = raised(Refused, store.create, "d", "a", schema)
+    assert refused.number == number, schema
+    assert number == 45 or refused.detail.startswith(said or "at `"), refused.detail
+
+
+def test_over_http_too(place):
+    place.format(version=3)
+    with Gateway(place) as gateway:
+        for number, (schema, _, wanted, said) in enumerate(_ROWS):
+            gateway.put(f"/documents/d{number}", "a")
+            answer = gateway.put(f"/schemas/d{number}", schema)
+            assert answer.json().get("number") == wanted, schema
+            assert wanted in (None, 45) or answer.json()["detail"].startswith(said), answer.body
+
+
+def test_a_keyword_of_format_3_keeps_the_store_in_it(place):
+    for library in ("jsonschema", "jsonpatch"):
+        pytest.importorskip(library)
+    place.format(version=3)
+    with place.store() as store:
+        store.create("d", "a", {"pattern": "^a"})
+    for call in (lambda: upgrade_file(place.file, 2, place.program), lambda: grow_file(place.file, 8192, place.program),
+                 lambda: copy_file(place.file, place.path("new"), 8192, place.program)):
+        ended = raised(Ended, call)
+        assert (ended.name, ended.number) == ("newer-schema", 76), ended
+    assert b"stay in format 3" in place.run("upgrade", place.file, "--format", "2", status=1).stderr
+    with place.store() as store:
+        assert store.schema("d") == {"pattern": "^a"}
+        refused = raised(Invalid, store.patch, "d", [{"op": "replace", "path": "", "value": "b"}])
+        assert [fault.keyword for fault in refused.why()] == ["/pattern"]
+        store.set_schema("d", True)
+    assert upgrade_file(place.file, 2, place.program) == 3
+
+
+def test_large_tables_are_told_with_what_helps(place):
+    place.format(version=3)
+    with place.store() as store:
+        refused = raised(Refused, store.create, "d", "a", {"pattern": r"^\p{L}{1,1000}$"})
+        assert refused.number == 63 and "by `maxLength`" in refused.advice
+        store.create("d", "a", {"pattern": r"^\p{L}+$", "maxLength": 1000})
+    assert "by `maxLength`" not in refusal_of({"number": 63, "error": "memory", "ok": False}, {"cmd": "list"}).advice
+
+
+def test_a_dump_goes_into_format_3_alone(place):
+    place.format(version=3)
+    with place.store() as store:
+        store.create("d", "a", {"pattern": "^a"})
+    dumped = place.run("dump", place.file).stdout
+    place.format(file=place.path("second"))
+    place.format(file=place.path("third"), version=3)
+    refused = place.run("load", place.path("second"), given=dumped, status=6).stderr
+    assert b"`pattern` needs a store of format 3" in refused
+    place.run("load", place.path("third"), given=dumped)
+    with Store(place.path("third"), program=place.program) as store:
+        assert store.schema("d") == {"pattern": "^a"}
