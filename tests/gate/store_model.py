@@ -17,7 +17,7 @@ SCHEMAS = [
     {"title": "any", "not": {"type": "boolean"}}, False,
 ]
 WRONG_SCHEMAS = [
-    (5, 40), ("x", 40), ({"type": 5}, 40), ({"required": "a"}, 40), ({"items": {"minimum": "0"}}, 40), ({"pattern": "x"}, 41),
+    (5, 40), ("x", 40), ({"type": 5}, 40), ({"required": "a"}, 40), ({"items": {"minimum": "0"}}, 40), ({"unevaluatedItems": True}, 41),
     ({"properties": {"a": {"patternProperties": {}}}}, 41), ({"$ref": "#/$defs/none"}, 42), ({"$ref": "#"}, 43),
     ({"anyOf": [{"$ref": "#/$defs/a"}], "$defs": {"a": {"$ref": "#"}}}, 43),
 ]

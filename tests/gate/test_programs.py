@@ -398,8 +398,8 @@ def a_store_is_brought_to_format_3_and_back(jpstore):
         if sector[8:12] != bytes([0, 0, 0, now]) or int.from_bytes(sector[48:56], "big") != riding:
             raise Wrong(f"the commit sector isn't of format {now}")
         jpstore.shows("serve", jpstore.file, given=questions, output=answers)
-    # The opening of the first session, of four upgrades, of four sessions and of this: 67, 662 and 47 bytes.
-    jpstore.shows("check", jpstore.file, output=status_line(2, 10, 3, 776))
+    # The opening of the first session, of four upgrades, of four sessions and of this. On the way back it was written anew: 67 and 662 bytes.
+    jpstore.shows("check", jpstore.file, output=status_line(2, 10, 3, 729, half=1))
 
 
 def a_store_of_format_1_is_brought_to_format_3(jpstore):
@@ -407,6 +407,61 @@ def a_store_of_format_1_is_brought_to_format_3(jpstore):
         jpstore.put(file.read())
     jpstore.shows("upgrade", jpstore.file, output=upgraded(3, 2))
     jpstore.shows("check", jpstore.file, output=status_line(2, 3, 6, 168, half=1))
+
+
+# Schemas with the numbers by which a document that is the text `a` is refused under them in format 2 and in format 3, by PROTOCOL.md;
+# 0: it isn't.
+PROFILES = [
+    ({"pattern": "^a$"}, 41, 0), ({"pattern": "b"}, 41, 45), ({"pattern": "("}, 41, 40), ({"pattern": 5}, 41, 40), ({"pattern": "^(?=a)"}, 41, 40),
+    ({"pattern": "a" * 4096}, 41, 45), ({"pattern": "a" * 4097}, 41, 44), ({"pattern": "\u00e9" * 2049}, 41, 44),
+    ({"allOf": [{"pattern": "a"}] * 64}, 41, 0), ({"allOf": [{"pattern": "a"}] * 65}, 41, 44), ({"pattern": "((a{100}){100}){100}"}, 41, 63),
+    ({"pattern": "(", "minLength": -1}, 40, 40), ({"pattern": "(", "$ref": "x"}, 41, 40), ({"pattern": "a", "$ref": "x"}, 41, 42),
+    ({"dependentSchemas": {"b": False}}, 41, 0), ({"dependentSchemas": {"b": 5}}, 41, 40), ({"dependentSchemas": []}, 41, 40),
+    ({"dependentSchemas": {"b": {"pattern": "("}}}, 41, 40), ({"dependentSchemas": {"b": {"$ref": "#"}}}, 41, 43),
+    ({"default": {"pattern": "("}, "enum": ["a"]}, 0, 0), ({"properties": {"pattern": {"maxLength": 0}}}, 0, 0),
+    ({"patternProperties": {}}, 41, 41), ({"unevaluatedItems": False}, 41, 41), ({"$anchor": "a"}, 41, 41),
+    ({"$ref": "#/allOf/0", "allOf": [True]}, 42, 42),
+    ({"items": {"$id": "a"}}, 41, 41), ({"title": "x" * 262131}, 0, 0), ({"title": "x" * 262132, "pattern": "("}, 44, 44),
+]
+
+
+def compact(value):
+    return json.dumps(value, separators=(",", ":"), ensure_ascii=False)
+
+
+def formats_read_their_keywords(jpstore):
+    lines = [compact({"cmd": "create", "doc": "a", "name": f"d{place}", "schema": schema}) for place, (schema, _, _) in enumerate(PROFILES)]
+    for version in (2, 3):
+        jpstore.run("format", jpstore.file, "--sectors", "16384", "--format", str(version))
+        # Opened again, the store has those that were accepted.
+        for number_of in (lambda number: number, lambda number: number or 20):
+            replies = [json.loads(line) for line in jpstore.run("serve", jpstore.file, given="\n".join(lines)).stdout.splitlines()]
+            for (schema, *numbers), reply in zip(PROFILES, replies):
+                if reply.get("number", 0) != number_of(numbers[version - 2]):
+                    raise Wrong(f"format {version}, {compact(schema)[:200]}: {reply}")
+        os.unlink(jpstore.file)
+
+
+def a_schema_of_profile_3_stays_in_format_3(jpstore):
+    for schema in ('{"dependentSchemas":{"a":{"maxProperties":1}}}', '{"pattern":"^a"}'):
+        stays_in_format_3(jpstore, schema)
+        os.unlink(jpstore.file)
+
+
+def stays_in_format_3(jpstore, schema):
+    new = os.path.join(jpstore.folder, "new")
+    newer = CREATE.replace("true", schema)
+    jpstore.run("format", jpstore.file, *SIXTEEN)
+    jpstore.shows("serve", jpstore.file, given=newer, output='{"error":"schema-keyword","number":41,"ok":false}\n')
+    jpstore.shows("upgrade", jpstore.file, output=upgraded(3, 2))
+    jpstore.shows("serve", jpstore.file, given=newer, output=DONE)
+    jpstore.fails("upgrade", jpstore.file, "--format", "2", errors="jpstore: newer-schema (76)\n")
+    jpstore.fails("copy", jpstore.file, new, *SIXTEEN, errors="jpstore: newer-schema (76)\n")
+    if os.path.exists(new) or jpstore.contents()[8:12] != bytes([0, 0, 0, 3]):
+        raise Wrong("a store that can't be brought back, or copied, was changed")
+    # Without that schema it goes back.
+    jpstore.shows("serve", jpstore.file, given='{"cmd":"schema","name":"d","schema":true}\n', output='{"ok":true,"seq":2}\n')
+    jpstore.shows("upgrade", jpstore.file, "--format", "2", output=upgraded(2, 3))
 
 
 def upgrades_that_fail(jpstore):
@@ -644,6 +699,8 @@ TESTS = [
     a_new_file_on_a_full_disk_is_not_made,
     a_store_is_brought_to_format_3_and_back,
     a_store_of_format_1_is_brought_to_format_3,
+    formats_read_their_keywords,
+    a_schema_of_profile_3_stays_in_format_3,
     upgrades_that_fail,
     one_patch_keeps_no_more_than_three_documents,
     output_that_cannot_be_written,

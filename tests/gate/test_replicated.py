@@ -69,19 +69,19 @@ def tests_of(parts, program, rounds, seed):
     import replica_cases
     tests = []
     for what, test in tests_of_one_format(parts, program, rounds, seed):
-        # The file of each node has a format that is drawn.
-        drawn = [random.Random(f"{seed} {what} {node}").choice((2, 3)) for node in "abc"]
+        # The files of the nodes have a format that is drawn.
+        drawn = random.Random(f"{seed} {what}").choice((2, 3))
         tests.append((what, test, drawn))
         if what in replica_cases.IN_BOTH_FORMATS:
-            tests.append((what, test, [5 - each for each in drawn]))
-    return [(f"{what}, formats {formats[0]} {formats[1]} {formats[2]}", in_formats(test, formats)) for what, test, formats in tests]
+            tests.append((what, test, 5 - drawn))
+    return [(f"{what}, format {number}", in_format(test, number)) for what, test, number in tests]
 
 
-def in_formats(test, formats):
-    """The test with the files of the nodes in these formats."""
+def in_format(test, number):
+    """The test with the files of the nodes in this format."""
     def run(folder):
         import replicas
-        replicas.FORMATS.update(zip("abc", formats))
+        replicas.FORMAT[0] = number
         return test(folder)
     return run
 

@@ -1,26 +1,34 @@
 #!/usr/bin/env python3
 """Counts how many schemas of other people a store reads: as they are, adapted, and without the keywords that match texts.
 
-    adapt_schemas.py PROGRAM PATH..
+Beside that it counts those that a store of format 3 reads, with their patterns, and puts N random documents under each:
+the store must judge them as the library jsonschema does.
+
+    adapt_schemas.py PROGRAM [--documents N] PATH..
 
 Each PATH is a file with a schema, or a folder: of its JSON files those are taken that name a draft of JSON Schema. A
 schema that is not read must be told with places. Debian's packages can be unpacked by `dpkg-deb -x`. The last line is
 `N passed, M failed`.
 """
+import argparse
+import collections
 import json
 import os
 import pathlib
+import random
 import sys
 import tempfile
 import warnings
 
 sys.path.insert(0, str(pathlib.Path(__file__).resolve().parents[2] / "clients" / "python"))
 
-from jpstore import JpstoreError, Refused, Schema, Store, format_file  # noqa: E402
+from adapt_patterns import Maker  # noqa: E402
+from jpstore import Invalid, JpstoreError, Refused, Schema, Store, explain, format_file  # noqa: E402
 from jpstore.cli.adapting import _beside  # noqa: E402
+from jpstore.patterns import read_dialect  # noqa: E402
 
 MATCHING = ["pattern", "patternProperties"]
-INVALID = 45
+INVALID, MEMORY = 45, 63
 
 
 def value_in(path):
@@ -50,14 +58,19 @@ def names_a_draft(path):
 
 def is_read(store, schema):
     """Whether the store takes a schema, be the document valid under it or not."""
+    return refusal_of(store, schema) in (0, INVALID)
+
+
+def refusal_of(store, schema):
+    """The number by which the store refuses a document under this schema; 0 if it doesn't, None if it can't be sent."""
     try:
         store.create("d", 0, schema)
     except Refused as refused:
-        return refused.number == INVALID
+        return refused.number
     except JpstoreError:
-        return False
+        return None
     store.delete("d")
-    return True
+    return 0
 
 
 def judged(store, path):
@@ -73,23 +86,106 @@ def judged(store, path):
     return "told with places: " + adapted.left[0].message[:60] if told else None
 
 
+def in_profile_3(store, path, documents, chance):
+    """How a store of format 3 reads a schema when it is adapted; None if something is wrong."""
+    folder = os.path.dirname(os.path.abspath(path))
+    for drop, how in (([], "adapted in profile 3"), (["patternProperties"], "in profile 3 without patternProperties")):
+        adapted = Schema.adapt(value_in(path), drop=drop, read=lambda uri: _beside(folder, uri), profile=3)
+        if adapted.is_read and refusal_of(store, adapted.schema) == MEMORY:
+            return "in profile 3 with too large patterns (63)"
+        if adapted.is_read:
+            return how if agrees(store, path, adapted.schema, documents, chance) else None
+    fault = adapted.left[0]
+    return f"told in profile 3: {fault.number} {fault.message[:40]}" if fault.message else None
+
+
+def agrees(store, path, schema, documents, chance):
+    """Whether the store reads a schema and judges so many random documents by it as jsonschema does."""
+    if not is_read(store, schema):
+        print(f"{path}: adapted in profile 3, and not read")
+        return False
+    for _ in range(documents):
+        document = some_value(schema, schema, chance, 5)
+        valid = not explain(document, schema, 1)
+        if is_valid(store, document, schema) != valid:
+            print(f"{path}: {json.dumps(document)[:300]} is {'valid' if valid else 'not valid'} to jsonschema, but not to the store")
+            return False
+    return True
+
+
+def is_valid(store, document, schema):
+    try:
+        store.create("d", document, schema)
+    except Invalid:
+        return False
+    store.delete("d")
+    return True
+
+
+def some_value(root, schema, chance, depth):
+    """A random value, mostly as the schema asks."""
+    if not isinstance(schema, dict) or depth == 0 or chance.random() < 0.07:
+        return chance.choice([None, True, 0, 7, -1, "", "a", "a1", "1.2", "https://a/b", [], ["a"], {}, {"a": 1}])
+    for word in ("const", "enum"):
+        if word in schema and chance.random() < 0.9:
+            return schema[word] if word == "const" else chance.choice(schema[word] or [None])
+    if "$ref" in schema:
+        name = schema["$ref"].rpartition("/")[2]
+        return some_value(root, root["$defs"][name] if name != "#" else root, chance, depth - 1)
+    parts = [part for word in ("anyOf", "oneOf", "allOf") for part in schema.get(word, [])]
+    if parts and chance.random() < 0.7:
+        return some_value(root, chance.choice(parts), chance, depth)
+    kinds = schema.get("type", "object" if "properties" in schema else ["string", "object", "integer"])
+    kind = chance.choice(kinds) if isinstance(kinds, list) else kinds
+    if kind == "object":
+        return some_object(root, schema, chance, depth)
+    if kind == "array":
+        return [some_value(root, schema.get("items", {}), chance, depth - 1) for _ in range(chance.randint(0, 3))]
+    if kind in ("integer", "number"):
+        return chance.choice([0, 1, schema.get("minimum", 5), schema.get("maximum", 9), chance.randint(-9, 99)])
+    if kind == "string":
+        return some_text(schema.get("pattern", ""), chance)
+    return chance.choice([True, False]) if kind == "boolean" else None
+
+
+def some_object(root, schema, chance, depth):
+    known = schema.get("properties", {})
+    names = [name for name in known if chance.random() < 0.2 or name in schema.get("required", [])]
+    made = {name: some_value(root, known[name], chance, depth - 1) for name in names if chance.random() < 0.95}
+    if isinstance(schema.get("propertyNames"), dict) and chance.random() < 0.5:
+        made[some_text(schema["propertyNames"].get("pattern", ""), chance)] = chance.choice([0, "a", None])
+    return made
+
+
+def some_text(pattern, chance):
+    """A text that the pattern finds, or nearly one."""
+    text = Maker(read_dialect(pattern), chance)
+    made = text.text(text.tree(), 20)[:60]
+    return made if chance.random() < 0.8 else made[1:] + chance.choice("a1-_.\n\u00e9\u0663")
+
+
 def main():
-    if len(sys.argv) < 3:
-        print(__doc__, file=sys.stderr)
-        return 2
+    parser = argparse.ArgumentParser(description=__doc__, formatter_class=argparse.RawDescriptionHelpFormatter)
+    parser.add_argument("program")
+    parser.add_argument("paths", nargs="+")
+    parser.add_argument("--documents", type=int, default=100)
+    args = parser.parse_args()
     warnings.simplefilter("ignore")
-    counts, failed = {}, 0
+    counts, others, failed, chance = collections.Counter(), collections.Counter(), 0, random.Random(73)
     with tempfile.TemporaryDirectory(prefix="jpstore-") as folder:
-        file = os.path.join(folder, "store")
-        format_file(file, 1 << 16, sys.argv[1])
-        with Store(file, program=sys.argv[1]) as store:
-            for path in dict.fromkeys(schemas(sys.argv[2:])):
+        files = [os.path.join(folder, f"store{version}") for version in (2, 3)]
+        for file, version in zip(files, (2, 3)):
+            format_file(file, 1 << 16, args.program, version=version)
+        with Store(files[0], program=args.program) as store, Store(files[1], program=args.program) as third:
+            for path in dict.fromkeys(schemas(args.paths)):
                 how = judged(store, path)
-                failed += how is None
-                counts[how] = counts.get(how, 0) + 1
+                counts[how] += 1
                 if how is None:
                     print(f"{path}: adapted, and not read")
-    for how, count in counts.items():
+                in_third = in_profile_3(third, path, args.documents, chance)
+                others[in_third] += 1
+                failed += how is None or in_third is None
+    for how, count in [*counts.items(), *others.items()]:
         print(f"{count:4} {how}")
     print(f"{sum(counts.values()) - failed} passed, {failed} failed")
     return 1 if failed else 0

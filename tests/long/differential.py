@@ -1,11 +1,12 @@
 #!/usr/bin/env python3
 """Compares the built program with other readings of the standards, on random documents.
 
-    differential.py PROGRAM [patches|schemas|changes|queries ..] [--rounds N] [--seed S]
+    differential.py PROGRAM [patches|schemas|changes|schemas-3|changes-3|queries ..] [--rounds N] [--seed S]
 
 - patches: what a patch makes of a document, or which operation refuses it, by RFC 6902 and 6901 as this file reads them;
 - schemas: whether a document is valid under a schema, by the Python package `jsonschema` (draft 2020-12);
 - changes: the same of what a patch makes of a document that is valid under a schema;
+- schemas-3, changes-3: the same in a store of format 3, with `dependentSchemas` and `pattern`, which Python's `re` judges;
 - queries: the nodelist of a query with its normalized paths, by RFC 9535 as this file reads it.
 
 None of the expected values is the program's own. It prints each difference with the lines that show it, and ends with
@@ -13,10 +14,14 @@ None of the expected values is the program's own. It prints each difference with
 """
 import argparse
 import copy
+import functools
 import json
+import os
 import random
+import re
 import subprocess
 import sys
+import tempfile
 
 NAMES = ["a", "b", "c", "", "a/b", "m~n", "it's", "0", "1", "-", "\u00e9", "\U0001F600", "x y", "\\", "\u0001"]
 TEXTS = ["", "a", "ab", "b", "\u00e9", "\U0001F600\U0001F600", "\ud7ff", "a\nb"]
@@ -213,13 +218,41 @@ def patch_case(choose):
 
 TYPES = ["null", "boolean", "integer", "string", "array", "object", "number"]
 
+# The keywords of profile 3 alone.
+NEWER = ("dependentSchemas", "pattern")
 
-def random_schema(choose, levels):
+# Patterns of the store, each with one of Python's module `re` that finds the same, by what both say of themselves.
+PATTERNS = {
+    "a": "a", "^a": r"\Aa", "b$": r"b\Z", "^$": r"\A\Z", "": "", "^.$": r"\A[^\n]\Z", "(?s)^.{2}$": r"(?s)\A.{2}\Z",
+    "^(a|ab)*$": r"\A(a|ab)*\Z", "^(?:a|b){1,2}$": r"\A(?:a|b){1,2}\Z", r"^[a-z&&[^a]]+$": r"\A[b-z]+\Z", r"^\w+$": r"\A\w+\Z",
+    r"\W": r"\W", r"\d": r"\d", r"\s": r"\s", r"^[^/~]*$": r"\A[^/~]*\Z", "(?m)^b": "(?m)^b", "(?i)A": "(?i)a", r"\x{1F600}": "\U0001F600",
+    r"\bb\b": r"\bb\b", "^[[:alpha:]]": r"\A[A-Za-z]", r"a?\z": r"a?\Z", "^a+?b*?$": r"\Aa+?b*?\Z", r"^\\": r"\A\\", "'|-": "'|-",
+    "^(?P<all>[^ab])": r"\A(?P<all>[^ab])", "(b|[^b])$": r"(b|[^b])\Z",
+}
+
+
+def judge(schema):
+    """The judge of documents under a schema, from outside."""
+    from jsonschema import Draft202012Validator, ValidationError, validators
+
+    def pattern(_validator, pattern, doc, _schema):
+        if isinstance(doc, str) and not re.search(PATTERNS[pattern], doc):
+            yield ValidationError("no match")
+
+    return validators.extend(Draft202012Validator, {"pattern": pattern})(schema)
+
+
+def random_schema(choose, levels, profile=2):
     if choose.random() < 0.15 or not levels:
         return choose.random() < 0.8
+    keywords = random_keywords(choose, lambda: random_schema(choose, levels - 1, profile))
+    newer = [choose.choice(NEWER)] if profile > 2 else []
+    count = choose.randrange(3) if newer else choose.randrange(1, 5)
+    return {keyword: keywords[keyword]() for keyword in newer + choose.sample(sorted(keywords.keys() - NEWER), count)}
 
-    def inner():
-        return random_schema(choose, levels - 1)
+
+def random_keywords(choose, inner):
+    """What makes the value of each keyword, of schemas that `inner` makes."""
 
     def several():
         return [inner() for _ in range(choose.randrange(1, 3))]
@@ -227,7 +260,7 @@ def random_schema(choose, levels):
     def members():
         return {choose.choice(NAMES): inner() for _ in range(choose.randrange(3))}
 
-    keywords = {
+    return {
         "type": lambda: choose.choice([choose.choice(TYPES), choose.sample(TYPES, 2)]),
         "enum": lambda: [document(choose, 1) for _ in range(choose.randrange(1, 4))],
         "const": lambda: document(choose, 1),
@@ -245,8 +278,8 @@ def random_schema(choose, levels):
         "dependentRequired": lambda: {choose.choice(NAMES): sorted(set(choose.choices(NAMES, k=2)))},
         "allOf": several, "anyOf": several, "oneOf": several, "not": inner,
         "if": inner, "then": inner, "else": inner, "$ref": lambda: "#/$defs/d",
+        "dependentSchemas": members, "pattern": lambda: choose.choice(list(PATTERNS)),
     }
-    return {keyword: keywords[keyword]() for keyword in choose.sample(sorted(keywords), choose.randrange(1, 5))}
 
 
 def with_definitions(schema, definition):
@@ -255,11 +288,9 @@ def with_definitions(schema, definition):
     return {**schema, "$defs": {"d": plain}} if isinstance(schema, dict) else schema
 
 
-def schema_case(choose):
-    from jsonschema import Draft202012Validator
-
-    schema = with_definitions(random_schema(choose, 3), random_schema(choose, 2))
-    validator = Draft202012Validator(schema)
+def schema_case(choose, profile=2):
+    schema = with_definitions(random_schema(choose, 3, profile), random_schema(choose, 2, profile))
+    validator = judge(schema)
     documents = [document(choose, 3) for _ in range(4)]
     lines, wanted = [], []
     for number, each in enumerate(documents):
@@ -272,18 +303,17 @@ def schema_case(choose):
     return lines + [{"cmd": "delete", "name": f"d{number}"} for number in range(len(documents))], fits
 
 
-def change_case(choose):
+def change_case(choose, profile=2):
     """The lines of a patch under a schema that accepts the document. What it makes has to be valid too."""
-    from jsonschema import Draft202012Validator
-
     root, is_accepted = None, False
     while not is_accepted:
-        schema, root = with_definitions(random_schema(choose, 3), random_schema(choose, 2)), document(choose, 3)
-        is_accepted = Draft202012Validator(schema).is_valid(root)
+        schema = with_definitions(random_schema(choose, 3, profile), random_schema(choose, 2, profile))
+        root = document(choose, 3)
+        is_accepted = judge(schema).is_valid(root)
     # Most of them are at fault, and a few of these are enough.
     tries = [random_patch(choose, root, 3) for _ in range(6)]
     operations, made, fault = next((it for it in tries if it[2] is None), tries[0])
-    is_made = fault is None and Draft202012Validator(schema).is_valid(made)
+    is_made = fault is None and judge(schema).is_valid(made)
 
     def fits(replies):
         number = 45 if fault is None else replies[1].get("number")
@@ -481,16 +511,28 @@ def query_case(choose):
     return lines, fits
 
 
-CASES = {"patches": patch_case, "schemas": schema_case, "changes": change_case, "queries": query_case}
+CASES = {
+    "patches": patch_case, "schemas": schema_case, "changes": change_case, "schemas-3": functools.partial(schema_case, profile=3),
+    "changes-3": functools.partial(change_case, profile=3), "queries": query_case,
+}
 
 
-def differences(program, case, rounds, seed):
+def answered(program, given, version):
+    """What the program answers: over memory, or over a new file of format 3."""
+    if version == 2:
+        return subprocess.run([program, "mem", "--sectors", "1048576"], input=given, stdout=subprocess.PIPE, check=True).stdout
+    with tempfile.TemporaryDirectory(prefix="jpstore-") as folder:
+        file = os.path.join(folder, "store")
+        subprocess.run([program, "format", file, "--sectors", "65536", "--format", str(version)], stdout=subprocess.DEVNULL, check=True)
+        return subprocess.run([program, "serve", file, "--batch", "1024"], input=given, stdout=subprocess.PIPE, check=True).stdout
+
+
+def differences(program, part, rounds, seed):
     """How many of this many cases the program answers otherwise; each is shown."""
     choose = random.Random(seed)
-    cases = [case(choose) for _ in range(rounds)]
+    cases = [CASES[part](choose) for _ in range(rounds)]
     given = "".join(compact(line) + "\n" for lines, _ in cases for line in lines).encode()
-    served = subprocess.run([program, "mem", "--sectors", "1048576"], input=given, stdout=subprocess.PIPE, check=True)
-    replies, failed = iter(served.stdout.splitlines()), 0
+    replies, failed = iter(answered(program, given, 3 if part.endswith("-3") else 2).splitlines()), 0
     for lines, fits in cases:
         said = [json.loads(next(replies)) for _ in lines]
         if not fits(said):
@@ -512,7 +554,7 @@ def main():
     for part in given.parts or list(CASES):
         if part not in CASES:
             parser.error(f"no part {part}")
-        wrong = differences(given.program, CASES[part], given.rounds, given.seed)
+        wrong = differences(given.program, part, given.rounds, given.seed)
         print(f"{part}: {given.rounds - wrong} as wanted, {wrong} otherwise")
         passed, failed = passed + given.rounds - wrong, failed + wrong
     print(f"{passed} passed, {failed} failed")

@@ -1,11 +1,12 @@
 #!/usr/bin/env python3
 """Schemas that are small and look dear: a program must answer each session, whatever it answers, with its stack and in its time.
 
-    hostile_schemas.py PROGRAM [--only WORD] [--stack BYTES] [--seconds S]
+    hostile_schemas.py PROGRAM [--only WORD] [--stack BYTES] [--seconds S] [--memory BYTES]
 
 PROGRAM is a built `jpstore`. Each case is sent in memory (`mem`), then to a new file (`serve`), and the file is opened
 again (`check`), each by a process of its own with 8 MiB of stack and 5 seconds. A case fails if a process ends by a
-signal, takes too long, or answers another than the wanted replies.
+signal, takes too long, or answers another than the wanted replies. Schemas with patterns go to stores of format 3, whose
+processes have 1 GiB of memory.
 """
 import argparse
 import json
@@ -16,7 +17,7 @@ import sys
 import tempfile
 import time
 
-OK, INVALID = True, 45
+OK, INVALID, TOO_LARGE, FORM, MEMORY = True, 45, 44, 40, 63
 
 
 def nest(height, value=None):
@@ -141,6 +142,58 @@ CASES = [
 ]
 
 
+def patterned(pattern):
+    return {'pattern': pattern}
+
+
+def dependent(depth):
+    made = {'maxProperties': 1}
+    for _ in range(depth):
+        made = {'dependentSchemas': {'a': made}}
+    return made
+
+
+MEGABYTE = 1000000
+
+# The same of patterns, in stores of format 3. A text of 1 MB is searched for what takes the most steps.
+PATTERN_CASES = [
+    ('10,000 patterns', {'allOf': [patterned('a%d' % i) for i in range(10000)]}, 'a', [], TOO_LARGE),
+    ('65 patterns', {'allOf': [patterned('a')] * 65}, 'a', [], TOO_LARGE),
+    ('64 patterns', {'allOf': [patterned('a%d?' % (i % 10)) for i in range(64)]}, 'a', [], OK),
+    ('64 patterns, each of 900 bytes', {'allOf': [patterned('(?:%s)?' % ('ab' * 448))] * 64}, 'a', [], (OK, MEMORY)),
+    ('64 patterns of names, 10,000 names',
+     {'propertyNames': {'not': {'anyOf': [patterned('^%s.*%d$' % (short(i), i % 10)) for i in range(64)]}}},
+     {name: 0 for name in REQUIRED[:10000]}, [], (OK, INVALID)),
+    ('a pattern of 4,096 bytes', patterned('a' * 4096), 'a' * 4096, [], (OK, MEMORY)),
+    ('a pattern of 4,097 bytes', patterned('a' * 4097), 'a' * 4097, [], TOO_LARGE),
+    ('249 groups in one another', patterned('(' * 249 + 'a' + ')' * 249), 'a', [], OK),
+    ('251 groups in one another', patterned('(' * 251 + 'a' + ')' * 251), 'a', [], FORM),
+    ('2,000 groups in one another', patterned('(' * 2000 + 'a' + ')' * 2000), 'a', [], FORM),
+    ('counts in counts in counts', patterned('((a{100}){100}){100}'), 'a', [], MEMORY),
+    ('counts of any sign in counts', patterned('(((.{99}){99}){99})'), 'a', [], MEMORY),
+    ('1,000 signs of words', patterned('\\w{1000}'), 'a', [], MEMORY),
+    ('a count of four billion', patterned('a{4294967295}'), 'a', [], MEMORY),
+    ('a count over four billion', patterned('a{4294967296}'), 'a', [], FORM),
+    ('64 counts in counts', {'allOf': [patterned('((a{100}){100}){100}%d' % i) for i in range(64)]}, 'a', [], MEMORY),
+    ('a star of a star', patterned('(a*)*b'), 'a' * MEGABYTE, [], INVALID),
+    ('one or two', patterned('(a|aa)+$'), 'a' * MEGABYTE + 'b', [], INVALID),
+    ('a bounded name', patterned('^[a-z0-9-]{1,63}$'), 'a' * MEGABYTE, [], INVALID),
+    ('14 signs after', patterned('[ab]*a[ab]{14}c'), 'ab' * (MEGABYTE // 2), [], INVALID),
+    ('200 signs after', patterned('[ab]*a[ab]{200}c'), 'ab' * (MEGABYTE // 2), [], INVALID),
+    ('500 signs after', patterned('a[ab]{500}c'), 'ab' * (MEGABYTE // 2), [], (INVALID, MEMORY)),
+    ('1,000 times perhaps a sign', patterned('(.?){1000}b'), 'a' * MEGABYTE, [], (INVALID, MEMORY)),
+    ('900 stars', patterned('x*y*z*' * 300 + '$' + 'a'), 'xyz' * (MEGABYTE // 3), [], (INVALID, MEMORY)),
+    ('up to 500 signs, twice', patterned('(.{0,500}a.{0,500}b)c'), 'ab' * (MEGABYTE // 2), [], (INVALID, MEMORY)),
+    ('a text of other letters', patterned('^(\\w|\\W)*\\b!$'), '\u00e9' * (MEGABYTE // 2), [], (INVALID, MEMORY)),
+    ('the same pattern for 100,000 texts', {'items': patterned('^(a|b)*c$')}, ['abc'] * 100000, [], OK),
+    ('64 patterns for 10,000 texts', {'items': {'allOf': [patterned('^(a|b)*c$')] * 64}}, ['abc'] * 10000, [], OK),
+    ('a name of 1 MB', {'propertyNames': {'not': patterned('(a|aa)+$')}}, {'a' * (MEGABYTE - 10) + 'b': 0}, [], OK),
+    ('31 schemas that depend on one name', dependent(31), {'a': 0}, [], OK),
+    ('20,000 names with a schema each', {'dependentSchemas': {name: False for name in REQUIRED[:20000]}}, {name: 0 for name in REQUIRED[20000:20500]}, [], OK),
+    ('200 patches of a text of 100,000 letters', patterned('^(a|aa)+$'), 'a' * 100000, [{'cmd': 'patch', 'name': 'd', 'ops': []}] * 200, OK),
+]
+
+
 def compact(value):
     return json.dumps(value, separators=(',', ':'), ensure_ascii=False)
 
@@ -151,9 +204,11 @@ def lines_of(case):
     return [compact(line) for line in [created] + more]
 
 
-def limits(stack):
+def limits(stack, memory):
     def set_them():
         resource.setrlimit(resource.RLIMIT_STACK, (stack, stack))
+        if memory:
+            resource.setrlimit(resource.RLIMIT_AS, (memory, memory))
         resource.setrlimit(resource.RLIMIT_CORE, (0, 0))
     return set_them
 
@@ -162,10 +217,10 @@ class Failed(Exception):
     pass
 
 
-def run(words, data, args):
+def run(words, data, args, memory=0):
     start = time.monotonic()
     try:
-        done = subprocess.run(words, input=data.encode(), capture_output=True, timeout=args.seconds, preexec_fn=limits(args.stack))
+        done = subprocess.run(words, input=data.encode(), capture_output=True, timeout=args.seconds, preexec_fn=limits(args.stack, memory))
     except subprocess.TimeoutExpired:
         raise Failed('over %g seconds' % args.seconds)
     if done.returncode < 0:
@@ -180,23 +235,26 @@ def look_at(case, out):
         raise Failed('%d replies, not %d' % (len(replies), len(wanted)))
     for reply, want in zip(replies, wanted):
         got = True if reply['ok'] else reply['number']
-        if got != want:
+        if got != want and (not isinstance(want, tuple) or got not in want):
             raise Failed('answered %s' % compact(reply)[:120])
 
 
 def attempt(case, args):
     data = '\n'.join(lines_of(case)) + '\n'
     times = []
+    has_patterns = case in PATTERN_CASES
+    memory, format_3 = (args.memory, ['--format', '3']) if has_patterns else (0, [])
     with tempfile.TemporaryDirectory() as folder:
         store = os.path.join(folder, 'store')
-        done, took = run([args.program, 'mem', '--sectors', '65536'], data, args)
+        if not has_patterns:
+            done, took = run([args.program, 'mem', '--sectors', '65536'], data, args)
+            look_at(case, done.stdout)
+            times.append(took)
+        run([args.program, 'format', store, '--sectors', '65536', *format_3], '', args)
+        done, took = run([args.program, 'serve', store], data, args, memory)
         look_at(case, done.stdout)
         times.append(took)
-        run([args.program, 'format', store, '--sectors', '65536'], '', args)
-        done, took = run([args.program, 'serve', store], data, args)
-        look_at(case, done.stdout)
-        times.append(took)
-        done, took = run([args.program, 'check', store], '', args)
+        done, took = run([args.program, 'check', store], '', args, memory)
         if done.returncode != 0:
             raise Failed('check: %s' % done.stderr.decode()[:120])
         times.append(took)
@@ -209,9 +267,10 @@ def main():
     parser.add_argument('--only', default='')
     parser.add_argument('--stack', type=int, default=8 * 1024 * 1024)
     parser.add_argument('--seconds', type=float, default=5.0)
+    parser.add_argument('--memory', type=int, default=1 << 30)
     args = parser.parse_args()
     failed = 0
-    for case in CASES:
+    for case in CASES + PATTERN_CASES:
         if args.only not in case[0]:
             continue
         try:
