@@ -1,19 +1,21 @@
 -- What a keyword asks: of the instance itself the schemas it leads to, of a lower value a schema that it holds.
-use Rattle.std.proofs.Common.{◌≡◌, ℕ, zero, suc, ◌<◌, ◌≤◌, ◌⊎◌, inl, inr, ⊎_elim, max, Bool, true, false, is_some, if◌then◌else◌, Ordering, Less, Equal, Greater, nat_cmp, List, [], ◌∷◌, Option, Some, None, refl, sym, subst, arith, codes}
+use Rattle.std.proofs.Common.{◌≡◌, ℕ, zero, suc, ◌<◌, ◌≤◌, ◌⊎◌, inl, inr, ⊎_elim, max, Bool, true, false, ◌||◌, is_some, if◌then◌else◌, Ordering, Less, Equal, Greater, nat_cmp, List, [], ◌∷◌, Option, Some, None, refl, sym, subst, arith, codes}
 use Rattle.std.specs.Cmp.Lexicographic.{slice_cmp}
 use Rattle.std.specs.Option.{option_to_list}
 use Rattle.std.specs.Ordering.{match_ordering}
 use Rattle.doc_tree.specs.Doc.{Doc, list, object, Elements, no_elements, element, Members, no_members, member, height, elements_height, members_height, get_member}
 use Rattle.schema_rules.specs.Keywords.{keyword_of, shape_of}
 use Rattle.schema_rules.specs.Parts.{elements_in, members_in, after}
-use Rattle.schema_rules.specs.Rules.{Ask, ask, asks, at_each, by_each, of_each, by_place, by_name, each_named, if_named, of_names, of_others, of_contained, at_target, after_if}
+use Rattle.schema_rules.specs.Rules.{Ask, ask, asks, at_each, by_each, of_each, by_place, by_name, each_named, if_named, of_names, of_matching, by_pattern, of_others, of_contained, at_target, after_if}
 use Rattle.doc_tree.specs.Lists.{elements_list, values_list}
+use Rattle.schema_pattern.specs.Patterns.{is_found, pattern_in}
+use Rattle.schema_pattern.specs.Tables.{some_found}
 use Rattle.schema_rules.specs.References.{target}
 use Rattle.doc_schema.specs.Schemas.{held_in, held_by, applied_by, applied_by_members}
 use Rattle.schema_graph.specs.Walks.{In, first, later}
 use Rattle.schema_rules.specs.declared.keyword.Keyword.{Keyword}
-use Rattle.schema_rules.specs.declared.keyword.Keyword.TheVariants.{Properties, AdditionalProperties, PropertyNames, PrefixItems, Items, Contains, MaxContains, AllOf, AnyOf, OneOf, Not, Then, Else, DependentSchemas, Ref}
-use Rattle.schema_graph.proofs.Among.{In-left, In-right, none_in}
+use Rattle.schema_rules.specs.declared.keyword.Keyword.TheVariants.{Properties, PatternProperties, AdditionalProperties, PropertyNames, PrefixItems, Items, Contains, MaxContains, AllOf, AnyOf, OneOf, Not, Then, Else, DependentSchemas, Ref}
+use Rattle.schema_graph.proofs.Among.{In-left, In-right, In-parts, none_in}
 use Rattle.schema_nodes.proofs.KeywordNames.{contains_is, if_is}
 use Rattle.std.proofs.lemmas.Map.Lookups.{exact_bytes}
 
@@ -61,9 +63,9 @@ by_place_within (element s ss) no_elements a i = none_in a i
 by_place_within (element s ss) (element t ts) _ first = record { most = omega arith; among = first }
 by_place_within (element s ss) (element t ts) a (later i) = let h = by_place_within ss ts a i in record { most = omega (arith, h.most); among = later h.among }
 
-of_others_within : (named : Members) (s : Doc) (ts : Members) (a : Ask) → In a (of_others named s ts) → Within (s ∷ []) (members_height ts) a
-of_others_within named s no_members a i = none_in a i
-of_others_within named s (member k t ts) a i = by_case (is_some (get_member k named)) s t (members_height ts) (of_others named s ts) a (of_others_within named s ts a) i
+of_others_within : (named : Members) (ps : List (List ℕ)) (s : Doc) (ts : Members) (a : Ask) → In a (of_others named ps s ts) → Within (s ∷ []) (members_height ts) a
+of_others_within named ps s no_members a i = none_in a i
+of_others_within named ps s (member k t ts) a i = by_case (is_some (get_member k named) || some_found ps k) s t (members_height ts) (of_others named ps s ts) a (of_others_within named ps s ts a) i
   where
     by_case : (b : Bool) (s t : Doc) (n : ℕ) (rest : List Ask) (a : Ask) → (In a rest → Within (s ∷ []) n a) → In a (if b then rest else (ask s t ∷ rest)) → Within (s ∷ []) (max (height t) n) a
     by_case true s t n rest a h i = let w = h i in record { most = omega (arith, w.most); among = w.among }
@@ -106,9 +108,33 @@ each_named_lower : (v t : Doc) (a : Ask) → In a (each_named v (members_in t)) 
 each_named_lower (object ss) t a i = by_name_lower ss t a i
 each_named_lower _ t a i = none_in a i
 
-of_others_lower : (named : Members) (s t : Doc) (a : Ask) → In a (of_others named s (members_in t)) → Lower (s ∷ []) t a
-of_others_lower named s (object ts) a i = within_lower _ (members_height ts) (object ts) a (omega arith) (of_others_within named s ts a i)
-of_others_lower named s _ a i = none_in a i
+of_others_lower : (named : Members) (ps : List (List ℕ)) (s t : Doc) (a : Ask) → In a (of_others named ps s (members_in t)) → Lower (s ∷ []) t a
+of_others_lower named ps s (object ts) a i = within_lower _ (members_height ts) (object ts) a (omega arith) (of_others_within named ps s ts a i)
+of_others_lower named ps s _ a i = none_in a i
+
+of_matching_within : (p : List ℕ) (s : Doc) (ts : Members) (a : Ask) → In a (of_matching p s ts) → Within (s ∷ []) (members_height ts) a
+of_matching_within p s no_members a i = none_in a i
+of_matching_within p s (member k t ts) a i = by_case (is_found (pattern_in p) k) s t (members_height ts) (of_matching p s ts) a (of_matching_within p s ts a) i
+  where
+    by_case : (b : Bool) (s t : Doc) (n : ℕ) (rest : List Ask) (a : Ask) → (In a rest → Within (s ∷ []) n a) → In a (if b then (ask s t ∷ rest) else rest) → Within (s ∷ []) (max (height t) n) a
+    by_case false s t n rest a h i = let w = h i in record { most = omega (arith, w.most); among = w.among }
+    by_case true s t n rest _ h first = record { most = omega arith; among = first }
+    by_case true s t n rest a h (later i) = let w = h i in record { most = omega (arith, w.most); among = w.among }
+
+by_pattern_within : (ss ts : Members) (a : Ask) → In a (by_pattern ss ts) → Within (values_list ss) (members_height ts) a
+by_pattern_within no_members ts a i = none_in a i
+by_pattern_within (member p s ss) ts a i = ⊎_elim
+    (λ h. (let w = of_matching_within p s ts a h in record { most = w.most; among = In-left a.schema (s ∷ []) (values_list ss) w.among }))
+    (λ h. (let w = by_pattern_within ss ts a h in record { most = w.most; among = later w.among }))
+    (In-parts a (of_matching p s ts) (by_pattern ss ts) i)
+
+by_pattern_lower : (ss : Members) (t : Doc) (a : Ask) → In a (by_pattern ss (members_in t)) → Lower (values_list ss) t a
+by_pattern_lower ss (object ts) a i = within_lower _ (members_height ts) (object ts) a (omega arith) (by_pattern_within ss ts a i)
+by_pattern_lower ss _ a i = of_none ss a i
+  where
+    of_none : {P : Type 0} (ss : Members) (a : Ask) → In a (by_pattern ss no_members) → P
+    of_none no_members a i = none_in a i
+    of_none (member p s ss) a i = of_none ss a i
 
 by_place_lower : (ss : Elements) (t : Doc) (a : Ask) → In a (by_place ss (elements_in t)) → Lower (elements_list ss) t a
 by_place_lower ss (list ts) a i = within_lower _ (elements_height ts) (list ts) a (omega arith) (by_place_within ss ts a i)
@@ -188,7 +214,8 @@ contained_lower ms t a (Some c) e i =
 -- by its own value, or by `if` or `contains` beside it
 asked : (root : Doc) (ms : Members) (k : Keyword) (v t : Doc) (a : Ask) → In a (asks root ms k v t) → Asked (applied_by root k v) (held_in (shape_of k) v) t a ⊎ Asked (applied_by_members root ms) (held_by ms) t a
 asked root ms Properties v t a i = inl (inr (each_named_lower v t a i))
-asked root ms AdditionalProperties v t a i = inl (inr (of_others_lower _ v t a i))
+asked root ms PatternProperties v t a i = inl (inr (by_pattern_lower (members_in v) t a i))
+asked root ms AdditionalProperties v t a i = inl (inr (of_others_lower _ _ v t a i))
 asked root ms PropertyNames v t a i = inl (inr (of_names_lower v t a i))
 asked root ms PrefixItems v t a i = inl (inr (by_place_lower (elements_in v) t a i))
 asked root ms Items v t a i = inl (inr (of_each_lower v _ t a i))

@@ -1,18 +1,19 @@
 -- A schema without a fault of profile 1 has none in later profiles and says the same, since no name in it became a keyword.
-use Rattle.std.proofs.Common.{◌≡◌, ⊎_elim, map, ℕ, zero, suc, ◌+◌, ◌*◌, ◌≤◌, List, [], ◌∷◌, ◌++◌, length, Bool, true, false, not, ◌||◌, Option, Some, None, option_map, refl, sym, ap, ap₂, subst, ◌∙◌}
+use Rattle.std.proofs.Common.{◌≡◌, ⊎_elim, map, ℕ, zero, suc, ◌+◌, ◌*◌, ◌≤◌, List, [], ◌∷◌, ◌++◌, length, codes, Bool, true, false, not, ◌||◌, Option, Some, None, option_map, refl, sym, ap, ap₂, subst, ◌∙◌}
 use Rattle.std.specs.Prelude.{⊤}
 use Rattle.doc_tree.specs.Doc.{Doc, null, boolean, int, text, list, object, Elements, no_elements, element, Members, no_members, member, height, Place, name, index}
 use Rattle.schema_graph.specs.Loops.{HasLoop, AreJoined}
 use Rattle.schema_graph.specs.Walks.{In, first, later}
 use Rattle.schema_graph.proofs.Among.{In-left, In-right}
 use Rattle.schema_rules.specs.Keywords.{keyword_of, shape_of}
-use Rattle.schema_rules.specs.Parts.{members_in}
+use Rattle.schema_rules.specs.Parts.{members_in, beside as with_name}
+use Rattle.doc_tree.specs.Lists.{names_list}
 use Rattle.schema_pattern.specs.Tables.{are_patterns}
 use Rattle.schema_rules.specs.PatternTexts.{offered_texts, texts_by, texts_in, texts_of}
 use Rattle.schema_rules.specs.Profiles.{offered}
 use Rattle.schema_rules.specs.Rules.{Ask, asks, joins}
 use Rattle.schema_rules.specs.declared.keyword.Keyword.{Keyword}
-use Rattle.schema_rules.specs.declared.keyword.Keyword.TheVariants.{DependentRequired, PropertyNames, Contains, MinContains, MaxContains, If, Then, Else, Pattern, DependentSchemas, LeftOut}
+use Rattle.schema_rules.specs.declared.keyword.Keyword.TheVariants.{DependentRequired, PropertyNames, Contains, MinContains, MaxContains, If, Then, Else, Pattern, PatternProperties, DependentSchemas, LeftOut}
 use Rattle.schema_rules.specs.declared.keyword.Shape.{Shape}
 use Rattle.schema_rules.specs.declared.keyword.Shape.TheVariants.{One, Several, Named}
 use Rattle.schema_rules.specs.declared.profile.Profile.{Profile}
@@ -31,6 +32,7 @@ use Rattle.doc_schema.specs.declared.defects.Defect.{Defect}
 use Rattle.doc_schema.specs.declared.defects.Defect.TheVariants.{Form, LeftOut as Omitted, Reference}
 use Rattle.doc_schema.proofs.Closed.{offered_are, own, schema_of, to_position}
 use Rattle.doc_schema.proofs.Fuel.{asked_by, part_in}
+use Rattle.doc_schema.proofs.Searchless.{unpatterned}
 use Rattle.doc_schema.proofs.Lifted.{loop_above}
 use Rattle.doc_schema.proofs.ProfileRows.{demoted, named, WasOne, same_shape, same_form, same_left_out, same_dangling, same_asks, same_joins, same_led}
 
@@ -46,6 +48,7 @@ stays If h = absurd (h refl)
 stays Then h = absurd (h refl)
 stays Else h = absurd (h refl)
 stays Pattern h = absurd (h refl)
+stays PatternProperties h = absurd (h refl)
 stays DependentSchemas h = absurd (h refl)
 stays _ h = refl
 
@@ -59,6 +62,7 @@ AllKept ps = (p : Position) → In p ps → Kept (members_in p.schema)
 -- a keyword of profile 1 is offered by each
 still : (profile : Profile) (k : Keyword) → WasOne k → offered profile k ≡ k
 still Two Pattern w = absurd cc
+still Two PatternProperties w = absurd cc
 still Two DependentSchemas w = absurd cc
 still Two _ w = refl
 still Three _ w = refl
@@ -155,6 +159,7 @@ joined_alike ms k v t w (Some bs) = ap (λ b. Some b) (same_joins ms k v t bs w)
 
 no_text : (profile : Profile) (k : Keyword) (v : Doc) → WasOne k → texts_of (offered profile k) v ≡ []
 no_text profile Pattern v w = absurd cc
+no_text profile PatternProperties v w = absurd cc
 no_text Two _ v w = refl
 no_text Three _ v w = refl
 
@@ -209,19 +214,19 @@ module _ (root : Doc) (none : HasDefect_1 Omitted root → ⊥) where
     answers_same [] h = refl
     answers_same (a ∷ xs) h = rw (same a.schema a.instance (h a first), answers_same xs (λ b i. h b (later i))) refl
 
-    all_same : (beside ms : Members) (t : Doc) → Kept ms → ((a : Ask) → In a (asked_by root beside ms t) → In a.schema (schemas root)) → all_say_1 (judge_1 root n) root beside ms t ≡ all_say (judge root n) root beside ms t
-    all_same beside no_members t kept h = refl
-    all_same beside (member k v ms) t kept h =
+    all_same : (beside ms : Members) (t : Doc) → names_list (members_in (with_name (codes "patternProperties") beside)) ≡ [] → Kept ms → ((a : Ask) → In a (asked_by root beside ms t) → In a.schema (schemas root)) → all_say_1 (judge_1 root n) root beside ms t ≡ all_say (judge root n) root beside ms t
+    all_same beside no_members t bare kept h = refl
+    all_same beside (member k v ms) t bare kept h =
         ap₂ both
         (ap (λ w. says_1 (judge_1 root n) root beside w v t) kept.0
-        ∙ ap (λ xs. option_map (joins_1 (keyword_of k) v t) (answers (judge_1 root n) xs)) (same_asks root beside (keyword_of k) v t (was k kept.0))
+        ∙ ap (λ xs. option_map (joins_1 (keyword_of k) v t) (answers (judge_1 root n) xs)) (same_asks root beside (keyword_of k) v t bare (was k kept.0))
         ∙ ap (option_map (joins_1 (keyword_of k) v t)) (answers_same (asks root beside (keyword_of k) v t) (λ a i. h a (In-left a _ _ i)))
         ∙ joined_alike beside (keyword_of k) v t (was k kept.0) (answers (judge root n) (asks root beside (keyword_of k) v t)))
-        (all_same beside ms t kept.1 (λ a i. h a (In-right a (asks root beside (keyword_of k) v t) _ i)))
+        (all_same beside ms t bare kept.1 (λ a i. h a (In-right a (asks root beside (keyword_of k) v t) _ i)))
 
   judge_same : (IsLoopedSchema root → ⊥) → (n : ℕ) (s t : Doc) → In s (schemas root) → judge_1 root n s t ≡ judge root n s t
   judge_same no_loop zero s t i = refl
-  judge_same no_loop (suc n) (object ms) t i = all_same n (judge_same no_loop n) ms ms t (kept_schema (object ms) i) (λ a j. part_in root no_loop (object ms) t a i j)
+  judge_same no_loop (suc n) (object ms) t i = all_same n (judge_same no_loop n) ms ms t (unpatterned ms (no_text_by Three ms (kept_schema (object ms) i))) (kept_schema (object ms) i) (λ a j. part_in root no_loop (object ms) t a i j)
   judge_same no_loop (suc n) (boolean b) t i = refl
   judge_same no_loop (suc n) null t i = refl
   judge_same no_loop (suc n) (int z) t i = refl

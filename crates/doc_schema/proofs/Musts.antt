@@ -6,7 +6,7 @@ use Rattle.schema_graph.proofs.Among.{In-left, In-right, In-parts, none_in}
 use Rattle.schema_rules.specs.Keywords.{keyword_of}
 use Rattle.schema_rules.specs.Rules.{Ask, ask, asks, every, joins}
 use Rattle.schema_rules.specs.declared.keyword.Keyword.{Keyword}
-use Rattle.schema_rules.specs.declared.keyword.Keyword.TheVariants.{Properties, AdditionalProperties, PropertyNames, PrefixItems, Items, AllOf, Ref}
+use Rattle.schema_rules.specs.declared.keyword.Keyword.TheVariants.{Properties, PatternProperties, AdditionalProperties, PropertyNames, PrefixItems, Items, AllOf, Ref}
 use Rattle.schema_changes.proofs.Children.{both_true, left_true, right_true}
 use Rattle.doc_schema.specs.Judge.{Judges, enough}
 use Rattle.doc_schema.specs.Must.{MustHold, whole, part, holds_itself, others_hold, wanted, wanted_by, wants_all}
@@ -17,6 +17,7 @@ use Rattle.doc_schema.proofs.Fuel.{asked_by, asked_of, enough_is, part_in, part_
 
 joined_all : (k : Keyword) (ms : Members) (v t : Doc) (bs : List Bool) → wants_all k ≡ true → joins ms k v t bs ≡ every bs
 joined_all Properties ms v t bs e = refl
+joined_all PatternProperties ms v t bs e = refl
 joined_all AdditionalProperties ms v t bs e = refl
 joined_all PropertyNames ms v t bs e = refl
 joined_all PrefixItems ms v t bs e = refl

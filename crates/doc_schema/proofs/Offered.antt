@@ -12,7 +12,7 @@ use Rattle.schema_rules.specs.PatternTexts.{offered_texts, pattern_texts, texts_
 use Rattle.schema_rules.specs.Profiles.{offered}
 use Rattle.schema_rules.specs.Schemas as alone
 use Rattle.schema_rules.specs.declared.keyword.Keyword.{Keyword}
-use Rattle.schema_rules.specs.declared.keyword.Keyword.TheVariants.{Pattern, DependentSchemas, LeftOut}
+use Rattle.schema_rules.specs.declared.keyword.Keyword.TheVariants.{Pattern, PatternProperties, DependentSchemas, LeftOut}
 use Rattle.schema_rules.specs.declared.keyword.Shape.{Shape}
 use Rattle.schema_rules.specs.declared.keyword.Shape.TheVariants.{One, Several, Named}
 use Rattle.schema_rules.specs.declared.profile.Profile.{Profile}
@@ -29,6 +29,7 @@ use Rattle.doc_schema.proofs.Closed.{offered_are, schema_of, schemas_are}
 
 stays : (profile : Profile) (k : Keyword) → (offered profile k ≡ LeftOut → ⊥) → offered profile k ≡ k
 stays Two Pattern h = absurd (h refl)
+stays Two PatternProperties h = absurd (h refl)
 stays Two DependentSchemas h = absurd (h refl)
 stays Two _ h = refl
 stays Three _ h = refl
@@ -150,6 +151,7 @@ faultless_stays profile s f = record {
 
 none_of : (k : Keyword) (v : Doc) → texts_of (offered Two k) v ≡ []
 none_of Pattern v = refl
+none_of PatternProperties v = refl
 none_of DependentSchemas v = refl
 none_of _ v = refl
 

@@ -1,5 +1,5 @@
 -- The rows of profile 1 are those of profile 2 for each keyword that profile 1 had.
-use Rattle.std.proofs.Common.{◌≡◌, ℕ, suc, List, [], ◌∷◌, ◌++◌, Bool, true, false, ◌&&◌, ◌||◌, if◌then◌else◌, length, codes, Option, Some, None, option_map, is_some, refl, ap, ap₂, ◌∙◌}
+use Rattle.std.proofs.Common.{◌≡◌, ℕ, suc, List, [], ◌∷◌, ◌++◌, Bool, true, false, ◌&&◌, ◌||◌, if◌then◌else◌, length, codes, Option, Some, None, option_map, is_some, refl, sym, ap, ap₂, ◌∙◌}
 use Rattle.std.specs.List.{list_any, list_all}
 use Rattle.std.specs.Str.{bytes_eq, chars}
 use Rattle.doc_tree.specs.Doc.{Doc, null, boolean, int, text, list, object, Elements, no_elements, element, Members, no_members, member, get_member, Place, index}
@@ -11,7 +11,7 @@ use Rattle.schema_rules.specs.Parts.{elements_in, members_in, after, beside}
 use Rattle.schema_rules.specs.References.{is_dangling, target}
 use Rattle.schema_rules.specs.Rules.{Ask, ask, asks, joins, at_each, of_each, by_place, by_name, each_named, if_named, of_others}
 use Rattle.schema_rules.specs.declared.keyword.Keyword.{Keyword}
-use Rattle.schema_rules.specs.declared.keyword.Keyword.TheVariants.{OfType, Enumeration, Constant, MultipleOf, Minimum, Maximum, ExclusiveMinimum, ExclusiveMaximum, MinLength, MaxLength, MinItems, MaxItems, UniqueItems, MinProperties, MaxProperties, Required, DependentRequired, Properties, AdditionalProperties, PropertyNames, PrefixItems, Items, Contains, MinContains, MaxContains, AllOf, AnyOf, OneOf, Not, If, Then, Else, Pattern, DependentSchemas, Defs, Ref, Id, Dialect, LeftOut}
+use Rattle.schema_rules.specs.declared.keyword.Keyword.TheVariants.{OfType, Enumeration, Constant, MultipleOf, Minimum, Maximum, ExclusiveMinimum, ExclusiveMaximum, MinLength, MaxLength, MinItems, MaxItems, UniqueItems, MinProperties, MaxProperties, Required, DependentRequired, Properties, AdditionalProperties, PropertyNames, PrefixItems, Items, Contains, MinContains, MaxContains, AllOf, AnyOf, OneOf, Not, If, Then, Else, Pattern, PatternProperties, DependentSchemas, Defs, Ref, Id, Dialect, LeftOut}
 use Rattle.doc_schema.specs.Loops.{led_by, elements_at}
 use Rattle.doc_schema.specs.Positions.{position}
 use Rattle.doc_schema.specs.Profile1Forms.{is_type_1, is_text_1, is_list_of_distinct_1, has_form_1, is_left_out_1, is_dangling_1}
@@ -31,6 +31,7 @@ demoted If = LeftOut
 demoted Then = LeftOut
 demoted Else = LeftOut
 demoted Pattern = LeftOut
+demoted PatternProperties = LeftOut
 demoted DependentSchemas = LeftOut
 demoted k = k
 
@@ -75,7 +76,7 @@ core_demoted s = found_demoted ((codes "$defs", Defs) ∷ (codes "$ref", Ref) �
 
 not_offered_demoted : Demoted not_offered_1 not_offered
 unfolding not_offered_1 not_offered
-not_offered_demoted s = found_demoted ((codes "pattern", Pattern) ∷ (codes "patternProperties", LeftOut) ∷ (codes "unevaluatedItems", LeftOut) ∷ (codes "unevaluatedProperties", LeftOut) ∷ (codes "dependentSchemas", DependentSchemas) ∷ (codes "$anchor", LeftOut) ∷ (codes "$dynamicRef", LeftOut) ∷ (codes "$dynamicAnchor", LeftOut) ∷ (codes "$vocabulary", LeftOut) ∷ []) s
+not_offered_demoted s = found_demoted ((codes "pattern", Pattern) ∷ (codes "patternProperties", PatternProperties) ∷ (codes "unevaluatedItems", LeftOut) ∷ (codes "unevaluatedProperties", LeftOut) ∷ (codes "dependentSchemas", DependentSchemas) ∷ (codes "$anchor", LeftOut) ∷ (codes "$dynamicRef", LeftOut) ∷ (codes "$dynamicAnchor", LeftOut) ∷ (codes "$vocabulary", LeftOut) ∷ []) s
 
 or_else_demoted : (a b : Option Keyword) {a₁ b₁ : Option Keyword} → a₁ ≡ option_map demoted a → b₁ ≡ option_map demoted b → or_else_1 a₁ b₁ ≡ option_map demoted (or_else a b)
 or_else_demoted a b e f = ap₂ or_else_1 e f ∙ by_first a
@@ -105,6 +106,7 @@ same_shape If w = absurd cc
 same_shape Then w = absurd cc
 same_shape Else w = absurd cc
 same_shape Pattern w = absurd cc
+same_shape PatternProperties w = absurd cc
 same_shape DependentSchemas w = absurd cc
 same_shape _ w = refl
 
@@ -131,6 +133,7 @@ same_form at_root DependentRequired v w = absurd cc
 same_form at_root MinContains v w = absurd cc
 same_form at_root MaxContains v w = absurd cc
 same_form at_root Pattern v w = absurd cc
+same_form at_root PatternProperties v w = absurd cc
 same_form at_root DependentSchemas v w = absurd cc
 same_form at_root OfType v w = ap₂ (λ a b. a || b) (type_alike v) (distinct_alike is_type_1 is_type type_alike v)
 same_form at_root Required v w = distinct_alike is_text_1 is_text text_alike v
@@ -227,26 +230,32 @@ each_named_alike (int z) ts = no_name ts
 each_named_alike (text s) ts = no_name ts
 each_named_alike (list ds) ts = no_name ts
 
-of_others_alike : (known : Members) (s : Doc) (ts : Members) → of_others_1 known s ts ≡ of_others known s ts
+-- without patterns
+of_others_alike : (known : Members) (s : Doc) (ts : Members) → of_others_1 known s ts ≡ of_others known [] s ts
 of_others_alike known s no_members = refl
-of_others_alike known s (member k t ts) = ap (λ l. if is_some (get_member k known) then l else (ask s t ∷ l)) (of_others_alike known s ts)
+of_others_alike known s (member k t ts) = by_test (is_some (get_member k known)) (of_others_alike known s ts)
+  where
+    by_test : (b : Bool) → of_others_1 known s ts ≡ of_others known [] s ts → (if b then of_others_1 known s ts else (ask s t ∷ of_others_1 known s ts)) ≡ (if b || false then of_others known [] s ts else (ask s t ∷ of_others known [] s ts))
+    by_test true same = same
+    by_test false same = ap (λ l. ask s t ∷ l) same
 
-pub same_asks : (root : Doc) (ms : Members) (k : Keyword) (v t : Doc) → WasOne k → asks_1 root ms k v t ≡ asks root ms k v t
-same_asks root ms PropertyNames v t w = absurd cc
-same_asks root ms Contains v t w = absurd cc
-same_asks root ms MaxContains v t w = absurd cc
-same_asks root ms Then v t w = absurd cc
-same_asks root ms Else v t w = absurd cc
-same_asks root ms DependentSchemas v t w = absurd cc
-same_asks root ms Properties v t w = each_named_alike v (members_in t)
-same_asks root ms AdditionalProperties v t w = of_others_alike (members_in (beside (codes "properties") ms)) v (members_in t)
-same_asks root ms PrefixItems v t w = by_place_alike (elements_in v) (elements_in t)
-same_asks root ms Items v t w = of_each_alike v (after (length (elements_list (elements_in (beside (codes "prefixItems") ms)))) (elements_in t))
-same_asks root ms AllOf v t w = at_each_alike (elements_in v) t
-same_asks root ms AnyOf v t w = at_each_alike (elements_in v) t
-same_asks root ms OneOf v t w = at_each_alike (elements_in v) t
-same_asks root ms Ref v t w = if_named_alike (target root v) t []
-same_asks root ms _ v t w = refl
+pub same_asks : (root : Doc) (ms : Members) (k : Keyword) (v t : Doc) → names_list (members_in (beside (codes "patternProperties") ms)) ≡ [] → WasOne k → asks_1 root ms k v t ≡ asks root ms k v t
+same_asks root ms PropertyNames v t none w = absurd cc
+same_asks root ms Contains v t none w = absurd cc
+same_asks root ms MaxContains v t none w = absurd cc
+same_asks root ms Then v t none w = absurd cc
+same_asks root ms Else v t none w = absurd cc
+same_asks root ms PatternProperties v t none w = absurd cc
+same_asks root ms DependentSchemas v t none w = absurd cc
+same_asks root ms Properties v t none w = each_named_alike v (members_in t)
+same_asks root ms AdditionalProperties v t none w = of_others_alike (members_in (beside (codes "properties") ms)) v (members_in t) ∙ sym (ap (λ ps. of_others (members_in (beside (codes "properties") ms)) ps v (members_in t)) none)
+same_asks root ms PrefixItems v t none w = by_place_alike (elements_in v) (elements_in t)
+same_asks root ms Items v t none w = of_each_alike v (after (length (elements_list (elements_in (beside (codes "prefixItems") ms)))) (elements_in t))
+same_asks root ms AllOf v t none w = at_each_alike (elements_in v) t
+same_asks root ms AnyOf v t none w = at_each_alike (elements_in v) t
+same_asks root ms OneOf v t none w = at_each_alike (elements_in v) t
+same_asks root ms Ref v t none w = if_named_alike (target root v) t []
+same_asks root ms _ v t none w = refl
 
 pub same_joins : (ms : Members) (k : Keyword) (v t : Doc) (bs : List Bool) → WasOne k → joins_1 k v t bs ≡ joins ms k v t bs
 same_joins ms Properties v t bs w = refl
@@ -264,6 +273,7 @@ same_joins ms MaxContains v t bs w = absurd cc
 same_joins ms Then v t bs w = absurd cc
 same_joins ms Else v t bs w = absurd cc
 same_joins ms Pattern v t bs w = absurd cc
+same_joins ms PatternProperties v t bs w = absurd cc
 same_joins ms DependentSchemas v t bs w = absurd cc
 same_joins ms k v t bs w = same_asserts k v t w
 

@@ -77,12 +77,12 @@ member_next ss k v es left o e f = ap (λ l. by_name ss (members_view l)) e ∙ 
 
 -- a member that is named is passed over, another is asked
 pub other_named : (ns : Members) (s : Doc) (k : String Global) (v : Tree) (es left : List (String Global × Tree)) → es ≡ (k, v) ∷ left → true ≡ is_some (get_member (string_bytes k) ns)
-    → of_others ns s (members_view es) ≡ of_others ns s (members_view left)
-other_named ns s k v es left e h = ap (λ l. of_others ns s (members_view l)) e ∙ sym (ap (λ b. if b then of_others ns s (members_view left) else (ask s (view v) ∷ of_others ns s (members_view left))) h)
+    → of_others ns [] s (members_view es) ≡ of_others ns [] s (members_view left)
+other_named ns s k v es left e h = ap (λ l. of_others ns [] s (members_view l)) e ∙ sym (ap (λ b. if b || false then of_others ns [] s (members_view left) else (ask s (view v) ∷ of_others ns [] s (members_view left))) h)
 
 pub other_next : (ns : Members) (s : Doc) (k : String Global) (v : Tree) (es left : List (String Global × Tree)) → es ≡ (k, v) ∷ left → false ≡ is_some (get_member (string_bytes k) ns)
-    → of_others ns s (members_view es) ≡ ask s (view v) ∷ of_others ns s (members_view left)
-other_next ns s k v es left e h = ap (λ l. of_others ns s (members_view l)) e ∙ sym (ap (λ b. if b then of_others ns s (members_view left) else (ask s (view v) ∷ of_others ns s (members_view left))) h)
+    → of_others ns [] s (members_view es) ≡ ask s (view v) ∷ of_others ns [] s (members_view left)
+other_next ns s k v es left e h = ap (λ l. of_others ns [] s (members_view l)) e ∙ sym (ap (λ b. if b || false then of_others ns [] s (members_view left) else (ask s (view v) ∷ of_others ns [] s (members_view left))) h)
 
 -- the next schema by name
 pub each_next : (t : Doc) (k : String Global) (v : Tree) (es left : List (String Global × Tree)) → es ≡ (k, v) ∷ left → by_each (members_view es) t ≡ ask (view v) t ∷ by_each (members_view left) t

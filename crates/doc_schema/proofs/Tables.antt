@@ -1,5 +1,5 @@
 -- What the schemas of the numbers say in the end is a table of the nodes, so what a judge by nodes answers is the judgement.
-use Rattle.std.proofs.Common.{◌≡◌, ℕ, Bool, true, ◌&&◌, List, [], ◌∷◌, map, Option, Some, None, refl, sym, ap, ap₂, ◌∙◌, ⊎_elim, arith}
+use Rattle.std.proofs.Common.{◌≡◌, ℕ, Bool, true, ◌&&◌, List, [], ◌∷◌, ◌++◌, map, Option, Some, None, refl, sym, ap, ap₂, ◌∙◌, ⊎_elim, arith}
 use Rattle.doc_tree.specs.Doc.{Doc, null, boolean, int, text, list, object, Members, no_members, member, Place}
 use Rattle.schema_rules.specs.Keywords.{keyword_of}
 use Rattle.schema_rules.specs.Rules.{joins}
@@ -7,12 +7,12 @@ use Rattle.schema_levels.specs.Nodes.{node_get}
 use Rattle.schema_levels.specs.Rules.{Rule}
 use Rattle.schema_levels.specs.Table.{IsTable, node_passes, passes_at, rule_of, rules_pass, told_by}
 use Rattle.schema_levels.specs.declared.node.Node.{Node}
-use Rattle.schema_levels.proofs.Tables.{and_true, passes_at_get, passes_past}
+use Rattle.schema_levels.proofs.Tables.{and_true, and_assoc, passes_at_get, passes_past}
 use Rattle.schema_changes.specs.Agree.{AgreeButShifted, AgreeOff, AgreeOffEach}
 use Rattle.schema_changes.specs.Again.{IsPassedAfter, IsPassedAgain, IsPassedShifted}
 use Rattle.schema_nodes.specs.Compiled.{IsCompiled}
 use Rattle.schema_nodes.specs.Nodes.{IsNodeFor}
-use Rattle.schema_nodes.specs.Rules.{schemas_asked, AreRulesOf}
+use Rattle.schema_nodes.specs.Rules.{schemas_asked, all_asked, AreRulesFor}
 use Rattle.doc_schema.specs.Judge.{Judges, enough}
 use Rattle.doc_schema.specs.Schemas.{IsLoopedSchema}
 use Rattle.doc_schema.specs.Steps.{told, all_hold, passes, verdict}
@@ -25,12 +25,17 @@ module _ (root : Doc) (schema : ℕ → Doc) (known : Doc → Doc → Bool) wher
   told_join [] = refl
   told_join (a ∷ xs) = ap (λ bs. known (schema a.0) a.1 ∷ bs) (told_join xs)
 
-  rules_join : (beside : Members) (rules : List Rule) (ms : Members) (t : Doc) → AreRulesOf root schema beside rules ms → rules_pass (λ q u. known (schema q) u) rules t ≡ all_hold known root beside ms t
-  rules_join beside [] no_members t h = refl
-  rules_join beside (r ∷ rules) (member k v ms) t h =
-      ap₂ (λ a b. a && b) (h.1 t (told_by (λ q u. known (schema q) u) (r.asked t)) ∙ ap (joins beside (keyword_of k) v t) (told_join (r.asked t) ∙ ap (told known) (h.0 t))) (rules_join beside rules ms t h.2)
-  rules_join beside [] (member k v ms) t h = absurd h
-  rules_join beside (r ∷ rules) no_members t h = absurd h
+  pass_append : (rs more : List Rule) (t : Doc) → rules_pass (λ q u. known (schema q) u) (rs ++ more) t ≡ (rules_pass (λ q u. known (schema q) u) rs t && rules_pass (λ q u. known (schema q) u) more t)
+  pass_append [] more t = refl
+  pass_append (r ∷ rs) more t =
+      let one = r.joined t (told_by (λ q u. known (schema q) u) (r.asked t)) in
+      ap (λ b. one && b) (pass_append rs more t) ∙ sym (and_assoc one (rules_pass (λ q u. known (schema q) u) rs t) (rules_pass (λ q u. known (schema q) u) more t))
+
+  rules_join : (beside : Members) (rules : List Rule) (ms : Members) (t : Doc) → AreRulesFor root schema beside rules ms → rules_pass (λ q u. known (schema q) u) rules t ≡ all_hold known root beside ms t
+  rules_join beside rules no_members t h = ap (λ rs. rules_pass (λ q u. known (schema q) u) rs t) h
+  rules_join beside rules (member k v ms) t h =
+      let mine = h.3.joined (λ q u. known (schema q) u) t ∙ ap (joins beside (keyword_of k) v t) (told_join (all_asked h.0 t) ∙ ap (told known) (h.3.asked t)) in
+      ap (λ rs. rules_pass (λ q u. known (schema q) u) rs t) h.2 ∙ pass_append h.0 h.1 t ∙ ap₂ (λ a b. a && b) mine (rules_join beside h.1 ms t h.4)
 
   says : (x : Node) (s t : Doc) → IsNodeFor root schema x s → node_passes (λ q u. known (schema q) u) x t ≡ passes known root s t
   says x (boolean b) t h = ap (λ rs. rules_pass (λ q u. known (schema q) u) (map (rule_of x) rs) t) h ∙ and_true b

@@ -6,7 +6,7 @@ use Rattle.schema_graph.specs.Walks.{In}
 use Rattle.schema_rules.specs.Keywords.{keyword_of}
 use Rattle.schema_rules.specs.Rules.{Ask, ask, asks}
 use Rattle.schema_rules.specs.declared.keyword.Keyword.{Keyword}
-use Rattle.schema_rules.specs.declared.keyword.Keyword.TheVariants.{Properties, AdditionalProperties, PropertyNames, PrefixItems, Items, AllOf, Ref}
+use Rattle.schema_rules.specs.declared.keyword.Keyword.TheVariants.{Properties, PatternProperties, AdditionalProperties, PropertyNames, PrefixItems, Items, AllOf, Ref}
 use Rattle.doc_schema.specs.Judge.{Judges}
 use Rattle.doc_schema.specs.Steps.{holds, verdict}
 
@@ -15,6 +15,7 @@ use Rattle.doc_schema.specs.Steps.{holds, verdict}
 -- the keyword holds exactly when each schema that it applies does
 abbrev pub wants_all : Keyword → Bool
 wants_all Properties = true
+wants_all PatternProperties = true
 wants_all AdditionalProperties = true
 wants_all PropertyNames = true
 wants_all PrefixItems = true

@@ -63,6 +63,7 @@ fn member_holds(
     requires plain { IsPlain (view root.now) }
     requires placed { ArePlaced (view root.now) (asks (view root.now) (members_view siblings.now.entries) keyword (view value.now) (seen instance)) }
     requires searchless { texts_of keyword (view value.now) ≡ [] }
+    requires unpatterned { names_list (members_in (beside (codes "patternProperties") (members_view siblings.now.entries))) ≡ [] }
     ensures { result ≡ holds (verdict (view root.now)) (view root.now) (members_view siblings.now.entries) keyword (view value.now) (seen instance.entry) }
 {
     match keyword {
@@ -103,6 +104,7 @@ fn member_holds(
         },
         Keyword::Ref => found_accepts(root, target(root, value), instance),
         Keyword::Pattern => true,
+        Keyword::PatternProperties => true,
         _ => asserts(keyword, value, instance),
     }
 }
@@ -289,7 +291,7 @@ fn named_accepted(root: &Tree, schemas: &NameMap<Tree>, members: &NameMap<Tree>)
     true
 }
 
-// Whether the schema accepts each member that `properties` beside it doesn't name.
+// Whether the schema accepts each member that `properties` beside it doesn't name, with no `patternProperties` beside.
 #[cycle(judge)]
 fn others_accepted(
     root: &Tree,
@@ -298,9 +300,9 @@ fn others_accepted(
     members: &NameMap<Tree>,
 ) -> bool
     requires plain { IsPlain (view root.now) }
-    requires placed { ArePlaced (view root.now) (of_others (members_in (beside (codes "properties") (members_view siblings.now.entries))) (view schema.now) (members_view members.now.entries)) }
+    requires placed { ArePlaced (view root.now) (of_others (members_in (beside (codes "properties") (members_view siblings.now.entries))) [] (view schema.now) (members_view members.now.entries)) }
     ensures { result ≡ every (told (verdict (view root.now))
-        (of_others (members_in (beside (codes "properties") (members_view siblings.now.entries))) (view schema.now) (members_view members.now.entries))) }
+        (of_others (members_in (beside (codes "properties") (members_view siblings.now.entries))) [] (view schema.now) (members_view members.now.entries))) }
 {
     for (name, member) in members.iter() {
         if !is_named(siblings, name.as_str())

@@ -6,7 +6,7 @@ pub const MOST_BYTES: u64 = 262_144;
 /// How deep lists and objects of a schema nest at most.
 pub const MOST_HEIGHT: u64 = 64;
 
-/// Patterns of a schema at most: each text of `pattern`, also one that is there twice.
+/// Patterns of a schema at most: each text of `pattern` and each name of `patternProperties`, also one that is there twice.
 pub const MOST_PATTERNS: usize = 64;
 
 /// Bytes of a pattern at most.

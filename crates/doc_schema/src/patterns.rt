@@ -2,9 +2,11 @@
 
 ghost use Rattle.std.specs.Prelude.{◌≡◌, ◌++◌, ◌⊎◌, IfErr, IfOk, false, length, map, nat_lt, true};
 ghost use Rattle.std.specs.List.{list_any};
+ghost use Rattle.doc_tree.specs.Lists.{names_list};
 ghost use Rattle.doc_tree.specs.TreeView.{view, elements_view, members_view};
 ghost use Rattle.refusals.specs.declared.numbers.TheConstants.{MEMORY, SCHEMA_FORM};
 ghost use Rattle.schema_pattern.specs.Tables.{are_patterns, pattern_sources};
+ghost use Rattle.schema_rules.specs.Parts.{members_in};
 ghost use Rattle.schema_rules.specs.PatternTexts.{offered_texts, texts_by, texts_in, texts_of};
 ghost use Rattle.schema_rules.specs.declared.keyword.Keyword.TheVariants as keywords;
 ghost use Rattle.schema_rules.specs.Schemas.{offered_below, offered_each, offered_in, offered_named};
@@ -167,6 +169,7 @@ fn with_texts<'s>(
 {
     match keyword {
         Keyword::Pattern => with_text(value, found),
+        Keyword::PatternProperties => with_names(value, found),
         _ => Ok(found),
     }
 }
@@ -177,6 +180,29 @@ fn with_text<'s>(value: &'s Tree, before: Vec<&'s str>) -> Result<Vec<&'s str>, 
     let mut found = before;
     if let Tree::Text(text) = value {
         found.push(text.as_str())?;
+    }
+    Ok(found)
+}
+
+#[tactic(auto, using(crate::proofs::Collecting::nothing_added))]
+fn with_names<'s>(value: &'s Tree, found: Vec<&'s str>) -> Result<Vec<&'s str>, AllocError>
+    ensures { IfOk result (λ v. map (λ s. s.now) v.items ≡ map (λ s. s.now) found.entry.items ++ names_list (members_in (view value.now))) }
+{
+    match value {
+        Tree::Object(members) => with_each_name(members, found),
+        _ => Ok(found),
+    }
+}
+
+fn with_each_name<'s>(
+    members: &'s NameMap<Tree>,
+    before: Vec<&'s str>,
+) -> Result<Vec<&'s str>, AllocError>
+    ensures { IfOk result (λ v. map (λ s. s.now) v.items ≡ map (λ s. s.now) before.entry.items ++ names_list (members_view members.now.entries)) }
+{
+    let mut found = before;
+    for (name, _) in members.iter() {
+        found.push(name.as_str())?;
     }
     Ok(found)
 }

@@ -10,7 +10,7 @@ use Rattle.schema_levels.specs.Nodes.{asked_below, AreOrdered}
 use Rattle.schema_levels.specs.PlaceInValue.{PlaceInValue, member_name}
 use Rattle.schema_levels.specs.declared.node.Node.{Node}
 use Rattle.schema_levels.specs.declared.node.Rule.{Rule}
-use Rattle.schema_levels.specs.declared.node.Rule.TheVariants.{Says, Asserts, Matches, All, Any, One, Not, Then, Else, Dependent, Refers, Properties, Others, Names, ByPlace, Rest, Contains, AtLeast, AtMost}
+use Rattle.schema_levels.specs.declared.node.Rule.TheVariants.{Says, Asserts, Matches, All, Any, One, Not, Then, Else, Dependent, Refers, Properties, Matching, Others, Names, ByPlace, Rest, Contains, AtLeast, AtMost}
 use Rattle.schema_changes.specs.Again.{AllPass, NamePasses, Tells, ValuePasses, collect_must, mark_must_below, must_all_below, must_below}
 use Rattle.schema_changes.proofs.Marking.{mark_must_below_is, walk_in, walk_out}
 
@@ -30,7 +30,8 @@ in_below x p (Dependent ns v) j at = at
 in_below x p (Matches n v) j at = at
 in_below x p (Refers k) j at = at
 in_below x p Properties j at = at
-in_below x p (Others k) j at = at
+in_below x p (Matching q k) j at = at
+in_below x p (Others qs k) j at = at
 in_below x p (Names k) j at = at
 in_below x p (ByPlace v) j at = at
 in_below x p (Rest k) j at = at

@@ -13,7 +13,7 @@ use Rattle.schema_levels.specs.PlaceInValue.{PlaceInValue}
 use Rattle.schema_levels.specs.Table.{Child, rules_lower, rules_together}
 use Rattle.schema_levels.specs.declared.node.Node.{Node}
 use Rattle.schema_levels.specs.declared.node.Rule.{Rule}
-use Rattle.schema_levels.specs.declared.node.Rule.TheVariants.{Says, Asserts, Matches, All, Any, One, Not, Then, Else, Dependent, Refers, Properties, Others, Names, ByPlace, Rest, Contains, AtLeast, AtMost}
+use Rattle.schema_levels.specs.declared.node.Rule.TheVariants.{Says, Asserts, Matches, All, Any, One, Not, Then, Else, Dependent, Refers, Properties, Matching, Others, Names, ByPlace, Rest, Contains, AtLeast, AtMost}
 use Rattle.schema_levels.proofs.Sweeps.{rule_agrees}
 use Rattle.schema_changes.specs.Again.{anew_here, counts, is_list, must_below, must_all_below, must_here, must_all_here, rule_again, rules_again, some_counts}
 use Rattle.schema_changes.proofs.Marking.{anew_all_here}
@@ -44,7 +44,8 @@ module _ (f : ℕ → Bool) (t : Doc) where
   here_from (Dependent ns v) h e = e
   here_from (Matches n v) h e = e
   here_from Properties h e = e
-  here_from (Others j) h e = e
+  here_from (Matching q j) h e = e
+  here_from (Others qs j) h e = e
   here_from (Names j) h e = e
   here_from (ByPlace v) h e = e
   here_from (Rest j) h e = e
@@ -65,7 +66,8 @@ module _ (f : ℕ → Bool) (t : Doc) where
   again_from (Dependent ns v) e = e
   again_from (Matches n v) e = e
   again_from Properties e = e
-  again_from (Others j) e = e
+  again_from (Matching q j) e = e
+  again_from (Others qs j) e = e
   again_from (Names j) e = e
   again_from (ByPlace v) e = e
   again_from (Rest j) e = e
@@ -87,7 +89,8 @@ module _ (f : ℕ → Bool) (t : Doc) where
   must_from (Dependent ns v) j e i = none_in j i
   must_from (Matches n v) j e i = none_in j i
   must_from Properties j e i = none_in j i
-  must_from (Others k) j e i = none_in j i
+  must_from (Matching q k) j e i = none_in j i
+  must_from (Others qs k) j e i = none_in j i
   must_from (Names k) j e i = none_in j i
   must_from (ByPlace v) j e i = none_in j i
   must_from (Rest k) j e i = none_in j i
@@ -127,7 +130,8 @@ again_agrees f g t (Else c j) h = rule_agrees f g t (Else c j) h
 again_agrees f g t (Dependent ns v) h = rule_agrees f g t (Dependent ns v) h
 again_agrees f g t (Matches n v) h = refl
 again_agrees f g t Properties h = refl
-again_agrees f g t (Others j) h = refl
+again_agrees f g t (Matching q j) h = refl
+again_agrees f g t (Others qs j) h = refl
 again_agrees f g t (Names j) h = refl
 again_agrees f g t (ByPlace v) h = refl
 again_agrees f g t (Rest j) h = refl
@@ -165,7 +169,8 @@ module _ (f : ℕ → Bool) (x : Node) (p : PlaceInValue) where
   rule_below_is (Refers j) = refl
   rule_below_is (Matches n v) = refl
   rule_below_is Properties = refl
-  rule_below_is (Others j) = refl
+  rule_below_is (Matching q j) = refl
+  rule_below_is (Others qs j) = refl
   rule_below_is (Names j) = refl
   rule_below_is (ByPlace v) = refl
   rule_below_is (Rest j) = refl
@@ -213,7 +218,8 @@ module _ (found : ℕ → Bool) (many : ℕ → ℕ) where
   says_alone (Refers j) e = refl
   says_alone (Matches n v) e = refl
   says_alone Properties e = refl
-  says_alone (Others j) e = refl
+  says_alone (Matching q j) e = refl
+  says_alone (Others qs j) e = refl
   says_alone (Names j) e = refl
   says_alone (ByPlace v) e = refl
   says_alone (Rest j) e = refl

@@ -11,7 +11,7 @@ use Rattle.schema_levels.specs.Nodes.{AreOrdered}
 use Rattle.schema_levels.specs.Table.{IsTable}
 use Rattle.schema_levels.specs.declared.node.Node.{Node}
 use Rattle.schema_levels.specs.declared.node.Rule.{Rule}
-use Rattle.schema_levels.specs.declared.node.Rule.TheVariants.{Says, Asserts, Matches, All, Any, One, Not, Then, Else, Dependent, Refers, Properties, Others, Names, ByPlace, Rest, Contains, AtLeast, AtMost}
+use Rattle.schema_levels.specs.declared.node.Rule.TheVariants.{Says, Asserts, Matches, All, Any, One, Not, Then, Else, Dependent, Refers, Properties, Matching, Others, Names, ByPlace, Rest, Contains, AtLeast, AtMost}
 use Rattle.schema_changes.specs.Agree.{AgreeBeside, AgreeButShifted, AtBoth, HasOneMore, IsShifted}
 use Rattle.schema_changes.specs.Again.{AllPass, AreSteady, HoldsAlong, HoldsShifted, IsSteadyAt, PassBelow, all_steady, asked_at, closed, is_steady, must_all_below, must_below, site_of}
 use Rattle.schema_changes.proofs.Children.{left_true, right_true, same_place}
@@ -42,7 +42,8 @@ same_rule n k m x (Else c j) e le le' = refl
 same_rule n k m x (Dependent ns v) e le le' = refl
 same_rule n k m x (Refers j) e le le' = refl
 same_rule n k m x Properties e le le' = refl
-same_rule n k m x (Others j) e le le' = refl
+same_rule n k m x (Matching q j) e le le' = refl
+same_rule n k m x (Others qs j) e le le' = refl
 same_rule n k m x (Names j) e le le' = refl
 same_rule n k m x (Contains j) e le le' = refl
 same_rule n k m x (AtLeast j v) e le le' = refl

@@ -10,7 +10,7 @@ use Rattle.schema_levels.specs.Nodes.{asked_here, node_get, AreOrdered}
 use Rattle.schema_levels.specs.Table.{IsTable}
 use Rattle.schema_levels.specs.declared.node.Node.{Node}
 use Rattle.schema_levels.specs.declared.node.Rule.{Rule}
-use Rattle.schema_levels.specs.declared.node.Rule.TheVariants.{Says, Asserts, Matches, All, Any, One, Not, Then, Else, Dependent, Refers, Properties, Others, Names, ByPlace, Rest, Contains, AtLeast, AtMost}
+use Rattle.schema_levels.specs.declared.node.Rule.TheVariants.{Says, Asserts, Matches, All, Any, One, Not, Then, Else, Dependent, Refers, Properties, Matching, Others, Names, ByPlace, Rest, Contains, AtLeast, AtMost}
 use Rattle.schema_levels.proofs.Marks.{mark_append}
 use Rattle.schema_levels.proofs.Tables.{within_get}
 use Rattle.schema_changes.specs.Again.{AllAgain, AllPass, Tells, anew_here, collect_anew, is_list, mark_anew, node_again, one_if, rules_again, some_counts}
@@ -31,7 +31,8 @@ in_here (Says b) j at = none_in j at
 in_here (Asserts a) j at = none_in j at
 in_here (Matches n v) j at = none_in j at
 in_here Properties j at = none_in j at
-in_here (Others k) j at = none_in j at
+in_here (Matching q k) j at = none_in j at
+in_here (Others qs k) j at = none_in j at
 in_here (Names k) j at = none_in j at
 in_here (ByPlace v) j at = none_in j at
 in_here (Rest k) j at = none_in j at

@@ -12,7 +12,7 @@ use Rattle.schema_levels.specs.PlaceInValue.{member_name}
 use Rattle.schema_levels.specs.Table.{Child, children, IsTable, lower, rules_together, said}
 use Rattle.schema_levels.specs.declared.node.Node.{Node}
 use Rattle.schema_levels.specs.declared.node.Rule.{Rule}
-use Rattle.schema_levels.specs.declared.node.Rule.TheVariants.{Says, Asserts, Matches, All, Any, One, Not, Then, Else, Dependent, Refers, Properties, Others, Names, ByPlace, Rest, Contains, AtLeast, AtMost}
+use Rattle.schema_levels.specs.declared.node.Rule.TheVariants.{Says, Asserts, Matches, All, Any, One, Not, Then, Else, Dependent, Refers, Properties, Matching, Others, Names, ByPlace, Rest, Contains, AtLeast, AtMost}
 use Rattle.schema_levels.proofs.Tables.{passes_past, rules_at_get, table_at}
 use Rattle.schema_changes.specs.Again.{AllAgain, AllPass, HoldsHere, PassBelow, is_list, must_all_here, must_here, node_again, rules_again, site_of, some_counts}
 use Rattle.schema_changes.proofs.Marking.{LeadsIn}
@@ -37,7 +37,8 @@ in_here (Else c k) j at = none_in j at
 in_here (Dependent ns v) j at = none_in j at
 in_here (Matches n v) j at = none_in j at
 in_here Properties j at = none_in j at
-in_here (Others k) j at = none_in j at
+in_here (Matching q k) j at = none_in j at
+in_here (Others qs k) j at = none_in j at
 in_here (Names k) j at = none_in j at
 in_here (ByPlace v) j at = none_in j at
 in_here (Rest k) j at = none_in j at

@@ -12,7 +12,7 @@ ghost use Rattle.schema_changes.specs.Again.{AllPass, HoldsBy, NamePasses, PassB
 
 use crate::again::all_hold;
 use crate::must::{close, collect};
-use crate::places::{child, open_members, spot_of};
+use crate::places::{child, collect_at, open_members};
 use crate::steady::moves_others;
 use crate::whole::all_pass;
 use doc_tree::{Step, Tree};
@@ -134,7 +134,7 @@ fn child_passes(
                 return false;
             }
             fill(below, 0);
-            collect(nodes, asked, spot_of(step), below);
+            collect_at(nodes, searches, step, asked, below);
             along(
                 nodes, counters, searches, value, rest, shifts, below, asked, judging, passed, free,
             )

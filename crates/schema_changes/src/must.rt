@@ -1,8 +1,10 @@
 //! The nodes that must pass because others must: at the same value, and at a child.
-ghost use Rattle.std.specs.Prelude.{◌≡◌, ◌<◌, ◌^◌, if◌then◌else◌, length};
+ghost use Rattle.std.specs.Prelude.{◌≡◌, ◌<◌, ◌^◌, if◌then◌else◌, length, true};
 ghost use Rattle.std.specs.Option.{option_to_list};
 ghost use Rattle.schema_levels.specs.Below.{seen};
 ghost use Rattle.schema_levels.specs.Bits.{bit, mark_all};
+ghost use Rattle.schema_levels.specs.Known.{Knows, KnowsAsked};
+ghost use Rattle.schema_levels.specs.NamePatterns.{patterns_by, patterns_in};
 ghost use Rattle.schema_changes.specs.Again.{close_must, collect_must, mark_must, mark_must_below, must_below, must_here};
 
 use schema_levels::below::below;
@@ -41,7 +43,8 @@ fn mark_rule(rule: &Rule, asked: &mut [u64])
 
 /// Adds the nodes that must pass the child because those of the set must pass the value.
 pub(crate) fn collect(nodes: &[Node], asked: &[u64], spot: ChildPlace<'_>, found: &mut [u64])
-    requires { length asked.now < 2 ^ 32 }
+    requires short { length asked.now < 2 ^ 32 }
+    requires known { KnowsAsked nodes.now asked.now spot }
     ensures { found.new ≡ collect_must asked.now (seen spot.entry) 0 nodes.now found.old }
 {
     let mut number = next(asked, 0);
@@ -52,6 +55,7 @@ pub(crate) fn collect(nodes: &[Node], asked: &[u64], spot: ChildPlace<'_>, found
 }
 
 fn collect_one(node: &Node, number: usize, asked: &[u64], spot: ChildPlace<'_>, found: &mut [u64])
+    requires { bit asked.now number ≡ true → Knows spot (patterns_in node.now.rules.items) }
     ensures { found.new ≡ (if bit asked.now number then mark_must_below node.now (seen spot.entry) node.now.rules.items found.old else found.old) }
 {
     if bit(asked, number) {
@@ -60,6 +64,7 @@ fn collect_one(node: &Node, number: usize, asked: &[u64], spot: ChildPlace<'_>, 
 }
 
 fn collect_rules(node: &Node, spot: ChildPlace<'_>, found: &mut [u64])
+    requires { Knows spot (patterns_in node.now.rules.items) }
     ensures { found.new ≡ mark_must_below node.now (seen spot.entry) node.now.rules.items found.old }
 {
     for rule in &node.rules {
@@ -68,6 +73,7 @@ fn collect_rules(node: &Node, spot: ChildPlace<'_>, found: &mut [u64])
 }
 
 fn collect_rule(node: &Node, rule: &Rule, spot: ChildPlace<'_>, found: &mut [u64])
+    requires { Knows spot (patterns_by rule.now) }
     ensures { found.new ≡ mark_all (option_to_list (must_below node.now rule.now (seen spot.entry))) found.old }
 {
     if let Some(number) = must_below(node, rule, spot) {
@@ -77,6 +83,7 @@ fn collect_rule(node: &Node, rule: &Rule, spot: ChildPlace<'_>, found: &mut [u64
 
 // The node that must pass the child; a rule that counts elements rests on them together.
 fn must_below(node: &Node, rule: &Rule, spot: ChildPlace<'_>) -> Option<usize>
+    requires { Knows spot (patterns_by rule.now) }
     ensures { result ≡ must_below node.now rule.now (seen spot.entry) }
 {
     match rule {

@@ -21,7 +21,7 @@ use Rattle.schema_levels.specs.Table.{IsTable, items_from, lower, rules_together
 use Rattle.schema_levels.specs.declared.counters.Counters.{Counters}
 use Rattle.schema_levels.specs.declared.node.Node.{Node}
 use Rattle.schema_levels.specs.declared.node.Rule.{Rule}
-use Rattle.schema_levels.specs.declared.node.Rule.TheVariants.{Says, Asserts, Matches, All, Any, One, Not, Then, Else, Dependent, Refers, Properties, Others, Names, ByPlace, Rest, Contains, AtLeast, AtMost}
+use Rattle.schema_levels.specs.declared.node.Rule.TheVariants.{Says, Asserts, Matches, All, Any, One, Not, Then, Else, Dependent, Refers, Properties, Matching, Others, Names, ByPlace, Rest, Contains, AtLeast, AtMost}
 use Rattle.schema_levels.proofs.Giving.{is_it}
 use Rattle.schema_levels.proofs.Marks.{bit_same, bit_other, set_len}
 use Rattle.schema_levels.proofs.Folding.{none_clear, zero_at}
@@ -262,7 +262,8 @@ looked_below x n j (Else m i ∷ rs) at = In-right j (option_to_list (below x (E
 looked_below x n j (Dependent ns v ∷ rs) at = In-right j (option_to_list (below x (Dependent ns v) (index n))) _ (looked_below x n j rs at)
 looked_below x n j (Refers i ∷ rs) at = In-right j (option_to_list (below x (Refers i) (index n))) _ (looked_below x n j rs at)
 looked_below x n j (Properties ∷ rs) at = In-right j (option_to_list (below x Properties (index n))) _ (looked_below x n j rs at)
-looked_below x n j (Others i ∷ rs) at = In-right j (option_to_list (below x (Others i) (index n))) _ (looked_below x n j rs at)
+looked_below x n j (Matching q i ∷ rs) at = In-right j (option_to_list (below x (Matching q i) (index n))) _ (looked_below x n j rs at)
+looked_below x n j (Others qs i ∷ rs) at = In-right j (option_to_list (below x (Others qs i) (index n))) _ (looked_below x n j rs at)
 looked_below x n j (Names i ∷ rs) at = In-right j (option_to_list (below x (Names i) (index n))) _ (looked_below x n j rs at)
 looked_below x n j (ByPlace v ∷ rs) at = In-right j (option_to_list (below x (ByPlace v) (index n))) _ (looked_below x n j rs at)
 looked_below x n j (Rest i ∷ rs) at = In-right j (option_to_list (below x (Rest i) (index n))) _ (looked_below x n j rs at)
@@ -288,7 +289,8 @@ within_ranks cs j (Else n i ∷ rs) h at = within_ranks cs j rs h.1 at
 within_ranks cs j (Dependent ns v ∷ rs) h at = within_ranks cs j rs h.1 at
 within_ranks cs j (Refers i ∷ rs) h at = within_ranks cs j rs h.1 at
 within_ranks cs j (Properties ∷ rs) h at = within_ranks cs j rs h.1 at
-within_ranks cs j (Others i ∷ rs) h at = within_ranks cs j rs h.1 at
+within_ranks cs j (Matching q i ∷ rs) h at = within_ranks cs j rs h.1 at
+within_ranks cs j (Others qs i ∷ rs) h at = within_ranks cs j rs h.1 at
 within_ranks cs j (Names i ∷ rs) h at = within_ranks cs j rs h.1 at
 within_ranks cs j (ByPlace v ∷ rs) h at = within_ranks cs j rs h.1 at
 within_ranks cs j (Rest i ∷ rs) h at = within_ranks cs j rs h.1 at
@@ -398,7 +400,8 @@ rules_agree cs narrow found f counts m (Else n i ∷ rs) h agree = rules_agree c
 rules_agree cs narrow found f counts m (Dependent ns v ∷ rs) h agree = rules_agree cs narrow found f counts m rs h.1 agree
 rules_agree cs narrow found f counts m (Refers i ∷ rs) h agree = rules_agree cs narrow found f counts m rs h.1 agree
 rules_agree cs narrow found f counts m (Properties ∷ rs) h agree = rules_agree cs narrow found f counts m rs h.1 agree
-rules_agree cs narrow found f counts m (Others i ∷ rs) h agree = rules_agree cs narrow found f counts m rs h.1 agree
+rules_agree cs narrow found f counts m (Matching q i ∷ rs) h agree = rules_agree cs narrow found f counts m rs h.1 agree
+rules_agree cs narrow found f counts m (Others qs i ∷ rs) h agree = rules_agree cs narrow found f counts m rs h.1 agree
 rules_agree cs narrow found f counts m (Names i ∷ rs) h agree = rules_agree cs narrow found f counts m rs h.1 agree
 rules_agree cs narrow found f counts m (ByPlace v ∷ rs) h agree = rules_agree cs narrow found f counts m rs h.1 agree
 rules_agree cs narrow found f counts m (Rest i ∷ rs) h agree = rules_agree cs narrow found f counts m rs h.1 agree

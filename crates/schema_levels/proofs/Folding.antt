@@ -19,7 +19,7 @@ use Rattle.schema_levels.specs.Table.{Child, child_at, children, items_from, mem
 use Rattle.schema_levels.specs.Levels.{AreJudged, AreFolded, AreKept, AreLowered, AreTold, AskNothing}
 use Rattle.schema_levels.specs.declared.node.Node.{Node}
 use Rattle.schema_levels.specs.declared.node.Rule.{Rule}
-use Rattle.schema_levels.specs.declared.node.Rule.TheVariants.{Says, Asserts, Matches, All, Any, One, Not, Then, Else, Dependent, Refers, Properties, Others, Names, ByPlace, Rest, Contains, AtLeast, AtMost}
+use Rattle.schema_levels.specs.declared.node.Rule.TheVariants.{Says, Asserts, Matches, All, Any, One, Not, Then, Else, Dependent, Refers, Properties, Matching, Others, Names, ByPlace, Rest, Contains, AtLeast, AtMost}
 use Rattle.schema_levels.proofs.Sweeps.{sweep_len, collect_in}
 use Rattle.schema_levels.proofs.Tables.{and_true, and_assoc, fold_is, lead_from, rules_at_get, within_get, settled_is}
 use Rattle.schema_levels.proofs.Closing.{Falls, LeadsIn, close_leads, close_keeps}
@@ -49,7 +49,8 @@ rule_none x p known (Else n j) h = found_none (below x (Else n j) p) known h
 rule_none x p known (Dependent ns v) h = found_none (below x (Dependent ns v) p) known h
 rule_none x p known (Refers j) h = found_none (below x (Refers j) p) known h
 rule_none x p known Properties h = found_none (below x Properties p) known h
-rule_none x p known (Others j) h = found_none (below x (Others j) p) known h
+rule_none x p known (Matching q j) h = found_none (below x (Matching q j) p) known h
+rule_none x p known (Others qs j) h = found_none (below x (Others qs j) p) known h
 rule_none x p known (Names j) h = found_none (below x (Names j) p) known h
 rule_none x p known (ByPlace v) h = found_none (below x (ByPlace v) p) known h
 rule_none x p known (Rest j) h = found_none (below x (Rest j) p) known h

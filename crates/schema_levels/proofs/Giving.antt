@@ -7,7 +7,7 @@ use Rattle.schema_levels.specs.Counters.{counter, is_number, owns, HasCounter, H
 use Rattle.schema_levels.specs.declared.counters.Counters.{Counters}
 use Rattle.schema_levels.specs.declared.node.Node.{Node}
 use Rattle.schema_levels.specs.declared.node.Rule.{Rule}
-use Rattle.schema_levels.specs.declared.node.Rule.TheVariants.{Says, Asserts, Matches, All, Any, One, Not, Then, Else, Dependent, Refers, Properties, Others, Names, ByPlace, Rest, Contains, AtLeast, AtMost}
+use Rattle.schema_levels.specs.declared.node.Rule.TheVariants.{Says, Asserts, Matches, All, Any, One, Not, Then, Else, Dependent, Refers, Properties, Matching, Others, Names, ByPlace, Rest, Contains, AtLeast, AtMost}
 
 pub if_ok : {A E : Type 0} {P Q : A → Type 0} (r : Result A E) → ((a : A) → P a → Q a) → IfOk r P → IfOk r Q
 if_ok (Ok a) f h = f a h
@@ -35,7 +35,8 @@ rule_kept a b (Else n j) h i = tt
 rule_kept a b (Dependent ns v) h i = tt
 rule_kept a b (Refers j) h i = tt
 rule_kept a b Properties h i = tt
-rule_kept a b (Others j) h i = tt
+rule_kept a b (Matching q j) h i = tt
+rule_kept a b (Others qs j) h i = tt
 rule_kept a b (Names j) h i = tt
 rule_kept a b (ByPlace v) h i = tt
 rule_kept a b (Rest j) h i = tt

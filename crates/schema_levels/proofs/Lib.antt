@@ -9,4 +9,5 @@ pub mod Skips
 pub mod Counting
 pub mod Giving
 pub mod Searching
+pub mod Finding
 pub mod Presence

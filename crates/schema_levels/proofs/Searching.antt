@@ -21,7 +21,7 @@ of_node ss nodes i x lt is h = subst (λ (y : Node). AreRulesSearched ss y.rules
 rule_at : (ss : List (List ℕ)) (rs : List Rule) (i : ℕ) (d : Rule) → i < length rs → AreRulesSearched ss rs → IsSearched ss (get_or rs i d)
 rule_at ss [] i d lt h = absurd (omega arith)
 rule_at ss (r ∷ rs) zero d lt h = h.0
-rule_at ss (r ∷ rs) (suc i) d lt h = rule_at ss rs i d (omega arith) h.1
+rule_at ss (r ∷ rs) (suc i) d lt h = rule_at ss rs i d (omega arith) h.2
 
 pub of_rule : (ss : List (List ℕ)) (rs : List Rule) (i : ℕ) (r : Rule) → i < length rs → r ≡ get_or rs i r → AreRulesSearched ss rs → IsSearched ss r
 of_rule ss rs i r lt is h = subst (IsSearched ss) (sym is) (rule_at ss rs i r lt h)

@@ -14,7 +14,7 @@ use Rattle.schema_levels.specs.EachInSet.{sweep}
 use Rattle.schema_levels.specs.Nodes.{node_get, asked_here, asked_below}
 use Rattle.schema_levels.specs.declared.node.Node.{Node}
 use Rattle.schema_levels.specs.declared.node.Rule.{Rule}
-use Rattle.schema_levels.specs.declared.node.Rule.TheVariants.{Says, Asserts, Matches, All, Any, One, Not, Then, Else, Dependent, Refers, Properties, Others, Names, ByPlace, Rest, Contains, AtLeast, AtMost}
+use Rattle.schema_levels.specs.declared.node.Rule.TheVariants.{Says, Asserts, Matches, All, Any, One, Not, Then, Else, Dependent, Refers, Properties, Matching, Others, Names, ByPlace, Rest, Contains, AtLeast, AtMost}
 use Rattle.schema_levels.proofs.Marks.{bit_same, bit_other, set_len, stays}
 
 module _ (says : List ℕ → Node → Bool) (asked : List ℕ) where
@@ -144,7 +144,8 @@ rule_agrees f g t (Says b) h = refl
 rule_agrees f g t (Asserts a) h = refl
 rule_agrees f g t (Matches n v) h = refl
 rule_agrees f g t Properties h = refl
-rule_agrees f g t (Others j) h = refl
+rule_agrees f g t (Matching q j) h = refl
+rule_agrees f g t (Others qs j) h = refl
 rule_agrees f g t (Names j) h = refl
 rule_agrees f g t (ByPlace v) h = refl
 rule_agrees f g t (Rest j) h = refl
@@ -173,7 +174,8 @@ rule_below_agrees f g x p (Else n j) h = found_agrees f g (below x (Else n j) p)
 rule_below_agrees f g x p (Dependent ns v) h = found_agrees f g (below x (Dependent ns v) p) h
 rule_below_agrees f g x p (Refers j) h = found_agrees f g (below x (Refers j) p) h
 rule_below_agrees f g x p Properties h = found_agrees f g (below x Properties p) h
-rule_below_agrees f g x p (Others j) h = found_agrees f g (below x (Others j) p) h
+rule_below_agrees f g x p (Matching q j) h = found_agrees f g (below x (Matching q j) p) h
+rule_below_agrees f g x p (Others qs j) h = found_agrees f g (below x (Others qs j) p) h
 rule_below_agrees f g x p (Names j) h = found_agrees f g (below x (Names j) p) h
 rule_below_agrees f g x p (ByPlace v) h = found_agrees f g (below x (ByPlace v) p) h
 rule_below_agrees f g x p (Rest j) h = found_agrees f g (below x (Rest j) p) h

@@ -18,7 +18,7 @@ use Rattle.schema_levels.specs.Nodes.{node_get, asked_here, AreOrdered}
 use Rattle.schema_levels.specs.Table.{Child, children, ask_found, ask_children, ask_here, joined_by, rule_of, told_by, rules_pass, node_passes, passes_at, IsTable, items_from, rules_lower, rules_together, lower, said}
 use Rattle.schema_levels.specs.declared.node.Node.{Node}
 use Rattle.schema_levels.specs.declared.node.Rule.{Rule}
-use Rattle.schema_levels.specs.declared.node.Rule.TheVariants.{Says, Asserts, Matches, All, Any, One, Not, Then, Else, Dependent, Refers, Properties, Others, Names, ByPlace, Rest, Contains, AtLeast, AtMost}
+use Rattle.schema_levels.specs.declared.node.Rule.TheVariants.{Says, Asserts, Matches, All, Any, One, Not, Then, Else, Dependent, Refers, Properties, Matching, Others, Names, ByPlace, Rest, Contains, AtLeast, AtMost}
 use Rattle.schema_levels.proofs.Sweeps.{one_len, one_other, one_same, sweep_at, collect_in, here_agrees, below_agrees}
 use Rattle.schema_levels.proofs.Closing.{LeadsIn}
 
@@ -178,7 +178,8 @@ module _ (known : ℕ → Doc → Bool) (x : Node) where
     rule_join (Dependent ns v) = child_by_child (Dependent ns v) _ (rule_here (λ j. known j t) t (Dependent ns v)) (λ f m. refl) (ap (where_present (map string_bytes ns.items) t) (told_alone (Dependent ns v) (λ p. refl)) ∙ alone (Dependent ns v) _ (λ f p. refl))
     rule_join (Refers j) = child_by_child (Refers j) _ (rule_here (λ j. known j t) t (Refers j)) (λ f m. refl) (ap every (told_alone (Refers j) (λ p. refl)) ∙ and_true (known j t) ∙ alone (Refers j) _ (λ f p. refl))
     rule_join Properties = child_by_child Properties _ true (λ f m. refl) (every_lower Properties (λ f p. refl) (children t))
-    rule_join (Others j) = child_by_child (Others j) _ true (λ f m. refl) (every_lower (Others j) (λ f p. refl) (children t))
+    rule_join (Matching q j) = child_by_child (Matching q j) _ true (λ f m. refl) (every_lower (Matching q j) (λ f p. refl) (children t))
+    rule_join (Others qs j) = child_by_child (Others qs j) _ true (λ f m. refl) (every_lower (Others qs j) (λ f p. refl) (children t))
     rule_join (Names j) = child_by_child (Names j) _ true (λ f m. refl) (every_lower (Names j) (λ f p. refl) (children t))
     rule_join (ByPlace v) = child_by_child (ByPlace v) _ true (λ f m. refl) (every_lower (ByPlace v) (λ f p. refl) (children t))
     rule_join (Rest j) = child_by_child (Rest j) _ true (λ f m. refl) (every_lower (Rest j) (λ f p. refl) (children t))

@@ -1,22 +1,25 @@
 -- The nodes that are asked of a child, and how their answers are joined.
-use Rattle.std.specs.Prelude.{ℕ, List, [], ◌∷◌, Bool, true, false, ◌&&◌, Option, Some, None, is_some, String, slice_get, nat_lt}
+use Rattle.std.specs.Prelude.{ℕ, List, [], ◌∷◌, Bool, true, false, ◌&&◌, ◌||◌, Option, Some, None, is_some, String, slice_get, nat_lt}
 use Rattle.std.specs.Map.{lookup}
 use Rattle.std.specs.BTreeMap.{is_at}
 use Rattle.std.specs.Cmp.Lexicographic.{slice_cmp}
 use Rattle.std.specs.Ordering.{nat_cmp}
 use Rattle.std.specs.Prelude.{string_bytes}
 use Rattle.std.specs.declared.alloc.Global.{Global}
+use Rattle.schema_pattern.specs.Patterns.{is_found, pattern_in}
+use Rattle.schema_pattern.specs.Tables.{some_found}
 use Rattle.schema_levels.specs.PlaceInValue.{PlaceInValue, name, index, member_name}
 use Rattle.schema_levels.specs.Bits.{put}
 use Rattle.schema_levels.specs.EachInSet.{sweep, walk}
+use Rattle.schema_levels.specs.NamePatterns.{texts_of}
 use Rattle.schema_levels.specs.declared.node.Node.{Node}
 use Rattle.schema_levels.specs.declared.node.Rule.{Rule}
-use Rattle.schema_levels.specs.declared.node.Rule.TheVariants.{Properties, Others, Names, ByPlace, Rest, Contains, AtLeast, AtMost}
+use Rattle.schema_levels.specs.declared.node.Rule.TheVariants.{Properties, Matching, Others, Names, ByPlace, Rest, Contains, AtLeast, AtMost}
 use Rattle.schema_levels.specs.declared.node.ChildPlace.{ChildPlace}
 use Rattle.schema_levels.specs.declared.node.ChildPlace.TheVariants.{Name, Index, MemberName}
 
 abbrev pub seen : ChildPlace → PlaceInValue
-seen (Name s) = name s.now
+seen (Name s found) = name s.now
 seen (Index i) = index i
 seen MemberName = member_name
 
@@ -32,6 +35,10 @@ abbrev pub unless : Bool → ℕ → Option ℕ
 unless true j = None
 unless false j = Some j
 
+abbrev pub where_found : Bool → ℕ → Option ℕ
+where_found true j = Some j
+where_found false j = None
+
 -- of each element
 abbrev pub at_index : ℕ → PlaceInValue → Option ℕ
 at_index j (index n) = Some j
@@ -40,7 +47,8 @@ at_index j _ = None
 -- the node that a rule asks of the child at that place
 abbrev pub below : Node → Rule → PlaceInValue → Option ℕ
 below x Properties (name k) = number_named k x.named.entries
-below x (Others j) (name k) = unless (is_some (number_named k x.named.entries)) j
+below x (Matching p j) (name k) = where_found (is_found (pattern_in (string_bytes p.text)) k) j
+below x (Others ps j) (name k) = unless (is_some (number_named k x.named.entries) || some_found (texts_of ps.items) k) j
 below x (Names j) member_name = Some j
 below x (ByPlace v) (index n) = number_at v.items n
 below x (Rest j) (index n) = unless (nat_lt n x.prefix) j

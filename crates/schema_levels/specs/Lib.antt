@@ -4,9 +4,11 @@ pub mod Rules
 pub mod Closure
 pub mod EachInSet
 pub mod Conclude
+pub mod NamePatterns
 pub mod Below
 pub mod Counters
 pub mod Nodes
 pub mod Searched
+pub mod Known
 pub mod Table
 pub mod Levels

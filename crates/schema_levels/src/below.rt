@@ -1,24 +1,35 @@
 //! The nodes that are asked of a child, and how their answers are joined.
-ghost use Rattle.std.specs.Prelude.{◌≡◌, false, ◌&&◌, ◌<◌, ◌^◌, if◌then◌else◌, length};
+ghost use Rattle.std.specs.Prelude.{◌≡◌, ℕ, List, false, true, ◌&&◌, ◌<◌, ◌^◌, if◌then◌else◌, length};
+ghost use Rattle.schema_pattern.specs.Tables.{some_found};
 ghost use Rattle.schema_rules.specs.Rules.{every};
 ghost use Rattle.schema_levels.specs.Bits.{bit, put};
-ghost use Rattle.schema_levels.specs.Below.{at_index, collect, collect_rules, fold, rule_below, rules_below, below, number_named, number_at, seen};
+ghost use Rattle.schema_levels.specs.Below.{at_index, collect, collect_rules, fold, rule_below, rules_below, below, number_named, number_at, seen, where_found};
+ghost use Rattle.schema_levels.specs.Known.{Knows, KnowsAsked, SaysOf};
+ghost use Rattle.schema_levels.specs.NamePatterns.{patterns_by, patterns_in, texts_of};
 
 use crate::bits::{bit, next, write};
-use crate::node::{ChildPlace, Node, Rule};
+use crate::found::has;
+use crate::node::{ChildPlace, NamePattern, Node, Rule};
 use std::collections::BTreeMap;
 
 /// The node that a rule asks of the child, if any.
 pub fn below(node: &Node, rule: &Rule, spot: ChildPlace<'_>) -> Option<usize>
+    requires { Knows spot (patterns_by rule.now) }
     ensures { result ≡ below node.now rule.now (seen spot.entry) }
 {
     match rule {
         Rule::Properties => match spot {
-            ChildPlace::Name(name) => number_named(&node.named, name),
+            ChildPlace::Name(name, _) => number_named(&node.named, name),
             _ => None,
         },
-        Rule::Others(number) => match spot {
-            ChildPlace::Name(name) => if number_named(&node.named, name).is_some() {
+        Rule::Matching(pattern, number) => match spot {
+            ChildPlace::Name(_, found) => where_found(has(found, pattern.number), *number),
+            _ => None,
+        },
+        Rule::Others(patterns, number) => match spot {
+            ChildPlace::Name(name, found) => if number_named(&node.named, name).is_some()
+                || some_is_found(patterns, found)
+            {
                 None
             } else {
                 Some(*number)
@@ -46,6 +57,23 @@ pub fn below(node: &Node, rule: &Rule, spot: ChildPlace<'_>) -> Option<usize>
         Rule::AtMost(number, _) => at_index(*number, spot),
         _ => None,
     }
+}
+
+fn where_found(found: bool, number: usize) -> Option<usize>
+    ensures { result ≡ where_found found number }
+{
+    if found { Some(number) } else { None }
+}
+
+fn some_is_found(patterns: &[NamePattern], found: u64) -> bool
+    ensures { (k : List ℕ) → SaysOf found k patterns.now → result ≡ some_found (texts_of patterns.now) k }
+{
+    for pattern in patterns {
+        if has(found, pattern.number) {
+            return true;
+        }
+    }
+    false
 }
 
 fn at_index(number: usize, spot: ChildPlace<'_>) -> Option<usize>
@@ -82,7 +110,8 @@ pub(crate) fn collect(
     spot: ChildPlace<'_>,
     found: &mut [u64],
 ) -> bool
-    requires { length asked.now < 2 ^ 32 }
+    requires short { length asked.now < 2 ^ 32 }
+    requires known { KnowsAsked nodes.now asked.now spot }
     ensures found { found.new ≡ collect asked.now (seen spot.entry) 0 nodes.now found.old }
     ensures none { result ≡ false → found.new ≡ found.old }
 {
@@ -102,6 +131,7 @@ fn collect_one(
     spot: ChildPlace<'_>,
     found: &mut [u64],
 ) -> bool
+    requires { bit asked.now number ≡ true → Knows spot (patterns_in node.now.rules.items) }
     ensures found { found.new ≡ (if bit asked.now number then collect_rules node.now (seen spot.entry) node.now.rules.items found.old else found.old) }
     ensures none { result ≡ false → found.new ≡ found.old }
 {
@@ -109,6 +139,7 @@ fn collect_one(
 }
 
 fn collect_rules(node: &Node, spot: ChildPlace<'_>, found: &mut [u64]) -> bool
+    requires { Knows spot (patterns_in node.now.rules.items) }
     ensures found { found.new ≡ collect_rules node.now (seen spot.entry) node.now.rules.items found.old }
     ensures none { result ≡ false → found.new ≡ found.old }
 {
@@ -130,7 +161,8 @@ pub(crate) fn fold(
     child: &[u64],
     passed: &mut [u64],
 )
-    requires { length asked.now < 2 ^ 32 }
+    requires short { length asked.now < 2 ^ 32 }
+    requires known { KnowsAsked nodes.now asked.now spot }
     ensures { passed.new ≡ fold (bit child.now) asked.now (seen spot.entry) 0 nodes.now passed.old }
 {
     let mut number = next(asked, 0);
@@ -148,6 +180,7 @@ fn fold_one(
     child: &[u64],
     passed: &mut [u64],
 )
+    requires { bit asked.now number ≡ true → Knows spot (patterns_in node.now.rules.items) }
     ensures { passed.new ≡ (if bit asked.now number
         then put passed.old number (bit passed.old number && rules_below (bit child.now) node.now (seen spot.entry) node.now.rules.items)
         else passed.old) }
@@ -159,6 +192,7 @@ fn fold_one(
 }
 
 fn rules_below(node: &Node, spot: ChildPlace<'_>, child: &[u64]) -> bool
+    requires { Knows spot (patterns_in node.now.rules.items) }
     ensures { result ≡ rules_below (bit child.now) node.now (seen spot.entry) node.now.rules.items }
 {
     for rule in &node.rules {
@@ -171,6 +205,7 @@ fn rules_below(node: &Node, spot: ChildPlace<'_>, child: &[u64]) -> bool
 
 // What a rule says of the child alone.
 fn rule_below(node: &Node, rule: &Rule, spot: ChildPlace<'_>, child: &[u64]) -> bool
+    requires { Knows spot (patterns_by rule.now) }
     ensures { result ≡ rule_below (bit child.now) node.now rule.now (seen spot.entry) }
 {
     match rule {

@@ -6,6 +6,7 @@ ghost use Rattle.doc_tree.specs.TreeView.{view, elements_view, members_view};
 ghost use Rattle.schema_rules.specs.Instances.{seen};
 ghost use Rattle.schema_levels.specs.Below.{seen as place};
 ghost use Rattle.schema_levels.specs.Counters.{AreCounted, most, width};
+ghost use Rattle.schema_levels.specs.Known.{AreSought, KnowsAsked};
 ghost use Rattle.schema_levels.specs.Levels.{AreJudged, AreKept, AreFolded, AreLowered, AreTold, AskNothing};
 ghost use Rattle.schema_levels.specs.Nodes.{AreOrdered};
 ghost use Rattle.schema_levels.specs.Searched.{AreSearched};
@@ -18,6 +19,7 @@ use crate::closure::close;
 use crate::conclude::conclude;
 use crate::counters::Counters;
 use crate::counts::{tally, weigh, width};
+use crate::found::{find_for, sought};
 use crate::named::{fold_names, judge_name};
 use crate::node::{ChildPlace, Node};
 use doc_tree::Tree;
@@ -328,6 +330,7 @@ fn fold_members(
         nodes,
         counters,
         searches,
+        sought(nodes, asked),
         members,
         asked,
         passed,
@@ -337,12 +340,13 @@ fn fold_members(
     );
 }
 
-// Judges each member, and joins what is said of it.
+// Judges each member, and joins what is said of it. `names` has the numbers of the patterns that names are searched for.
 #[cycle(levels)]
 fn fold_each_member(
     nodes: &[Node],
     counters: &Counters,
     searches: &mut [Search<'_>],
+    names: u64,
     members: &NameMap<Tree>,
     asked: &[u64],
     passed: &mut [u64],
@@ -358,16 +362,19 @@ fn fold_each_member(
     requires passed_len { length passed.old ≡ length asked.now }
     requires below_asked { below_asked.old ≡ replicate (length asked.now) 0 }
     requires below_len { length below_passed.old ≡ length asked.now }
+    requires sought { AreSought nodes.now asked.now names }
     ensures folded { AreFolded nodes.now asked.now (members_each (members_view members.now.entries)) passed.old passed.new }
     ensures same { sources searches.new ≡ sources searches.old }
 {
     for (name, member) in members.iter() {
+        let key = name.as_str();
+        let found = find_for(nodes, asked, searches, names, key);
         if fold_child(
             nodes,
             counters,
             searches,
             member,
-            ChildPlace::Name(name.as_str()),
+            ChildPlace::Name(key, found),
             asked,
             below_asked,
             below_passed,
@@ -401,6 +408,7 @@ fn fold_child(
     requires passed_len { length passed.old ≡ length asked.now }
     requires below_len { length below_passed.old ≡ length asked.now }
     requires empty { below_asked.old ≡ replicate (length asked.now) 0 }
+    requires known { KnowsAsked nodes.now asked.now spot }
     ensures folded { AreFolded nodes.now asked.now (child_at (place spot.entry) (view child.now) ∷ []) passed.old passed.new }
     ensures told { result ≡ true → AreTold nodes.now asked.now (place spot.entry) (view child.now) below_asked.new below_passed.new }
     ensures none { result ≡ false → (below_asked.new ≡ replicate (length asked.now) 0) × AskNothing nodes.now asked.now (place spot.entry) }

@@ -8,6 +8,7 @@ mod closure;
 pub mod conclude;
 mod counters;
 mod counts;
+pub mod found;
 mod levels;
 mod named;
 mod node;
@@ -15,5 +16,5 @@ mod run;
 
 pub use counters::{Counters, counters_of};
 pub use levels::judge_instance;
-pub use node::{ChildPlace, Node, Rule};
+pub use node::{ChildPlace, NamePattern, Node, Rule};
 pub use run::{MOST_WORDS, passes};

@@ -1,9 +1,11 @@
 -- What was numbered, put in order and built is the schema, compiled.
-use Rattle.std.proofs.Common.{◌≡◌, ℕ, ◌*◌, ◌<◌, ◌≤◌, List, [], length, true, Some, Vec, Global, ap, arith}
+use Rattle.std.proofs.Common.{◌≡◌, ℕ, ◌*◌, ◌<◌, ◌≤◌, List, [], length, true, Some, Vec, Global, ap, subst, arith}
 use Rattle.doc_tree.specs.Doc.{Doc, boolean}
 use Rattle.schema_graph.specs.Orders.{at, IsOrder}
 use Rattle.schema_rules.specs.Parts.{members_in}
-use Rattle.schema_rules.specs.PatternTexts.{pattern_texts}
+use Rattle.schema_rules.specs.PatternTexts.{pattern_texts, texts_by}
+use Rattle.schema_rules.specs.declared.profile.Profile.TheVariants.{Three}
+use Rattle.doc_tree.specs.TreeView.{view}
 use Rattle.schema_rules.specs.Schemas.{schemas}
 use Rattle.schema_levels.specs.declared.node.Node.{Node}
 use Rattle.schema_levels.specs.declared.run.TheConstants.{MOST_WORDS}
@@ -15,9 +17,9 @@ use Rattle.schema_nodes.specs.Entries.{doc_at, AreRows, AreEntries}
 use Rattle.schema_nodes.specs.Fits.{AreTargets, IsTargets, AreMade, patterns_of}
 use Rattle.schema_nodes.specs.Nodes.{schema_of, or_else}
 use Rattle.schema_nodes.proofs.Edging.{edges_many}
-use Rattle.schema_nodes.proofs.Making.{nodes_are, numbers_are, made_many, targets_are, back_is}
+use Rattle.schema_nodes.proofs.Making.{numbered, nodes_are, numbers_are, made_many, targets_are, back_is}
 use Rattle.schema_nodes.proofs.Ordering.{ordered}
-use Rattle.schema_nodes.proofs.Searches.{all_searched}
+use Rattle.schema_nodes.proofs.Searches.{HaveNumbers, all_searched}
 use Rattle.schema_nodes.proofs.RuleKinds.{schema_back, have_rows, within_entries}
 
 module _ (root : Doc) (es : List Entry) (whole : ℕ) (rows : List (Vec ℕ Global)) (ts : Targets) (are : AreEntries root es) (here : doc_at es whole ≡ Some root) (rows_are : AreRows (doc_at es) (members_in root) rows) (is : IsTargets root whole rows ts) where
@@ -48,5 +50,5 @@ module _ (root : Doc) (es : List Entry) (whole : ℕ) (rows : List (Vec ℕ Glob
           order = ordered ts root es g places ranks are edges many_edges o back bound nodes made;
           within = omega (arith, lt, all);
           room = omega (arith, all, o.many_places, many_edges, many, room);
-          searched = all_searched (pattern_texts root) ts ranks root patterns es places nodes made;
+          searched = λ few. all_searched (pattern_texts root) few ts ranks root patterns es places nodes (λ n e at_n. subst (λ l. HaveNumbers l (texts_by Three (members_in (view e.schema.now)))) patterns (numbered ts ranks root es are patterns n e at_n)) made;
         }

@@ -20,7 +20,9 @@ use Rattle.schema_rules.specs.Assertions.{asserts}
 use Rattle.schema_rules.specs.Holds.{holds}
 use Rattle.schema_rules.specs.declared.assertion.Assertion.{Assertion}
 use Rattle.schema_rules.proofs.Others.{AsksNone}
-use Rattle.schema_nodes.specs.Rules.{AreRulesOf}
+use Rattle.doc_tree.specs.Lists.{names_list, values_list}
+use Rattle.schema_nodes.specs.Rules.{AreRulesFor, SayAs}
+use Rattle.schema_nodes.proofs.Matching.{say_one, say_patterns}
 use Rattle.schema_graph.specs.Orders.{at}
 use Rattle.schema_graph.specs.Walks.{In, first}
 use Rattle.schema_graph.proofs.Among.{In-left, In-right}
@@ -35,7 +37,8 @@ use Rattle.schema_levels.specs.declared.node.Rule.{Rule}
 use Rattle.schema_levels.specs.declared.node.Rule.TheVariants.{Asserts, Then, Else}
 use Rattle.schema_nodes.specs.declared.rules.Targets.{Targets}
 use Rattle.schema_nodes.specs.Nodes.{Suits, IsRule, IsNodeFor, Finds, HaveRows}
-use Rattle.schema_nodes.specs.Fits.{AreTargets, IsBuilt, IsMatch, number_in, pattern_number, patterns_of, number_by, if_found, target_number, first_of, IsReference, IsChoice, IsCount, IsLimit, AsksNoSchema, Around, Fits, around, AreFitting, AsMany, AreSorted}
+use Rattle.schema_nodes.specs.Fits.{AreTargets, IsBuilt, IsMatch, number_in, pattern_number, patterns_of, number_by, if_found, target_number, first_of, IsReference, IsChoice, IsCount, IsLimit, AsksNoSchema, Around, Fits, FitAll, around, AreFitting, AsMany, AreSorted}
+use Rattle.schema_nodes.proofs.Searches.{HaveNumbers}
 use Rattle.schema_nodes.proofs.Conditions.{contains_held, if_held, single_is}
 use Rattle.schema_nodes.proofs.RuleKinds.{is_all, is_any, is_one, is_dependent, is_not, is_then, is_no_then, is_else, is_no_else, is_reference, is_no_reference, is_match, is_no_match, is_assertion, is_nothing, is_properties, is_others, is_names, is_by_place, is_rest}
 use Rattle.schema_nodes.proofs.Counting.{is_contains, is_at_least, is_at_most, is_no_limit}
@@ -49,16 +52,16 @@ pub record Fitting (ts : Targets) (ranks : List ℕ) (root : Doc) (near : Around
 pub begins : (ts : Targets) (ranks : List ℕ) (root : Doc) (near : Around) (all : Members) (rows : List (Vec ℕ Global)) → AsMany all rows → Fitting ts ranks root near all rows all rows []
 begins ts ranks root near all rows h = record { many = h; rest = λ more f. f }
 
-pub goes_on : (ts : Targets) (ranks : List ℕ) (root : Doc) (near : Around) (left left' all : Members) (left_rows left_rows' rows : List (Vec ℕ Global)) (rules : List Rule) (k : List ℕ) (v : Doc) (row : Vec ℕ Global) (r : Rule)
-    → Fitting ts ranks root near left left_rows all rows rules → left ≡ member k v left' → left_rows ≡ row ∷ left_rows' → Fits ts ranks root near (keyword_of k) v row.items r → Fitting ts ranks root near left' left_rows' all rows (rules ++ r ∷ [])
-goes_on ts ranks root near left left' all left_rows left_rows' rows rules k v row r h e f fits = record {
+pub goes_on : (ts : Targets) (ranks : List ℕ) (root : Doc) (near : Around) (left left' all : Members) (left_rows left_rows' rows : List (Vec ℕ Global)) (rules : List Rule) (k : List ℕ) (v : Doc) (row : Vec ℕ Global) (mine : List Rule)
+    → Fitting ts ranks root near left left_rows all rows rules → left ≡ member k v left' → left_rows ≡ row ∷ left_rows' → FitAll ts ranks root near (keyword_of k) v row.items mine → Fitting ts ranks root near left' left_rows' all rows (rules ++ mine)
+goes_on ts ranks root near left left' all left_rows left_rows' rows rules k v row mine h e f fits = record {
   many = subst (λ l. AsMany (member k v left') l) f (subst (λ l. AsMany l left_rows) e h.many);
-  rest = λ more m. subst (λ l. AreFitting ts ranks root near all rows l) (sym (append_assoc rules (r ∷ []) more))
-      (h.rest (r ∷ more) (subst (λ l. AreFitting ts ranks root near l left_rows (r ∷ more)) (sym e) (subst (λ l. AreFitting ts ranks root near (member k v left') l (r ∷ more)) (sym f) (fits, m))));
+  rest = λ more m. subst (λ l. AreFitting ts ranks root near all rows l) (sym (append_assoc rules mine more))
+      (h.rest (mine ++ more) (subst (λ l. AreFitting ts ranks root near l left_rows (mine ++ more)) (sym e) (subst (λ l. AreFitting ts ranks root near (member k v left') l (mine ++ more)) (sym f) (mine, more, refl, fits, m))));
 }
 
 pub ends : (ts : Targets) (ranks : List ℕ) (root : Doc) (near : Around) (left all : Members) (left_rows rows : List (Vec ℕ Global)) (rules : List Rule) → Fitting ts ranks root near left left_rows all rows rules → (left ≡ no_members) ⊎ (length left_rows ≡ 0) → AreFitting ts ranks root near all rows rules
-ends ts ranks root near no_members all [] rows rules h e = subst (λ l. AreFitting ts ranks root near all rows l) (append-nil rules) (h.rest [] tt)
+ends ts ranks root near no_members all [] rows rules h e = subst (λ l. AreFitting ts ranks root near all rows l) (append-nil rules) (h.rest [] refl)
 ends ts ranks root near no_members all (row ∷ left_rows) rows rules h e = absurd h.many
 ends ts ranks root near (member k v left) all [] rows rules h e = absurd h.many
 ends ts ranks root near (member k v left) all (row ∷ left_rows) rows rules h (inl e) = absurd cc
@@ -133,10 +136,6 @@ first_is schema (j ∷ row) d e = cc
 
 -- ---- patterns
 
--- each of these texts has a number
-abbrev pub HaveNumbers : List (List ℕ) → List (List ℕ) → Type 0
-HaveNumbers ps ss = (s : List ℕ) → In s ss → number_in ps s ≡ None → ⊥
-
 -- without a number the value is no text
 unnumbered : (ps : List (List ℕ)) (v : Doc) → HaveNumbers ps (texts_of keywords.Pattern v) → pattern_number ps v ≡ None → (t : Doc) → fits v t ≡ true
 unnumbered ps (text s) known e t = absurd (known s first e)
@@ -155,6 +154,7 @@ match_rule schema root ms v (Some n) r none h = subst (IsRule schema root ms key
 pub fits_alone : (ts : Targets) (ranks : List ℕ) (root : Doc) (near : Around) (k : Keyword) (v : Doc) (row : List ℕ) (r : Rule) → AsksNone k → AsksNoSchema k v r → Fits ts ranks root near k v row r
 fits_alone ts ranks root near keywords.Pattern v row r none h = absurd (none.not_pattern refl)
 fits_alone ts ranks root near keywords.Properties v row r none h = absurd (none.not_properties refl)
+fits_alone ts ranks root near keywords.PatternProperties v row r none h = absurd (none.not_pattern_properties refl)
 fits_alone ts ranks root near keywords.AdditionalProperties v row r none h = absurd (none.not_additional_properties refl)
 fits_alone ts ranks root near keywords.PropertyNames v row r none h = absurd (none.not_property_names refl)
 fits_alone ts ranks root near keywords.PrefixItems v row r none h = absurd (none.not_prefix_items refl)
@@ -196,6 +196,7 @@ asserts_alone _ v r is a e h = (a, e, h)
 abbrev is_plain : Keyword → Bool
 is_plain keywords.Pattern = false
 is_plain keywords.Properties = false
+is_plain keywords.PatternProperties = false
 is_plain keywords.AdditionalProperties = false
 is_plain keywords.PropertyNames = false
 is_plain keywords.PrefixItems = false
@@ -216,6 +217,7 @@ plain : (k : Keyword) → is_plain k ≡ true → AsksNone k
 plain k h = record {
   not_pattern = λ e. (let b : false ≡ true = sym (ap is_plain e) ∙ h in absurd cc);
   not_properties = λ e. (let b : false ≡ true = sym (ap is_plain e) ∙ h in absurd cc);
+  not_pattern_properties = λ e. (let b : false ≡ true = sym (ap is_plain e) ∙ h in absurd cc);
   not_additional_properties = λ e. (let b : false ≡ true = sym (ap is_plain e) ∙ h in absurd cc);
   not_property_names = λ e. (let b : false ≡ true = sym (ap is_plain e) ∙ h in absurd cc);
   not_prefix_items = λ e. (let b : false ≡ true = sym (ap is_plain e) ∙ h in absurd cc);
@@ -232,11 +234,17 @@ plain k h = record {
   not_ref = λ e. (let b : false ≡ true = sym (ap is_plain e) ∙ h in absurd cc);
 }
 
+map_append : {A B : Type 0} (f : A → B) (xs ys : List A) → map f (xs ++ ys) ≡ map f xs ++ map f ys
+map_append f [] ys = refl
+map_append f (x ∷ xs) ys = ap (λ l. f x ∷ l) (map_append f xs ys)
+
 module _ (schema : ℕ → Doc) (ranks : List ℕ) (root : Doc) (ts : Targets) (targets : AreTargets (λ c. schema (at ranks c)) root ts) (ms : Members) (near : Around) (chosen : Finds schema near.condition (get_member (codes "if") ms))
-    (contained : Finds schema near.contained (get_member (codes "contains") ms)) (least : get_member (codes "minContains") ms ≡ near.least) where
-  pub fits_is : (k : Keyword) (v : Doc) (row : List ℕ) (r : Rule) → map schema row ≡ held_in (shape_of k) v → (k ≡ keywords.Properties → beside (codes "properties") ms ≡ v) → HaveNumbers (patterns_of ts) (texts_of k v) → Fits ts ranks root near k v row r → IsRule schema root ms k v r
-  fits_is keywords.Properties v row r e p known h = subst (IsRule schema root ms keywords.Properties v) (sym h) (is_properties schema root ms v (p refl))
-  fits_is keywords.AdditionalProperties v row r e p known h = subst (IsRule schema root ms keywords.AdditionalProperties v) (sym h) (is_others schema root ms v (first_of row) (first_is schema row v e))
+    (contained : Finds schema near.contained (get_member (codes "contains") ms)) (least : get_member (codes "minContains") ms ≡ near.least) (patterned : get_member (codes "patternProperties") ms ≡ near.patterned) where
+  pub fits_is : (k : Keyword) (v : Doc) (row : List ℕ) (r : Rule) → map schema row ≡ held_in (shape_of k) v → (k ≡ keywords.Properties → beside (codes "properties") ms ≡ v) × (k ≡ keywords.PatternProperties → ⊥) → HaveNumbers (patterns_of ts) (texts_of k v) → Fits ts ranks root near k v row r → IsRule schema root ms k v r
+  fits_is keywords.Properties v row r e p known h = subst (IsRule schema root ms keywords.Properties v) (sym h) (is_properties schema root ms v (p.0 refl))
+  fits_is keywords.PatternProperties v row r e p known h = absurd (p.1 refl)
+  fits_is keywords.AdditionalProperties v row r e p known h = subst (IsRule schema root ms keywords.AdditionalProperties v) (sym h.1)
+      (is_others schema root ms v h.0 (first_of row) (h.2.are_texts ∙ sym (ap (λ o. names_list (members_in (or_null o))) patterned)) (first_is schema row v e))
   fits_is keywords.PropertyNames v row r e p known h = subst (IsRule schema root ms keywords.PropertyNames v) (sym h) (is_names schema root ms v (first_of row) (first_is schema row v e))
   fits_is keywords.Items v row r e p known h = subst (IsRule schema root ms keywords.Items v) (sym h) (is_rest schema root ms v (first_of row) (first_is schema row v e))
   fits_is keywords.Not v row r e p known h = subst (IsRule schema root ms keywords.Not v) (sym h) (is_not schema root ms v (first_of row) (first_is schema row v e))
@@ -276,20 +284,32 @@ module _ (schema : ℕ → Doc) (ranks : List ℕ) (root : Doc) (ts : Targets) (
   fits_is keywords.LeftOut v row r e p known h = subst (IsRule schema root ms keywords.LeftOut v) (sym h) (is_nothing schema root ms v keywords.LeftOut (plain keywords.LeftOut refl) (λ t. refl))
   fits_is keywords.Unknown v row r e p known h = subst (IsRule schema root ms keywords.Unknown v) (sym h) (is_nothing schema root ms v keywords.Unknown (plain keywords.Unknown refl) (λ t. refl))
 
-  -- of all members, in a node that suits
+  -- of one member, in a node that suits
+  fit_all : (x : Node) → Suits schema ms x → (k : Keyword) (v : Doc) (row : List ℕ) (mine : List Rule) → map schema row ≡ held_in (shape_of k) v → (k ≡ keywords.Properties → beside (codes "properties") ms ≡ v) → HaveNumbers (patterns_of ts) (texts_of k v) → FitAll ts ranks root near k v row mine
+      → SayAs root schema ms k v (map (rule_of x) mine)
+  fit_all x suits k v row mine e p known (inl h) =
+      let held : map schema row ≡ values_list (members_in v) = e ∙ ap (λ w. held_in (shape_of w) v) h.0 in
+      subst (λ w. SayAs root schema ms w v (map (rule_of x) mine)) (sym h.0) (say_patterns schema x root ms (patterns_of ts) v row mine h.1 held)
+  fit_all x suits k v row mine e p known (inr h) =
+      let one = fits_is k v row h.1 e (p, h.0) known h.3 x suits in
+      subst (λ l. SayAs root schema ms k v (map (rule_of x) l)) (sym h.2) (say_one root schema ms k v (rule_of x h.1) one.0 one.1)
+
+  -- of all members
   pub rules_are : (x : Node) → Suits schema ms x → (left : Members) (rows : List (Vec ℕ Global)) (rules : List Rule) → HaveRows schema left rows → ((k : List ℕ) (v : Doc) → get_member k left ≡ Some v → get_member k ms ≡ Some v) → AreSorted left
-      → HaveNumbers (patterns_of ts) (texts_by Three left) → AreFitting ts ranks root near left rows rules → AreRulesOf root schema ms (map (rule_of x) rules) left
-  rules_are x suits no_members [] [] h found order known fits = tt
-  rules_are x suits (member k v left) (row ∷ rows) (r ∷ rules) h found order known fits =
-      let one = fits_is (keyword_of k) v row.items r h.0 (λ e. beside_is (found k v (get_member-first k v left)) (properties_name k e)) (λ s i. known s (In-left s _ _ i)) fits.0 x suits in
-      (one.0, one.1, rules_are x suits left rows rules h.1 (λ l w g. found l w (get_later l k w v left order.0 g)) order.1 (λ s i. known s (In-right s (texts_of (keyword_of k) v) _ i)) fits.1)
+      → HaveNumbers (patterns_of ts) (texts_by Three left) → AreFitting ts ranks root near left rows rules → AreRulesFor root schema ms (map (rule_of x) rules) left
+  rules_are x suits no_members [] rules h found order known fits = ap (map (rule_of x)) fits
+  rules_are x suits (member k v left) (row ∷ rows) rules h found order known fits = (
+    map (rule_of x) fits.0,
+    map (rule_of x) fits.1,
+    ap (map (rule_of x)) fits.2 ∙ map_append (rule_of x) fits.0 fits.1,
+    fit_all x suits (keyword_of k) v row.items fits.0 h.0 (λ e. beside_is (found k v (get_member-first k v left)) (properties_name k e)) (λ s i. known s (In-left s _ _ i)) fits.3,
+    rules_are x suits left rows fits.1 h.1 (λ l w g. found l w (get_later l k w v left order.0 g)) order.1 (λ s i. known s (In-right s (texts_of (keyword_of k) v) _ i)) fits.4,
+  )
     where
       beside_is : get_member k ms ≡ Some v → k ≡ codes "properties" → beside (codes "properties") ms ≡ v
       beside_is e same = ap (λ n. beside n ms) (sym same) ∙ ap or_null e
   rules_are x suits no_members (row ∷ rows) rules h found order known fits = absurd h
   rules_are x suits (member k v left) [] rules h found order known fits = absurd h
-  rules_are x suits no_members [] (r ∷ rules) h found order known fits = absurd fits
-  rules_are x suits (member k v left) (row ∷ rows) [] h found order known fits = absurd fits
 
 -- ---- a node that is built
 
@@ -297,7 +317,7 @@ module _ (schema : ℕ → Doc) (ranks : List ℕ) (root : Doc) (ts : Targets) (
   pub built_node : (d : Doc) (rows : List (Vec ℕ Global)) (x : Node) → HaveRows schema (members_in d) rows → HaveNumbers (patterns_of ts) (texts_by Three (members_in d)) → IsBuilt ts ranks root rows x d → IsNodeFor root schema x d
   built_node (object ms) rows x have known b =
       let suits : Suits schema ms x = record { named = b.named schema have; prefix = b.prefix } in
-      rules_are schema ranks root ts targets ms (around ms rows) (single_is schema (codes "if") ms rows if_held have) (single_is schema (codes "contains") ms rows contains_held have) refl x suits ms rows x.rules.items have (λ k v g. g) b.sorted known b.fits
+      rules_are schema ranks root ts targets ms (around ms rows) (single_is schema (codes "if") ms rows if_held have) (single_is schema (codes "contains") ms rows contains_held have) refl refl x suits ms rows x.rules.items have (λ k v g. g) b.sorted known b.fits
   built_node (boolean b) rows x have known h = h
   built_node null rows x have known h = h
   built_node (int z) rows x have known h = h

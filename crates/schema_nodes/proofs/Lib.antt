@@ -1,5 +1,7 @@
 pub mod Growing
 pub mod RuleKinds
+pub mod Matching
+pub mod Patterning
 pub mod Counting
 pub mod KeywordNames
 pub mod Conditions
@@ -12,4 +14,4 @@ mod Wanting
 pub mod Ordering
 pub mod Compiling
 pub mod Looping
-mod Searches
+pub mod Searches

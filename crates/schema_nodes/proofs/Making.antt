@@ -16,8 +16,8 @@ use Rattle.schema_nodes.specs.declared.rules.Targets.{Targets}
 use Rattle.schema_nodes.specs.Entries.{doc_at, StandFor, EachEntry, AreEntries}
 use Rattle.schema_nodes.specs.Fits.{AreTargets, IsTargets, IsMade, AreMade, patterns_of}
 use Rattle.schema_nodes.specs.Nodes.{or_else, schema_of, HaveRows, IsNodeFor, AreNodesFor, AreNumbers}
-use Rattle.schema_nodes.proofs.Fitting.{HaveNumbers, built_node}
-use Rattle.schema_nodes.proofs.Searches.{has_number, texts_within}
+use Rattle.schema_nodes.proofs.Fitting.{built_node}
+use Rattle.schema_nodes.proofs.Searches.{HaveNumbers, has_number, texts_within}
 use Rattle.schema_nodes.proofs.RuleKinds.{Back, moved_rows, placed_at, rows_at, doc_is, within_entries}
 
 pub record NodesMaking (ts : Targets) (ranks : List ℕ) (root : Doc) (order : List ℕ) (es : List Entry) (left : List ℕ) (nodes : List Node) : Type 0 where
@@ -57,12 +57,15 @@ module _ (ts : Targets) (ranks : List ℕ) (root : Doc) (es : List Entry) where
   made_many [] (y ∷ nodes) h = absurd h
   made_many (n ∷ ns) [] h = absurd h
 
+  pub numbered : AreEntries root es → patterns_of ts ≡ pattern_texts root → (n : ℕ) (e : Entry) → slice_get es n ≡ Some e → HaveNumbers (patterns_of ts) (texts_by Three (members_in (view e.schema.now)))
+  numbered are patterns n e at_n s i = has_number (patterns_of ts) s (subst (λ l. In s l) (sym patterns) (texts_within Three (schemas root) (view e.schema.now) s (placed_at root (doc_at es) es n e are at_n) i))
+
   pub nodes_are : (places : List ℕ) (nodes : List Node) → AreEntries root es → Back places ranks es → AreTargets (λ c. schema_of places es (at ranks c)) root ts → patterns_of ts ≡ pattern_texts root → AreMade ts ranks root es places nodes → AreNodesFor root (schema_of places es) nodes
   nodes_are places nodes are back targets patterns h = record {
     says = λ q x e. (let m = made_at places nodes q x h e in
         let d = view m.2.entry.schema.now in
         let have = moved_rows (boolean true) places ranks es back (members_in d) m.2.entry.rows.items m.2.rows (rows_at root (doc_at es) es m.0 m.2.entry are m.2.is_entry) m.2.moved in
-        let known : HaveNumbers (patterns_of ts) (texts_by Three (members_in d)) = λ s i. has_number (patterns_of ts) s (subst (λ l. In s l) (sym patterns) (texts_within Three (schemas root) d s (placed_at root (doc_at es) es m.0 m.2.entry are m.2.is_entry) i)) in
+        let known = numbered are patterns m.0 m.2.entry m.2.is_entry in
         let is : schema_of places es q ≡ d = ap (λ o. or_else (boolean true) (option_and_then (doc_at es) o)) m.1 ∙ ap (or_else (boolean true)) (doc_is es m.0 m.2.entry m.2.is_entry) in
         subst (IsNodeFor root (schema_of places es) x) (sym is) (built_node (schema_of places es) ranks root ts targets d m.2.rows x have known m.2.built));
     past = λ q e. ap (λ o. or_else (boolean true) (option_and_then (doc_at es) o)) (made_past places nodes q h e);

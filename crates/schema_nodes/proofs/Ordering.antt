@@ -1,5 +1,5 @@
 -- What the rules of nodes ask: at the value itself what the edges tell, and of children ranks below the bound.
-use Rattle.std.proofs.Common.{◌≡◌, ℕ, zero, suc, ◌<◌, ◌⊎◌, inl, inr, ⊎_elim, List, [], ◌∷◌, length, Bool, true, false, Option, Some, None, option_map, Vec, Global, refl, sym, ap, subst, ◌∙◌, arith, slice_get, is_some}
+use Rattle.std.proofs.Common.{◌≡◌, ℕ, zero, suc, ◌<◌, ◌⊎◌, inl, inr, ⊎_elim, List, [], ◌∷◌, ◌++◌, append_assoc, string_bytes, ◌||◌, length, Bool, true, false, Option, Some, None, option_map, Vec, Global, refl, sym, ap, subst, ◌∙◌, arith, slice_get, is_some}
 use Rattle.std.specs.Option.{option_and_then, option_to_list}
 use Rattle.std.specs.Prelude.{nat_lt, codes}
 use Rattle.doc_tree.specs.Doc.{Doc, null, boolean, int, text, list, object, Members, no_members, member, get_member}
@@ -14,17 +14,20 @@ use Rattle.schema_rules.specs.Parts.{members_in, beside}
 use Rattle.schema_rules.specs.Schemas.{held_in}
 use Rattle.schema_rules.specs.declared.keyword.Keyword.{Keyword}
 use Rattle.schema_rules.specs.declared.keyword.Keyword.TheVariants as keywords
-use Rattle.schema_levels.specs.Below.{below, number_named, unless}
+use Rattle.schema_levels.specs.Below.{below, number_named, unless, where_found}
+use Rattle.schema_levels.specs.NamePatterns.{texts_of}
+use Rattle.schema_pattern.specs.Patterns.{is_found, pattern_in}
+use Rattle.schema_pattern.specs.Tables.{some_found}
 use Rattle.schema_levels.specs.Closure.{here}
 use Rattle.schema_levels.specs.Nodes.{AreOrdered, asked_here, asked_below}
 use Rattle.schema_levels.specs.declared.node.Node.{Node}
 use Rattle.schema_levels.specs.declared.node.Rule.{Rule}
-use Rattle.schema_levels.specs.declared.node.Rule.TheVariants.{Says, Asserts, Matches, All, Any, One, Then, Else, Dependent, Properties, Others, Names, ByPlace, Rest, Contains, AtLeast, AtMost}
+use Rattle.schema_levels.specs.declared.node.Rule.TheVariants.{Says, Asserts, Matches, All, Any, One, Then, Else, Dependent, Properties, Matching, Others, Names, ByPlace, Rest, Contains, AtLeast, AtMost}
 use Rattle.schema_nodes.specs.declared.entries.Entry.{Entry}
 use Rattle.schema_nodes.specs.declared.rules.Targets.{Targets}
 use Rattle.schema_nodes.specs.Edges.{edges_at, edges_in, AreEdges}
 use Rattle.schema_nodes.specs.Entries.{doc_at, StandFor, AreRows, AreEntries}
-use Rattle.schema_nodes.specs.Fits.{pattern_number, patterns_of, target_number, first_of, IsMatch, IsReference, IsChoice, IsCount, IsLimit, Around, Fits, around, single_number, AreFitting, IsBuilt, IsBuiltOf, AreMade}
+use Rattle.schema_nodes.specs.Fits.{pattern_number, patterns_of, target_number, first_of, IsMatch, IsReference, IsChoice, IsCount, IsLimit, Around, Fits, FitAll, AreMatching, around, single_number, AreFitting, IsBuilt, IsBuiltOf, AreMade}
 use Rattle.schema_nodes.specs.Nodes.{Moved, AreMoved, or_else}
 use Rattle.schema_nodes.proofs.Conditions.{condition_edge, single_rank}
 use Rattle.schema_nodes.proofs.Edging.{both, edges_is}
@@ -37,7 +40,8 @@ abbrev pub AllBelow : List ℕ → ℕ → Type 0
 AllBelow js n = (j : ℕ) → In j js → j < n
 
 abbrev pub children_of : Rule → List ℕ
-children_of (Others j) = j ∷ []
+children_of (Matching p j) = j ∷ []
+children_of (Others ps j) = j ∷ []
 children_of (Names j) = j ∷ []
 children_of (ByPlace v) = v.items
 children_of (Rest j) = j ∷ []
@@ -58,9 +62,14 @@ from_unless : (b : Bool) (j k n : ℕ) → unless b j ≡ Some k → j < n → k
 from_unless true j k n e lt = absurd cc
 from_unless false j k n e lt = let same : j ≡ k = cc in omega (arith, same, lt)
 
+from_found : (b : Bool) (j k n : ℕ) → where_found b j ≡ Some k → j < n → k < n
+from_found true j k n e lt = let same : j ≡ k = cc in omega (arith, same, lt)
+from_found false j k n e lt = absurd cc
+
 below_is : (x : Node) (r : Rule) (p : PlaceInValue) (j n : ℕ) → below x r p ≡ Some j → AllBelow (children_of r) n → NamedBelow x n → j < n
 below_is x Properties (name k) j n e h named = named k j e
-below_is x (Others i) (name k) j n e h named = from_unless (is_some (number_named k x.named.entries)) i j n e (h i first)
+below_is x (Matching q i) (name k) j n e h named = from_found (is_found (pattern_in (string_bytes q.text)) k) i j n e (h i first)
+below_is x (Others qs i) (name k) j n e h named = from_unless (is_some (number_named k x.named.entries) || some_found (texts_of qs.items) k) i j n e (h i first)
 below_is x (Names i) member_name j n e h named = let same : i ≡ j = cc in h j (subst (λ y. In j (y ∷ [])) (sym same) first)
 below_is x (ByPlace v) (index m) j n e h named = h j (got v.items m j e)
 below_is x (Rest i) (index m) j n e h named = from_unless (nat_lt m x.prefix) i j n e (h i first)
@@ -84,6 +93,37 @@ RankIn ranks edges j = (c : ℕ) × In c edges × (at ranks c ≡ j)
 pub record OfRule (ranks : List ℕ) (condition : Option ℕ) (n : ℕ) (edges : List ℕ) (r : Rule) : Type 0 where
   pub at_itself : (j : ℕ) → In j (here r) → RankIn ranks edges j ⊎ (condition ≡ Some j)
   pub at_children : AllBelow (children_of r) n
+
+-- the same of several
+pub record OfRules (ranks : List ℕ) (condition : Option ℕ) (n : ℕ) (edges : List ℕ) (rs : List Rule) : Type 0 where
+  pub at_itself : (j : ℕ) → In j (asked_here rs) → RankIn ranks edges j ⊎ (condition ≡ Some j)
+  pub at_children : (r : Rule) → In r rs → AllBelow (children_of r) n
+
+one_of : {ranks : List ℕ} {condition : Option ℕ} {n : ℕ} (edges : List ℕ) (r : Rule) → OfRule ranks condition n edges r → OfRules ranks condition n edges (r ∷ [])
+one_of {n = n} edges r h = record {
+  at_itself = λ j i. ⊎_elim (λ a. h.at_itself j a) (λ b. none_in j b) (In-parts j (here r) [] i);
+  at_children = λ q i. only_one q i;
+}
+  where
+    only_one : (q : Rule) → In q (r ∷ []) → AllBelow (children_of q) n
+    only_one _ first = h.at_children
+    only_one q (later l) = none_in q l
+
+none_of : {ranks : List ℕ} {condition : Option ℕ} {n : ℕ} {edges : List ℕ} → OfRules ranks condition n edges []
+none_of = record { at_itself = λ j i. none_in j i; at_children = λ q i. none_in q i }
+
+here_append : (xs ys : List Rule) → asked_here (xs ++ ys) ≡ asked_here xs ++ asked_here ys
+here_append [] ys = refl
+here_append (r ∷ xs) ys = ap (λ l. here r ++ l) (here_append xs ys) ∙ sym (append_assoc (here r) (asked_here xs) (asked_here ys))
+
+below_append : (x : Node) (p : PlaceInValue) (xs ys : List Rule) → asked_below x p (xs ++ ys) ≡ asked_below x p xs ++ asked_below x p ys
+below_append x p [] ys = refl
+below_append x p (r ∷ xs) ys = ap (λ l. option_to_list (below x r p) ++ l) (below_append x p xs ys) ∙ sym (append_assoc (option_to_list (below x r p)) (asked_below x p xs) (asked_below x p ys))
+
+rules_below : {n : ℕ} (x : Node) → NamedBelow x n → (p : PlaceInValue) (rs : List Rule) → ((r : Rule) → In r rs → AllBelow (children_of r) n) → (j : ℕ) → In j (asked_below x p rs) → j < n
+rules_below x named p [] h j i = none_in j i
+rules_below {n = n} x named p (r ∷ rs) h j i =
+    ⊎_elim (λ a. below_is x r p j n (only (below x r p) j a) (h r first) named) (λ b. rules_below x named p rs (λ q at. h q (later at)) j b) (In-parts j (option_to_list (below x r p)) (asked_below x p rs) i)
 
 module _ (ts : Targets) (ranks : List ℕ) (root : Doc) (near : Around) (at' : ℕ → Option Doc) (n : ℕ) (bound : (c : ℕ) (d : Doc) → at' c ≡ Some d → at ranks c < n)
     (contained : (j : ℕ) → near.contained ≡ Some j → j < n) where
@@ -173,7 +213,8 @@ module _ (ts : Targets) (ranks : List ℕ) (root : Doc) (near : Around) (at' : �
 
   pub fits_of : (k : Keyword) (v : Doc) (row js : List ℕ) (r : Rule) → StandFor at' row (held_in (shape_of k) v) → Moved ranks row js → Fits ts ranks root near k v js r → OfRule ranks near.condition n (edges_at ts root k v row) r
   fits_of keywords.Properties v row js r stand moved h = subst (OfRule ranks near.condition n []) (sym h) (asks_nothing Properties refl refl)
-  fits_of keywords.AdditionalProperties v row js r stand moved h = subst (OfRule ranks near.condition n []) (sym h) (below_all row js _ (Others (first_of js)) stand moved refl (one_in js (first_of js) (first_in row js v stand moved)))
+  fits_of keywords.PatternProperties v row js r stand moved h = subst (OfRule ranks near.condition n []) (sym h.1) (asks_nothing (Asserts h.0) refl refl)
+  fits_of keywords.AdditionalProperties v row js r stand moved h = subst (OfRule ranks near.condition n []) (sym h.1) (below_all row js _ (Others h.0 (first_of js)) stand moved refl (one_in js (first_of js) (first_in row js v stand moved)))
   fits_of keywords.PropertyNames v row js r stand moved h = subst (OfRule ranks near.condition n []) (sym h) (below_all row js _ (Names (first_of js)) stand moved refl (one_in js (first_of js) (first_in row js v stand moved)))
   fits_of keywords.Items v row js r stand moved h = subst (OfRule ranks near.condition n []) (sym h) (below_all row js _ (Rest (first_of js)) stand moved refl (one_in js (first_of js) (first_in row js v stand moved)))
   fits_of keywords.PrefixItems v row js r stand moved h = subst (OfRule ranks near.condition n []) (sym h.1) (below_all row js _ (ByPlace h.0) stand moved refl (λ j i. subst (λ (l : List ℕ). In j l) h.2 i))
@@ -216,34 +257,60 @@ module _ (ts : Targets) (ranks : List ℕ) (root : Doc) (near : Around) (at' : �
   fits_of keywords.LeftOut v row js r stand moved h = subst (OfRule ranks near.condition n []) (sym h) (asks_nothing (Says true) refl refl)
   fits_of keywords.Unknown v row js r stand moved h = subst (OfRule ranks near.condition n []) (sym h) (asks_nothing (Says true) refl refl)
 
+  -- the rules of one member
+  matching_of : (ss : Members) (row js : List ℕ) (ds : List Doc) (mine : List Rule) → StandFor at' row ds → Moved ranks row js → AreMatching (patterns_of ts) ss js mine → OfRules ranks near.condition n [] mine
+  matching_of no_members row js ds [] stand moved h = none_of
+  matching_of no_members row js ds (r ∷ mine) stand moved h = absurd h
+  matching_of (member s d ss) row [] ds [] stand moved h = none_of
+  matching_of (member s d ss) row [] ds (r ∷ mine) stand moved h = absurd h
+  matching_of (member s d ss) row (j ∷ js) ds [] stand moved h = absurd h
+  matching_of (member s d ss) [] (j ∷ js) ds (r ∷ mine) stand moved h = absurd moved
+  matching_of (member s d ss) (c ∷ row) (j ∷ js) [] (r ∷ mine) stand moved h = absurd stand
+  matching_of (member s d ss) (c ∷ row) (j ∷ js) (e ∷ ds) (r ∷ mine) stand moved h =
+      let rest = matching_of ss row js ds mine stand.1 moved.1 h.3 in
+      let lt : j < n = omega (arith, moved.0, bound c e stand.0) in
+      record {
+        at_itself = λ i a. ⊎_elim (λ b. none_in i (subst (λ q. In i (here q)) h.1 b)) (λ b. rest.at_itself i b) (In-parts i (here r) (asked_here mine) a);
+        at_children = λ q a. of_first q lt a rest.at_children;
+      }
+    where
+      one_below : (i k : ℕ) → i < n → In k (i ∷ []) → k < n
+      one_below i _ lt first = lt
+      one_below i k lt (later l) = none_in k l
+
+      of_first : (q : Rule) → j < n → In q (r ∷ mine) → ((q : Rule) → In q mine → AllBelow (children_of q) n) → AllBelow (children_of q) n
+      of_first _ lt first rest k i = one_below j k lt (subst (λ u. In k (children_of u)) h.1 i)
+      of_first q lt (later a) rest k i = rest q a k i
+
+  all_of : (k : Keyword) (v : Doc) (row js : List ℕ) (mine : List Rule) → StandFor at' row (held_in (shape_of k) v) → Moved ranks row js → FitAll ts ranks root near k v js mine → OfRules ranks near.condition n (edges_at ts root k v row) mine
+  all_of k v row js mine stand moved (inl h) = subst (λ w. OfRules ranks near.condition n (edges_at ts root w v row) mine) (sym h.0) (matching_of (members_in v) row js (held_in (shape_of k) v) mine stand moved h.1)
+  all_of k v row js mine stand moved (inr h) = subst (OfRules ranks near.condition n (edges_at ts root k v row)) (sym h.2) (one_of (edges_at ts root k v row) h.1 (fits_of k v row js h.1 stand moved h.3))
+
   -- all rules of a schema object
   pub here_of : (ms : Members) (rows moved : List (Vec ℕ Global)) (rs : List Rule) → AreRows at' ms rows → AreMoved ranks rows moved → AreFitting ts ranks root near ms moved rs
       → (j : ℕ) → In j (asked_here rs) → RankIn ranks (edges_in ts root ms rows) j ⊎ (near.condition ≡ Some j)
-  here_of no_members [] [] [] h m f j i = none_in j i
-  here_of (member k v ms) (row ∷ rows) (js ∷ moved) (r ∷ rs) h m f j i =
-      let one = fits_of (keyword_of k) v row.items js.items r h.0 m.0 f.0 in
-      ⊎_elim (λ a. ⊎_elim (λ t. inl (t.0, In-left t.0 _ _ t.1, t.2)) (λ is. inr is) (one.at_itself j a))
-      (λ b. ⊎_elim (λ t. inl (t.0, In-right t.0 (edges_at ts root (keyword_of k) v row.items) _ t.1, t.2)) (λ is. inr is) (here_of ms rows moved rs h.1 m.1 f.1 j b))
-      (In-parts j (here r) (asked_here rs) i)
+  here_of no_members [] [] rs h m f j i = none_in j (subst (λ l. In j (asked_here l)) f i)
+  here_of (member k v ms) (row ∷ rows) (js ∷ moved) rs h m f j i =
+      let mine = all_of (keyword_of k) v row.items js.items f.0 h.0 m.0 f.3 in
+      ⊎_elim (λ a. ⊎_elim (λ t. inl (t.0, In-left t.0 _ _ t.1, t.2)) (λ is. inr is) (mine.at_itself j a))
+      (λ b. ⊎_elim (λ t. inl (t.0, In-right t.0 (edges_at ts root (keyword_of k) v row.items) _ t.1, t.2)) (λ is. inr is) (here_of ms rows moved f.1 h.1 m.1 f.4 j b))
+      (In-parts j (asked_here f.0) (asked_here f.1) (subst (λ l. In j l) (ap asked_here f.2 ∙ here_append f.0 f.1) i))
   here_of no_members (row ∷ rows) moved rs h m f j i = absurd h
   here_of (member k v ms) [] moved rs h m f j i = absurd h
   here_of no_members [] (js ∷ moved) rs h m f j i = absurd m
   here_of (member k v ms) (row ∷ rows) [] rs h m f j i = absurd m
-  here_of no_members [] [] (r ∷ rs) h m f j i = absurd f
-  here_of (member k v ms) (row ∷ rows) (js ∷ moved) [] h m f j i = none_in j i
 
   pub below_of : (x : Node) → NamedBelow x n → (p : PlaceInValue) (ms : Members) (rows moved : List (Vec ℕ Global)) (rs : List Rule) → AreRows at' ms rows → AreMoved ranks rows moved → AreFitting ts ranks root near ms moved rs
       → (j : ℕ) → In j (asked_below x p rs) → j < n
-  below_of x named p no_members [] [] [] h m f j i = none_in j i
-  below_of x named p (member k v ms) (row ∷ rows) (js ∷ moved) (r ∷ rs) h m f j i =
-      let one = fits_of (keyword_of k) v row.items js.items r h.0 m.0 f.0 in
-      ⊎_elim (λ a. below_is x r p j n (only (below x r p) j a) one.at_children named) (λ b. below_of x named p ms rows moved rs h.1 m.1 f.1 j b) (In-parts j (option_to_list (below x r p)) (asked_below x p rs) i)
+  below_of x named p no_members [] [] rs h m f j i = none_in j (subst (λ l. In j (asked_below x p l)) f i)
+  below_of x named p (member k v ms) (row ∷ rows) (js ∷ moved) rs h m f j i =
+      let mine = all_of (keyword_of k) v row.items js.items f.0 h.0 m.0 f.3 in
+      ⊎_elim (λ a. rules_below x named p f.0 mine.at_children j a) (λ b. below_of x named p ms rows moved f.1 h.1 m.1 f.4 j b)
+      (In-parts j (asked_below x p f.0) (asked_below x p f.1) (subst (λ l. In j l) (ap (asked_below x p) f.2 ∙ below_append x p f.0 f.1) i))
   below_of x named p no_members (row ∷ rows) moved rs h m f j i = absurd h
   below_of x named p (member k v ms) [] moved rs h m f j i = absurd h
   below_of x named p no_members [] (js ∷ moved) rs h m f j i = absurd m
   below_of x named p (member k v ms) (row ∷ rows) [] rs h m f j i = absurd m
-  below_of x named p no_members [] [] (r ∷ rs) h m f j i = absurd f
-  below_of x named p (member k v ms) (row ∷ rows) (js ∷ moved) [] h m f j i = none_in j i
 
 -- ---- the nodes of `properties`
 

@@ -1,5 +1,5 @@
 -- Each kind of rule asks and joins as its keyword does.
-use Rattle.std.proofs.Common.{◌≡◌, ℕ, zero, suc, ◌+◌, ◌-◌, ◌<◌, ◌≤◌, List, [], ◌∷◌, ◌++◌, map, length, Bool, true, false, is_some, Option, Some, None, option_map, refl, sym, ap, ap₂, subst, ◌∙◌, arith, if◌then◌else◌, codes, append-nil, slice_get, String, Vec, Global, string_bytes}
+use Rattle.std.proofs.Common.{◌≡◌, ℕ, zero, suc, ◌+◌, ◌-◌, ◌<◌, ◌≤◌, List, [], ◌∷◌, ◌++◌, map, length, Bool, true, false, ◌||◌, is_some, Option, Some, None, option_map, refl, sym, ap, ap₂, subst, ◌∙◌, arith, if◌then◌else◌, codes, append-nil, slice_get, String, Vec, Global, string_bytes}
 use Rattle.std.specs.Prelude.{nat_lt}
 use Rattle.doc_tree.specs.Doc.{Doc, null, boolean, int, text, list, object, Elements, no_elements, element, Members, no_members, member, get_member}
 use Rattle.schema_levels.specs.PlaceInValue.{name, index, member_name}
@@ -18,6 +18,9 @@ use Rattle.schema_rules.specs.declared.keyword.Keyword.TheVariants.{Pattern, Pro
 use Rattle.schema_rules.proofs.Others.{AsksNone, asks-none, joins-none}
 use Rattle.schema_nodes.specs.Rules.{schemas_asked}
 use Rattle.schema_levels.specs.Below.{below, number_named, unless}
+use Rattle.schema_levels.specs.NamePatterns.{texts_of}
+use Rattle.schema_levels.specs.declared.node.NamePattern.{NamePattern}
+use Rattle.schema_pattern.specs.Tables.{some_found}
 use Rattle.schema_levels.specs.Closure.{here}
 use Rattle.schema_levels.specs.Table.{Child, children, items_from, members_each, titles, ask_children, ask_found, ask_here, rule_of}
 use Rattle.schema_levels.specs.declared.node.Node.{Node}
@@ -58,7 +61,7 @@ by_each_join schema (j ∷ row) no_members t e = absurd cc
 
 -- ---- at children: nothing is asked of elements, or of members
 
-no_items : (x : Node) (r : Rule) → ((n : ℕ) → below x r (index n) ≡ None) → (n : ℕ) (ts : Elements) → ask_children x r (items_from n ts) ≡ []
+pub no_items : (x : Node) (r : Rule) → ((n : ℕ) → below x r (index n) ≡ None) → (n : ℕ) (ts : Elements) → ask_children x r (items_from n ts) ≡ []
 no_items x r h n no_elements = refl
 no_items x r h n (element t ts) = rw (h n) (no_items x r h (suc n) ts)
 
@@ -176,12 +179,14 @@ module _ (schema : ℕ → Doc) (x : Node) (ss : Members) (same : AreNamed schem
   other_join true j t rest asked h = h
   other_join false j t rest asked h = ap (λ l. ask (schema j) t ∷ l) h
 
-  others_join : (j : ℕ) (ts : Members) → schemas_asked schema (ask_children x (Others j) (members_each ts)) ≡ of_others ss (schema j) ts
-  others_join j no_members = refl
-  others_join j (member k t ts) =
+  others_join : (ps : Vec NamePattern Global) (j : ℕ) (ts : Members) → schemas_asked schema (ask_children x (Others ps j) (members_each ts)) ≡ of_others ss (texts_of ps.items) (schema j) ts
+  others_join ps j no_members = refl
+  others_join ps j (member k t ts) =
       let b : is_some (number_named k x.named.entries) ≡ is_some (get_member k ss) = sym (is_some_map (number_named k x.named.entries)) ∙ ap is_some (same k) in
-      other_join (is_some (number_named k x.named.entries)) j t (ask_children x (Others j) (members_each ts)) (of_others ss (schema j) ts) (others_join j ts)
-      ∙ ap (λ f. if f then of_others ss (schema j) ts else (ask (schema j) t ∷ of_others ss (schema j) ts)) b
+      let found = some_found (texts_of ps.items) k in
+      let rest = of_others ss (texts_of ps.items) (schema j) ts in
+      other_join (is_some (number_named k x.named.entries) || found) j t (ask_children x (Others ps j) (members_each ts)) rest (others_join ps j ts)
+      ∙ ap (λ f. if f || found then rest else (ask (schema j) t ∷ rest)) b
 
 by_name_none : (d : Doc) → each_named d no_members ≡ []
 by_name_none null = refl
@@ -219,16 +224,16 @@ module _ (schema : ℕ → Doc) (root : Doc) (ms : Members) (v : Doc) where
       asked (list ts) = ap (schemas_asked schema) (no_items x Properties (λ n. refl) 0 ts) ∙ sym (by_name_none v)
       asked (object ts) = ap (schemas_asked schema) (of_members x Properties refl ts) ∙ properties_join schema x (members_in v) same ts ∙ each_is v ts
 
-  pub is_others : (j : ℕ) → schema j ≡ v → IsRule schema root ms AdditionalProperties v (Others j)
-  is_others j e x suits = (λ t. asked t ∙ ap (λ d. of_others (members_in (beside (codes "properties") ms)) d (members_in t)) e, λ t bs. refl)
+  pub is_others : (ps : Vec NamePattern Global) (j : ℕ) → texts_of ps.items ≡ names_list (members_in (beside (codes "patternProperties") ms)) → schema j ≡ v → IsRule schema root ms AdditionalProperties v (Others ps j)
+  is_others ps j names e x suits = (λ t. asked t ∙ ap₂ (λ ns d. of_others (members_in (beside (codes "properties") ms)) ns d (members_in t)) names e, λ t bs. refl)
     where
-      asked : (t : Doc) → schemas_asked schema (ask_children x (Others j) (children t)) ≡ of_others (members_in (beside (codes "properties") ms)) (schema j) (members_in t)
+      asked : (t : Doc) → schemas_asked schema (ask_children x (Others ps j) (children t)) ≡ of_others (members_in (beside (codes "properties") ms)) (texts_of ps.items) (schema j) (members_in t)
       asked null = refl
       asked (boolean b) = refl
       asked (int z) = refl
       asked (text s) = refl
-      asked (list ts) = ap (schemas_asked schema) (no_items x (Others j) (λ n. refl) 0 ts)
-      asked (object ts) = ap (schemas_asked schema) (of_members x (Others j) refl ts) ∙ others_join schema x (members_in (beside (codes "properties") ms)) suits.named j ts
+      asked (list ts) = ap (schemas_asked schema) (no_items x (Others ps j) (λ n. refl) 0 ts)
+      asked (object ts) = ap (schemas_asked schema) (of_members x (Others ps j) refl ts) ∙ others_join schema x (members_in (beside (codes "properties") ms)) suits.named ps j ts
 
   pub is_names : (j : ℕ) → schema j ≡ v → IsRule schema root ms PropertyNames v (Names j)
   is_names j e x suits = (λ t. asked t ∙ ap (λ d. of_names d (members_in t)) e, λ t bs. refl)

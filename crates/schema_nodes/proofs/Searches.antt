@@ -1,27 +1,37 @@
 -- A text has the number of a pattern that is this text, and rules search for patterns by these numbers.
-use Rattle.std.proofs.Common.{◌≡◌, ℕ, zero, suc, ◌+◌, ◌<◌, List, [], ◌∷◌, map, length, drop, get_or, Bool, true, false, if◌then◌else◌, Option, Some, None, Vec, Global, option_map, refl, sym, ap, subst, ◌∙◌, arith}
+use Rattle.std.proofs.Common.{◌≡◌, ℕ, zero, suc, ◌+◌, ◌<◌, ◌≤◌, ◌⊎◌, inl, inr, List, [], ◌∷◌, ◌++◌, map, codes, slice_get, string_bytes, length, drop, get_or, Bool, true, false, if◌then◌else◌, Option, Some, None, Vec, Global, option_map, refl, sym, ap, subst, ◌∙◌, arith}
 use Rattle.std.specs.Str.{bytes_eq}
 use Rattle.std.proofs.lemmas.Slice.Eq.{bytes_eq-Decides}
 use Rattle.std.proofs.Math.Seq.{drop-cons}
-use Rattle.doc_tree.specs.Doc.{Doc, null, boolean, int, text, list, object, Members, no_members, member}
+use Rattle.doc_tree.specs.Doc.{Doc, null, boolean, int, text, list, object, Members, no_members, member, get_member}
+use Rattle.doc_tree.specs.Lists.{names_list}
+use Rattle.doc_tree.proofs.Members.{get_member-first, get_member-later}
 use Rattle.doc_tree.specs.TreeView.{view}
 use Rattle.schema_graph.specs.Orders.{at}
 use Rattle.schema_graph.specs.Walks.{In, first, later}
-use Rattle.schema_graph.proofs.Among.{In-left, In-right}
+use Rattle.schema_graph.proofs.Among.{In-left, In-right, none_in}
 use Rattle.schema_pattern.specs.Tables.{source_at}
-use Rattle.schema_rules.specs.Parts.{members_in}
-use Rattle.schema_rules.specs.PatternTexts.{texts_by, texts_in}
+use Rattle.schema_rules.specs.Parts.{members_in, or_null}
+use Rattle.schema_rules.specs.PatternTexts.{texts_of as texts_of_keyword, texts_by, texts_in}
 use Rattle.schema_rules.specs.declared.profile.Profile.{Profile}
+use Rattle.schema_rules.specs.declared.profile.Profile.TheVariants.{Three}
 use Rattle.schema_rules.specs.Keywords.{keyword_of}
 use Rattle.schema_rules.specs.declared.keyword.Keyword.{Keyword}
 use Rattle.schema_rules.specs.declared.keyword.Keyword.TheVariants as keywords
-use Rattle.schema_levels.specs.Searched.{IsSearched, AreRulesSearched, AreSearched}
+use Rattle.schema_levels.specs.Searched.{IsSearched, IsNameSearched, AreNamesSearched, AreRulesSearched, AreSearched}
+use Rattle.schema_levels.specs.NamePatterns.{patterns_by, texts_of}
+use Rattle.schema_levels.specs.declared.node.NamePattern.{NamePattern}
 use Rattle.schema_levels.specs.declared.node.Node.{Node}
 use Rattle.schema_levels.specs.declared.node.Rule.{Rule}
-use Rattle.schema_levels.specs.declared.node.Rule.TheVariants.{Says, Asserts, Matches, All, Any, One, Then, Else, Dependent, Refers, ByPlace, Contains, AtLeast, AtMost}
+use Rattle.schema_levels.specs.declared.node.Rule.TheVariants.{Says, Asserts, Matches, All, Any, One, Then, Else, Dependent, Refers, Others, ByPlace, Contains, AtLeast, AtMost}
 use Rattle.schema_nodes.specs.declared.entries.Entry.{Entry}
 use Rattle.schema_nodes.specs.declared.rules.Targets.{Targets}
-use Rattle.schema_nodes.specs.Fits.{Around, Fits, AreFitting, IsBuilt, IsChoice, IsCount, IsLimit, IsMatch, IsReference, AreMade, number_in, pattern_number, patterns_of, target_number}
+use Rattle.schema_nodes.proofs.KeywordNames.{pattern_properties_is}
+use Rattle.schema_nodes.specs.Fits.{Around, Fits, FitAll, around, first_of, AreFitting, AreMatching, ArePatterns, IsNumbered, or_first, IsBuilt, IsChoice, IsCount, IsLimit, IsMatch, IsReference, AreMade, number_in, pattern_number, patterns_of, target_number}
+
+-- each of these texts has a number
+abbrev pub HaveNumbers : List (List ℕ) → List (List ℕ) → Type 0
+HaveNumbers ps ss = (s : List ℕ) → In s ss → number_in ps s ≡ None → ⊥
 
 -- ---- the number of a text
 
@@ -89,27 +99,91 @@ module _ (ps : List (List ℕ)) (s d : List ℕ) (i : ℕ) (below : i < length p
       ∙ sym (further_on i (number_in (drop (suc i) ps) s))
       ∙ sym (ap (λ b. further i (if b then Some 0 else option_map suc (number_in (drop (suc i) ps) s))) other) ∙ sym (ap (λ l. further i (number_in l s)) split) ∙ h
 
+-- ---- the patterns of `patternProperties` beside a member
+
+pub beside_texts : (ms : Members) (s : List ℕ) → In s (names_list (members_in (or_null (get_member (codes "patternProperties") ms)))) → In s (texts_by Three ms)
+beside_texts no_members s i = none_in s i
+beside_texts (member k v ms) s i = by_name (bytes_eq k (codes "patternProperties")) refl (λ h. beside_texts ms s h)
+  where
+    by_name : (b : Bool) → bytes_eq k (codes "patternProperties") ≡ b → (In s (names_list (members_in (or_null (get_member (codes "patternProperties") ms)))) → In s (texts_by Three ms)) → In s (texts_of_keyword (keyword_of k) v ++ texts_by Three ms)
+    by_name true e rest =
+        let same : k ≡ codes "patternProperties" = (bytes_eq-Decides k (codes "patternProperties")).0 e in
+        let is : keyword_of k ≡ keywords.PatternProperties = ap keyword_of same ∙ pattern_properties_is in
+        let found : get_member (codes "patternProperties") (member k v ms) ≡ Some v = sym (ap (λ n. get_member n (member k v ms)) same) ∙ get_member-first k v ms in
+        In-left s _ _ (subst (λ w. In s (texts_of_keyword w v)) (sym is) (subst (λ o. In s (names_list (members_in (or_null o)))) found i))
+    by_name false e rest =
+        let found : get_member (codes "patternProperties") (member k v ms) ≡ get_member (codes "patternProperties") ms = get_member-later (codes "patternProperties") k v ms (λ (same : codes "patternProperties" ≡ k). (let t = (bytes_eq-Decides k (codes "patternProperties")).1 (sym same) in absurd cc)) in
+        In-right s (texts_of_keyword (keyword_of k) v) _ (rest (subst (λ o. In s (names_list (members_in (or_null o)))) found i))
+
 -- ---- rules
 
-module _ (ss : List (List ℕ)) where
-  same : (r s : Rule) → r ≡ s → IsSearched ss s → IsSearched ss r
-  same r s e h = subst (IsSearched ss) (sym e) h
+rules_append : (ss : List (List ℕ)) (xs ys : List Rule) → AreRulesSearched ss xs → AreRulesSearched ss ys → AreRulesSearched ss (xs ++ ys)
+rules_append ss [] ys h g = g
+rules_append ss (r ∷ xs) ys h g = (h.0, h.1, rules_append ss xs ys h.2 g)
 
-  of_choice : (o : Option ℕ) (f : ℕ → ℕ → Rule) (row : List ℕ) (r : Rule) → ((a b : ℕ) → IsSearched ss (f a b)) → IsChoice f o row r → IsSearched ss r
-  of_choice None f row r none h = same r (Says true) h tt
-  of_choice (Some c) f row r none h = same r _ h (none _ _)
+module _ (ss : List (List ℕ)) (few : length ss ≤ 64) where
+  -- what it searches texts for, and what names
+  abbrev Both : Rule → Type 0
+  Both r = IsSearched ss r × AreNamesSearched ss (patterns_by r)
 
-  of_reference : (o : Option ℕ) (r : Rule) → IsReference o r → IsSearched ss r
-  of_reference (Some j) r h = same r (Refers j) h tt
-  of_reference None r h = same r (All h.0) h.1 tt
+  both : (s : Rule) → IsSearched ss s → patterns_by s ≡ [] → Both s
+  both s h none = (h, λ p at. none_in p (subst (λ l. In p l) none at))
 
-  of_count : (o : Option Doc) (row : List ℕ) (r : Rule) → IsCount o row r → IsSearched ss r
-  of_count None row r h = same r (Contains _) h tt
-  of_count (Some d) row r h = same r (AtLeast _ h.0) h.1 tt
+  same : (r s : Rule) → r ≡ s → IsSearched ss s → patterns_by s ≡ [] → Both r
+  same r s e h none = subst Both (sym e) (both s h none)
 
-  of_limit : (o : Option ℕ) (v : Doc) (r : Rule) → IsLimit o v r → IsSearched ss r
-  of_limit None v r h = same r (Says true) h tt
-  of_limit (Some j) v r h = same r (AtMost j h.0) h.1 tt
+  -- ---- patterns for names
+
+  has_text : (found : List NamePattern) (p : NamePattern) → In p found → In (string_bytes p.text) (texts_of found)
+  has_text [] p i = none_in p i
+  has_text (_ ∷ found) p first = first
+  has_text (q ∷ found) p (later i) = later (has_text found p i)
+
+  name_searched : (p : NamePattern) → (number_in ss (string_bytes p.text) ≡ None → ⊥) → IsNumbered ss p → IsNameSearched ss p
+  name_searched p known e = by_number (number_in ss (string_bytes p.text)) refl
+    where
+      by_number : (o : Option ℕ) → number_in ss (string_bytes p.text) ≡ o → IsNameSearched ss p
+      by_number None h = absurd (known h)
+      by_number (Some n) h =
+          let at' = number_at ss (string_bytes p.text) n h in
+          let is : p.number ≡ n = e ∙ ap or_first h in
+          record { small = omega (arith, is, at'.0, few); within = omega (arith, is, at'.0); is_text = sym (ap (source_at ss) is ∙ at'.1) }
+
+  names_searched : (names : List (List ℕ)) (found : List NamePattern) → ((s : List ℕ) → In s names → number_in ss s ≡ None → ⊥) → ArePatterns ss names found → AreNamesSearched ss found
+  names_searched names found known h p i = name_searched p (known (string_bytes p.text) (subst (λ l. In (string_bytes p.text) l) h.are_texts (has_text found p i))) (h.numbered p i)
+
+  matching_searched : (ms : Members) (row : List ℕ) (rs : List Rule) → ((s : List ℕ) → In s (names_list ms) → number_in ss s ≡ None → ⊥) → AreMatching ss ms row rs → AreRulesSearched ss rs
+  matching_searched no_members row [] known h = tt
+  matching_searched no_members row (r ∷ rs) known h = absurd h
+  matching_searched (member s d ms) [] [] known h = tt
+  matching_searched (member s d ms) [] (r ∷ rs) known h = absurd h
+  matching_searched (member s d ms) (j ∷ row) [] known h = absurd h
+  matching_searched (member s d ms) (j ∷ row) (r ∷ rs) known h =
+      let is = name_searched h.0 (subst (λ u. number_in ss u ≡ None → ⊥) (sym h.2.is_text) (known s first)) h.2.numbered in (
+        subst (IsSearched ss) (sym h.1) tt,
+        subst (λ q. AreNamesSearched ss (patterns_by q)) (sym h.1) (λ p i. only h.0 is p i),
+        matching_searched ms row rs (λ u i. known u (later i)) h.3,
+      )
+    where
+      only : (q : NamePattern) → IsNameSearched ss q → (p : NamePattern) → In p (q ∷ []) → IsNameSearched ss p
+      only q is _ first = is
+      only q is p (later i) = none_in p i
+
+  of_choice : (o : Option ℕ) (f : ℕ → ℕ → Rule) (row : List ℕ) (r : Rule) → ((a b : ℕ) → IsSearched ss (f a b)) → ((a b : ℕ) → patterns_by (f a b) ≡ []) → IsChoice f o row r → Both r
+  of_choice None f row r none empty h = same r (Says true) h tt refl
+  of_choice (Some c) f row r none empty h = same r _ h (none _ _) (empty _ _)
+
+  of_reference : (o : Option ℕ) (r : Rule) → IsReference o r → Both r
+  of_reference (Some j) r h = same r (Refers j) h tt refl
+  of_reference None r h = same r (All h.0) h.1 tt refl
+
+  of_count : (o : Option Doc) (row : List ℕ) (r : Rule) → IsCount o row r → Both r
+  of_count None row r h = same r (Contains _) h tt refl
+  of_count (Some d) row r h = same r (AtLeast _ h.0) h.1 tt refl
+
+  of_limit : (o : Option ℕ) (v : Doc) (r : Rule) → IsLimit o v r → Both r
+  of_limit None v r h = same r (Says true) h tt refl
+  of_limit (Some j) v r h = same r (AtMost j h.0) h.1 tt refl
 
   at_value : (v : Doc) (n : ℕ) → pattern_number ss v ≡ Some n → (n < length ss) × (v ≡ text (source_at ss n))
   at_value (text s) n e = let r = number_at ss s n e in (r.0, ap (λ x. text x) (sym r.1))
@@ -119,55 +193,67 @@ module _ (ss : List (List ℕ)) where
   at_value (list ds) n e = absurd cc
   at_value (object ms) n e = absurd cc
 
-  of_match : (v : Doc) (o : Option ℕ) (r : Rule) → pattern_number ss v ≡ o → IsMatch o v r → IsSearched ss r
-  of_match v None r e h = same r (Says true) h tt
-  of_match v (Some n) r e h = let a = at_value v n e in same r (Matches n h.0) h.1 (a.0, h.2 ∙ a.1)
+  of_match : (v : Doc) (o : Option ℕ) (r : Rule) → pattern_number ss v ≡ o → IsMatch o v r → Both r
+  of_match v None r e h = same r (Says true) h tt refl
+  of_match v (Some n) r e h = let a = at_value v n e in same r (Matches n h.0) h.1 (a.0, h.2 ∙ a.1) refl
+
+  -- each pattern of `patternProperties` beside a member has a number
+  abbrev HavePatterns : Around → Type 0
+  HavePatterns near = HaveNumbers ss (names_list (members_in (or_null near.patterned)))
 
   module _ (ts : Targets) (ranks : List ℕ) (root : Doc) (are : patterns_of ts ≡ ss) where
-    of_member : (near : Around) (k : Keyword) (v : Doc) (row : List ℕ) (r : Rule) → Fits ts ranks root near k v row r → IsSearched ss r
-    of_member near keywords.Properties v row r h = same r _ h tt
-    of_member near keywords.AdditionalProperties v row r h = same r _ h tt
-    of_member near keywords.PropertyNames v row r h = same r _ h tt
-    of_member near keywords.PrefixItems v row r h = same r (ByPlace h.0) h.1 tt
-    of_member near keywords.Items v row r h = same r _ h tt
-    of_member near keywords.AllOf v row r h = same r (All h.0) h.1 tt
-    of_member near keywords.AnyOf v row r h = same r (Any h.0) h.1 tt
-    of_member near keywords.OneOf v row r h = same r (One h.0) h.1 tt
-    of_member near keywords.Not v row r h = same r _ h tt
-    of_member near keywords.Then v row r h = of_choice near.condition Then row r (λ a b. tt) h
-    of_member near keywords.Else v row r h = of_choice near.condition Else row r (λ a b. tt) h
-    of_member near keywords.DependentSchemas v row r h = same r (Dependent h.0 h.1) h.2 tt
-    of_member near keywords.Ref v row r h = of_reference (option_map (at ranks) (target_number ts root v)) r h
-    of_member near keywords.Contains v row r h = of_count near.least row r h
-    of_member near keywords.MaxContains v row r h = of_limit near.contained v r h
-    of_member near keywords.Pattern v row r h = of_match v (pattern_number ss v) r refl (subst (λ l. IsMatch (pattern_number l v) v r) are h)
-    of_member near keywords.MinContains v row r h = same r (Says true) h tt
-    of_member near keywords.If v row r h = same r (Says true) h tt
-    of_member near keywords.Defs v row r h = same r (Says true) h tt
-    of_member near keywords.Id v row r h = same r (Says true) h tt
-    of_member near keywords.Dialect v row r h = same r (Says true) h tt
-    of_member near keywords.LeftOut v row r h = same r (Says true) h tt
-    of_member near keywords.Unknown v row r h = same r (Says true) h tt
-    of_member near _ v row r h = same r (Asserts h.0) h.1 tt
+    of_member : (near : Around) → HavePatterns near → (k : Keyword) (v : Doc) (row : List ℕ) (r : Rule) → Fits ts ranks root near k v row r → Both r
+    of_member near known keywords.Properties v row r h = same r _ h tt refl
+    of_member near known keywords.AdditionalProperties v row r h =
+        let others = Others h.0 (first_of row) in
+        let names = names_list (members_in (or_null near.patterned)) in
+        let none : IsSearched ss others = tt in
+        subst Both (sym h.1) (none, names_searched names h.0.items known (subst (λ l. ArePatterns l names h.0.items) are h.2))
+    of_member near known keywords.PropertyNames v row r h = same r _ h tt refl
+    of_member near known keywords.PrefixItems v row r h = same r (ByPlace h.0) h.1 tt refl
+    of_member near known keywords.Items v row r h = same r _ h tt refl
+    of_member near known keywords.AllOf v row r h = same r (All h.0) h.1 tt refl
+    of_member near known keywords.AnyOf v row r h = same r (Any h.0) h.1 tt refl
+    of_member near known keywords.OneOf v row r h = same r (One h.0) h.1 tt refl
+    of_member near known keywords.Not v row r h = same r _ h tt refl
+    of_member near known keywords.Then v row r h = of_choice near.condition Then row r (λ a b. tt) (λ a b. refl) h
+    of_member near known keywords.Else v row r h = of_choice near.condition Else row r (λ a b. tt) (λ a b. refl) h
+    of_member near known keywords.DependentSchemas v row r h = same r (Dependent h.0 h.1) h.2 tt refl
+    of_member near known keywords.Ref v row r h = of_reference (option_map (at ranks) (target_number ts root v)) r h
+    of_member near known keywords.Contains v row r h = of_count near.least row r h
+    of_member near known keywords.MaxContains v row r h = of_limit near.contained v r h
+    of_member near known keywords.Pattern v row r h = of_match v (pattern_number ss v) r refl (subst (λ l. IsMatch (pattern_number l v) v r) are h)
+    of_member near known keywords.MinContains v row r h = same r (Says true) h tt refl
+    of_member near known keywords.If v row r h = same r (Says true) h tt refl
+    of_member near known keywords.Defs v row r h = same r (Says true) h tt refl
+    of_member near known keywords.Id v row r h = same r (Says true) h tt refl
+    of_member near known keywords.Dialect v row r h = same r (Says true) h tt refl
+    of_member near known keywords.LeftOut v row r h = same r (Says true) h tt refl
+    of_member near known keywords.Unknown v row r h = same r (Says true) h tt refl
+    of_member near known _ v row r h = same r (Asserts h.0) h.1 tt refl
 
-    of_members : (near : Around) (ms : Members) (rows : List (Vec ℕ Global)) (rs : List Rule) → AreFitting ts ranks root near ms rows rs → AreRulesSearched ss rs
-    of_members near no_members [] [] h = tt
-    of_members near (member k v ms) (row ∷ rows) (r ∷ rs) h = (of_member near (keyword_of k) v row.items r h.0, of_members near ms rows rs h.1)
-    of_members near no_members (row ∷ rows) rs h = absurd h
-    of_members near no_members [] (r ∷ rs) h = absurd h
-    of_members near (member k v ms) [] rs h = absurd h
-    of_members near (member k v ms) (row ∷ rows) [] h = absurd h
+    fit_all : (near : Around) → HavePatterns near → (k : Keyword) (v : Doc) (row : List ℕ) (mine : List Rule) → HaveNumbers ss (texts_of_keyword k v) → FitAll ts ranks root near k v row mine → AreRulesSearched ss mine
+    fit_all near patterned k v row mine known (inl h) =
+        matching_searched (members_in v) row mine (subst (λ w. HaveNumbers ss (texts_of_keyword w v)) h.0 known) (subst (λ l. AreMatching l (members_in v) row mine) are h.1)
+    fit_all near patterned k v row mine known (inr h) = (let one = of_member near patterned k v row h.1 h.3 in subst (AreRulesSearched ss) (sym h.2) (one.0, one.1, tt))
 
-    of_built : (rows : List (Vec ℕ Global)) (x : Node) (d : Doc) → IsBuilt ts ranks root rows x d → AreRulesSearched ss x.rules.items
-    of_built rows x (object ms) h = of_members _ ms rows x.rules.items h.fits
-    of_built rows x (boolean b) h = subst (AreRulesSearched ss) (sym h) (tt, tt)
-    of_built rows x null h = subst (AreRulesSearched ss) (sym h) tt
-    of_built rows x (int z) h = subst (AreRulesSearched ss) (sym h) tt
-    of_built rows x (text s) h = subst (AreRulesSearched ss) (sym h) tt
-    of_built rows x (list ds) h = subst (AreRulesSearched ss) (sym h) tt
+    of_members : (near : Around) → HavePatterns near → (ms : Members) (rows : List (Vec ℕ Global)) (rs : List Rule) → HaveNumbers ss (texts_by Three ms) → AreFitting ts ranks root near ms rows rs → AreRulesSearched ss rs
+    of_members near patterned no_members [] rs known h = subst (AreRulesSearched ss) (sym h) tt
+    of_members near patterned (member k v ms) (row ∷ rows) rs known h = subst (AreRulesSearched ss) (sym h.2)
+        (rules_append ss h.0 h.1 (fit_all near patterned (keyword_of k) v row.items h.0 (λ s i. known s (In-left s _ _ i)) h.3) (of_members near patterned ms rows h.1 (λ s i. known s (In-right s (texts_of_keyword (keyword_of k) v) _ i)) h.4))
+    of_members near patterned no_members (row ∷ rows) rs known h = absurd h
+    of_members near patterned (member k v ms) [] rs known h = absurd h
 
-    pub all_searched : (es : List Entry) (places : List ℕ) (nodes : List Node) → AreMade ts ranks root es places nodes → AreSearched ss nodes
-    all_searched es [] [] h = tt
-    all_searched es (n ∷ places) (x ∷ nodes) h = (of_built h.0.rows x (view h.0.entry.schema.now) h.0.built, all_searched es places nodes h.1)
-    all_searched es [] (x ∷ nodes) h = absurd h
-    all_searched es (n ∷ places) [] h = absurd h
+    of_built : (rows : List (Vec ℕ Global)) (x : Node) (d : Doc) → HaveNumbers ss (texts_by Three (members_in d)) → IsBuilt ts ranks root rows x d → AreRulesSearched ss x.rules.items
+    of_built rows x (object ms) known h = of_members (around ms rows) (λ s i. known s (beside_texts ms s i)) ms rows x.rules.items known h.fits
+    of_built rows x (boolean b) known h = subst (AreRulesSearched ss) (sym h) (tt, (λ p i. none_in p i), tt)
+    of_built rows x null known h = subst (AreRulesSearched ss) (sym h) tt
+    of_built rows x (int z) known h = subst (AreRulesSearched ss) (sym h) tt
+    of_built rows x (text s) known h = subst (AreRulesSearched ss) (sym h) tt
+    of_built rows x (list ds) known h = subst (AreRulesSearched ss) (sym h) tt
+
+    pub all_searched : (es : List Entry) (places : List ℕ) (nodes : List Node) → ((n : ℕ) (e : Entry) → slice_get es n ≡ Some e → HaveNumbers ss (texts_by Three (members_in (view e.schema.now)))) → AreMade ts ranks root es places nodes → AreSearched ss nodes
+    all_searched es [] [] known h = tt
+    all_searched es (n ∷ places) (x ∷ nodes) known h = (of_built h.0.rows x (view h.0.entry.schema.now) (known n h.0.entry h.0.is_entry) h.0.built, all_searched es places nodes known h.1)
+    all_searched es [] (x ∷ nodes) known h = absurd h
+    all_searched es (n ∷ places) [] known h = absurd h

@@ -1,5 +1,5 @@
 -- The nodes want no more counters than their schemas do.
-use Rattle.std.proofs.Common.{◌≡◌, ℕ, zero, suc, ◌+◌, ◌<◌, ◌≤◌, List, [], ◌∷◌, length, true, Option, Some, None, Vec, Global, refl, sym, ap, ap₂, arith, set, slice_get, get_or-set_other, length-set, option_map}
+use Rattle.std.proofs.Common.{◌≡◌, ℕ, zero, suc, ◌+◌, ◌<◌, ◌≤◌, ◌⊎◌, inl, inr, List, [], ◌∷◌, ◌++◌, length, true, Option, Some, None, Vec, Global, refl, sym, ap, ap₂, ◌∙◌, arith, set, slice_get, get_or-set_other, length-set, option_map}
 use Rattle.doc_tree.specs.Doc.{Doc, null, boolean, int, text, list, object, Members, no_members, member}
 use Rattle.doc_tree.specs.TreeView.{view}
 use Rattle.schema_graph.specs.Numbered.{Graph}
@@ -11,11 +11,11 @@ use Rattle.schema_rules.specs.declared.keyword.Keyword.TheVariants as keywords
 use Rattle.schema_levels.specs.Counters.{wants, wanted, wanted_in}
 use Rattle.schema_levels.specs.declared.node.Node.{Node}
 use Rattle.schema_levels.specs.declared.node.Rule.{Rule}
-use Rattle.schema_levels.specs.declared.node.Rule.TheVariants.{Says, Asserts, Matches, All, Any, One, Then, Else, Dependent, Refers, Properties, ByPlace, AtLeast, AtMost}
+use Rattle.schema_levels.specs.declared.node.Rule.TheVariants.{Says, Asserts, Matches, All, Any, One, Then, Else, Dependent, Refers, Properties, Matching, ByPlace, AtLeast, AtMost}
 use Rattle.schema_nodes.specs.declared.entries.Entry.{Entry}
 use Rattle.schema_nodes.specs.declared.rules.Targets.{Targets}
 use Rattle.schema_nodes.specs.Entries.{entries_want}
-use Rattle.schema_nodes.specs.Fits.{Around, Fits, AreFitting, IsBuilt, IsChoice, IsMatch, IsReference, AreMade, pattern_number, patterns_of, target_number}
+use Rattle.schema_nodes.specs.Fits.{Around, around, Fits, FitAll, AreFitting, AreMatching, IsBuilt, IsChoice, IsMatch, IsReference, AreMade, pattern_number, patterns_of, target_number}
 use Rattle.schema_nodes.specs.Wants.{keyword_wants, members_want}
 
 -- ---- one rule
@@ -40,12 +40,29 @@ match_wants : (o : Option ℕ) (v : Doc) (r : Rule) → IsMatch o v r → wants 
 match_wants (Some n) v r h = is_none r (Matches n h.0) h.1 refl
 match_wants None v r h = is_none r (Says true) h refl
 
+-- ---- several
+
+wanted_append : (xs ys : List Rule) → wanted (xs ++ ys) ≡ wanted xs + wanted ys
+wanted_append [] ys = omega arith
+wanted_append (r ∷ xs) ys = (let rest = wanted_append xs ys in omega (arith, rest))
+
+matching_want : (ps : List (List ℕ)) (ss : Members) (row : List ℕ) (rs : List Rule) → AreMatching ps ss row rs → wanted rs ≤ 0
+matching_want ps no_members row [] h = omega arith
+matching_want ps no_members row (r ∷ rs) h = absurd h
+matching_want ps (member s d ss) [] [] h = omega arith
+matching_want ps (member s d ss) [] (r ∷ rs) h = absurd h
+matching_want ps (member s d ss) (j ∷ row) [] h = absurd h
+matching_want ps (member s d ss) (j ∷ row) (r ∷ rs) h =
+    let one = is_none r (Matching h.0 j) h.1 refl in
+    let rest = matching_want ps ss row rs h.3 in
+    omega (arith, one, rest)
+
 module _ (ts : Targets) (ranks : List ℕ) (root : Doc) (near : Around) where
   fits_wants : (k : Keyword) (v : Doc) (row : List ℕ) (r : Rule) → Fits ts ranks root near k v row r → wants r ≤ keyword_wants k
   fits_wants keywords.Contains v row r h = one_at_most r
   fits_wants keywords.MaxContains v row r h = one_at_most r
   fits_wants keywords.Properties v row r h = is_none r Properties h refl
-  fits_wants keywords.AdditionalProperties v row r h = is_none r _ h refl
+  fits_wants keywords.AdditionalProperties v row r h = is_none r _ h.1 refl
   fits_wants keywords.PropertyNames v row r h = is_none r _ h refl
   fits_wants keywords.PrefixItems v row r h = is_none r (ByPlace h.0) h.1 refl
   fits_wants keywords.Items v row r h = is_none r _ h refl
@@ -67,16 +84,19 @@ module _ (ts : Targets) (ranks : List ℕ) (root : Doc) (near : Around) where
   fits_wants keywords.Unknown v row r h = is_none r (Says true) h refl
   fits_wants _ v row r h = is_none r (Asserts h.0) h.1 refl
 
+  all_want : (k : Keyword) (v : Doc) (row : List ℕ) (mine : List Rule) → FitAll ts ranks root near k v row mine → wanted mine ≤ keyword_wants k
+  all_want k v row mine (inl h) = (let none = matching_want (patterns_of ts) (members_in v) row mine h.1 in omega (arith, none))
+  all_want k v row mine (inr h) = (let one = fits_wants k v row h.1 h.3 in let is = ap wanted h.2 in omega (arith, one, is))
+
   fitting_wants : (ms : Members) (rows : List (Vec ℕ Global)) (rs : List Rule) → AreFitting ts ranks root near ms rows rs → wanted rs ≤ members_want ms
-  fitting_wants no_members [] [] h = omega arith
-  fitting_wants (member k v ms) (row ∷ rows) (r ∷ rs) h =
-      let one = fits_wants (keyword_of k) v row.items r h.0 in
-      let rest = fitting_wants ms rows rs h.1 in
-      omega (arith, one, rest)
+  fitting_wants no_members [] rs h = (let is = ap wanted h in omega (arith, is))
+  fitting_wants (member k v ms) (row ∷ rows) rs h =
+      let one = all_want (keyword_of k) v row.items h.0 h.3 in
+      let rest = fitting_wants ms rows h.1 h.4 in
+      let is = ap wanted h.2 ∙ wanted_append h.0 h.1 in
+      omega (arith, one, rest, is)
   fitting_wants no_members (row ∷ rows) rs h = absurd h
-  fitting_wants no_members [] (r ∷ rs) h = absurd h
   fitting_wants (member k v ms) [] rs h = absurd h
-  fitting_wants (member k v ms) (row ∷ rows) [] h = absurd h
 
 -- ---- one node
 
@@ -84,7 +104,7 @@ none_wanted : (rs ss : List Rule) (n : ℕ) → rs ≡ ss → wanted ss ≡ 0 �
 none_wanted rs ss n e none = let same = ap wanted e in omega (arith, same, none)
 
 built_wants : (ts : Targets) (ranks : List ℕ) (root : Doc) (rows : List (Vec ℕ Global)) (x : Node) (d : Doc) → IsBuilt ts ranks root rows x d → wanted x.rules.items ≤ members_want (members_in d)
-built_wants ts ranks root rows x (object ms) h = fitting_wants ts ranks root _ ms rows x.rules.items h.fits
+built_wants ts ranks root rows x (object ms) h = fitting_wants ts ranks root (around ms rows) ms rows x.rules.items h.fits
 built_wants ts ranks root rows x (boolean b) h = none_wanted x.rules.items _ 0 h refl
 built_wants ts ranks root rows x null h = none_wanted x.rules.items _ 0 h refl
 built_wants ts ranks root rows x (int z) h = none_wanted x.rules.items _ 0 h refl

@@ -12,7 +12,7 @@ use Rattle.schema_nodes.specs.declared.tree.Compiled.{Compiled}
 use Rattle.schema_rules.specs.PatternTexts.{pattern_texts}
 use Rattle.schema_rules.specs.Schemas.{applied, schemas}
 
--- one node for each schema in the whole one; the nodes say what the schemas of their numbers say, what they ask of the value itself has lower numbers, and each pattern has the number of one of the schema's patterns
+-- one node for each schema in the whole one; the nodes say what the schemas of their numbers say, what they ask of the value itself has lower numbers, and each pattern has the number of one of the schema's patterns, if these are few enough for one word
 pub record IsCompiled (root : Doc) (nodes : List Node) (whole : ℕ) : Type 0 where
   pub schema : ℕ → Doc
   pub numbers : AreNumbers root schema
@@ -22,7 +22,7 @@ pub record IsCompiled (root : Doc) (nodes : List Node) (whole : ℕ) : Type 0 wh
   pub order : AreOrdered nodes
   pub within : whole < length nodes
   pub room : length nodes ≤ 64 * MOST_WORDS
-  pub searched : AreSearched (pattern_texts root) nodes
+  pub searched : length (pattern_texts root) ≤ 64 → AreSearched (pattern_texts root) nodes
 
 -- it is there, with its counters, if no schema leads back to itself at one and the same instance, and is not there if
 -- one does

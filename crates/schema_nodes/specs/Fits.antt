@@ -1,5 +1,5 @@
 -- For the clauses within the crate: the rule that is made of a member.
-use Rattle.std.specs.Prelude.{◌≡◌, ⊤, ℕ, suc, List, [], ◌∷◌, Bool, true, Option, Some, None, option_map, if◌then◌else◌, codes, length, map, slice_get, String, string_bytes}
+use Rattle.std.specs.Prelude.{◌≡◌, ⊤, ◌⊎◌, ℕ, suc, List, [], ◌∷◌, ◌++◌, Bool, true, Option, Some, None, option_map, if◌then◌else◌, codes, length, map, slice_get, String, string_bytes}
 use Rattle.std.specs.declared.alloc.Global.{Global}
 use Rattle.std.specs.Global.{Vec}
 use Rattle.std.specs.Option.{option_and_then}
@@ -11,14 +11,17 @@ use Rattle.doc_tree.specs.declared.tree.Tree.{Tree}
 use Rattle.schema_rules.specs.Holds.{holds}
 use Rattle.schema_rules.specs.Assertions.{asserts}
 use Rattle.schema_rules.specs.Keywords.{keyword_of}
-use Rattle.schema_rules.specs.Parts.{elements_in, members_in, beside}
+use Rattle.schema_rules.specs.Parts.{elements_in, members_in, beside, or_null}
 use Rattle.schema_rules.specs.References.{target, without_front}
 use Rattle.schema_rules.specs.declared.assertion.Assertion.{Assertion}
 use Rattle.schema_rules.specs.declared.keyword.Keyword.{Keyword}
 use Rattle.schema_rules.specs.declared.keyword.Keyword.TheVariants as keywords
+use Rattle.schema_graph.specs.Walks.{In}
 use Rattle.schema_levels.specs.Below.{number_named}
+use Rattle.schema_levels.specs.NamePatterns.{texts_of}
+use Rattle.schema_levels.specs.declared.node.NamePattern.{NamePattern}
 use Rattle.schema_levels.specs.declared.node.Rule.{Rule}
-use Rattle.schema_levels.specs.declared.node.Rule.TheVariants.{Says, Asserts, Matches, All, Any, One, Not, Then, Else, Dependent, Refers, Properties, Others, Names, ByPlace, Rest, Contains, AtLeast, AtMost}
+use Rattle.schema_levels.specs.declared.node.Rule.TheVariants.{Says, Asserts, Matches, All, Any, One, Not, Then, Else, Dependent, Refers, Properties, Matching, Others, Names, ByPlace, Rest, Contains, AtLeast, AtMost}
 use Rattle.schema_nodes.specs.declared.rules.Near.{Near}
 use Rattle.schema_nodes.specs.declared.rules.Targets.{Targets}
 use Rattle.schema_graph.specs.Orders.{at}
@@ -96,6 +99,37 @@ abbrev pub IsMatch : Option ℕ → Doc → Rule → Type 0
 IsMatch None v r = r ≡ Says true
 IsMatch (Some n) v r = (a : Tree) × (r ≡ Matches n a) × (view a ≡ v)
 
+-- ---- patterns for the names of members
+
+abbrev pub or_first : Option ℕ → ℕ
+or_first None = 0
+or_first (Some n) = n
+
+-- the number of the pattern is that of its text
+abbrev pub IsNumbered : List (List ℕ) → NamePattern → Type 0
+IsNumbered ps p = p.number ≡ or_first (number_in ps (string_bytes p.text))
+
+-- and it has this text
+pub record IsNamePattern (ps : List (List ℕ)) (s : List ℕ) (p : NamePattern) : Type 0 where
+  pub is_text : string_bytes p.text ≡ s
+  pub numbered : IsNumbered ps p
+
+-- one with each of these texts
+pub record ArePatterns (ps : List (List ℕ)) (names : List (List ℕ)) (found : List NamePattern) : Type 0 where
+  pub are_texts : texts_of found ≡ names
+  pub numbered : (p : NamePattern) → In p found → IsNumbered ps p
+
+-- a rule that asks the first of these of the members that have no node, with the patterns of `patternProperties` beside, which has this value
+abbrev pub IsOthers : List (List ℕ) → Option Doc → List ℕ → Rule → Type 0
+IsOthers ps patterned row r = (found : Vec NamePattern) × (r ≡ Others found (first_of row)) × ArePatterns ps (names_list (members_in (or_null patterned))) found.items
+
+-- one rule for each member and number, as far as there are both
+abbrev pub AreMatching : List (List ℕ) → Members → List ℕ → List Rule → Type 0
+AreMatching ps (member s d ss) (j ∷ row) (r ∷ rs) = (p : NamePattern) × (r ≡ Matching p j) × IsNamePattern ps s p × AreMatching ps ss row rs
+AreMatching ps (member s d ss) (j ∷ row) [] = ⊥
+AreMatching ps _ _ [] = ⊤
+AreMatching ps _ _ (r ∷ rs) = ⊥
+
 -- a keyword that asks no schema: its rule says that everything passes, if the keyword asserts nothing, and else what it
 -- asserts
 abbrev pub AsksNoSchema : Keyword → Doc → Rule → Type 0
@@ -108,19 +142,20 @@ AsksNoSchema keywords.LeftOut v r = r ≡ Says true
 AsksNoSchema keywords.Unknown v r = r ≡ Says true
 AsksNoSchema k v r = (a : Assertion) × (r ≡ Asserts a) × ((t : Doc) → holds a t ≡ asserts k v t)
 
--- what a rule needs to know of the members beside its own: the numbers of the schemas of `if` and of `contains`, and the value of `minContains`
+-- what a rule needs to know of the members beside its own: the numbers of the schemas of `if` and of `contains`, and the values of `minContains` and of `patternProperties`
 pub record Around : Type 0 where
   pub condition : Option ℕ
   pub contained : Option ℕ
   pub least : Option Doc
+  pub patterned : Option Doc
 
 abbrev pub known_near : Near → Around
-known_near near = record { condition = near.condition; contained = near.contained; least = option_map (λ t. view t.now) near.least }
+known_near near = record { condition = near.condition; contained = near.contained; least = option_map (λ t. view t.now) near.least; patterned = option_map (λ t. view t.now) near.patterned }
 
 -- among these members
 abbrev pub Fits : Targets → List ℕ → Doc → Around → Keyword → Doc → List ℕ → Rule → Type 0
 Fits ts ranks root near keywords.Properties v row r = r ≡ Properties
-Fits ts ranks root near keywords.AdditionalProperties v row r = r ≡ Others (first_of row)
+Fits ts ranks root near keywords.AdditionalProperties v row r = IsOthers (patterns_of ts) near.patterned row r
 Fits ts ranks root near keywords.PropertyNames v row r = r ≡ Names (first_of row)
 Fits ts ranks root near keywords.PrefixItems v row r = (w : Vec ℕ) × (r ≡ ByPlace w) × (w.items ≡ row)
 Fits ts ranks root near keywords.Items v row r = r ≡ Rest (first_of row)
@@ -137,11 +172,21 @@ Fits ts ranks root near keywords.Contains v row r = IsCount near.least row r
 Fits ts ranks root near keywords.MaxContains v row r = IsLimit near.contained v r
 Fits ts ranks root near k v row r = AsksNoSchema k v r
 
--- one for each member
+-- the rules of one member: one for each pattern of `patternProperties`, and else one
+abbrev pub FitAll : Targets → List ℕ → Doc → Around → Keyword → Doc → List ℕ → List Rule → Type 0
+FitAll ts ranks root near k v row rs =
+    ((k ≡ keywords.PatternProperties) × AreMatching (patterns_of ts) (members_in v) row rs)
+    ⊎ ((k ≡ keywords.PatternProperties → ⊥) × (r : Rule) × (rs ≡ r ∷ []) × Fits ts ranks root near k v row r)
+
+-- rules, with such rules after them
+abbrev pub Follow : List Rule → (List Rule → Type 0) → List Rule → Type 0
+Follow before Are rs = (mine : List Rule) × (rs ≡ before ++ mine) × Are mine
+
+-- those of all members, one after another
 abbrev pub AreFitting : Targets → List ℕ → Doc → Around → Members → List (Vec ℕ) → List Rule → Type 0
-AreFitting ts ranks root near no_members [] [] = ⊤
-AreFitting ts ranks root near (member k v ms) (row ∷ rows) (r ∷ rs) = Fits ts ranks root near (keyword_of k) v row.items r × AreFitting ts ranks root near ms rows rs
-AreFitting ts ranks root near _ _ _ = ⊥
+AreFitting ts ranks root near no_members [] rs = rs ≡ []
+AreFitting ts ranks root near (member k v ms) (row ∷ rows) rs = (mine : List Rule) × (others : List Rule) × (rs ≡ mine ++ others) × FitAll ts ranks root near (keyword_of k) v row.items mine × AreFitting ts ranks root near ms rows others
+AreFitting ts ranks root near _ _ rs = ⊥
 
 -- each name before those after it
 abbrev pub AreSorted : Members → Type 0
@@ -160,7 +205,7 @@ abbrev pub single_number : List ℕ → Members → List (Vec ℕ) → Option �
 single_number n ms rows = if_found (get_member n ms) (slice_get (row_named n ms rows) 0)
 
 abbrev pub around : Members → List (Vec ℕ) → Around
-around ms rows = record { condition = single_number (codes "if") ms rows; contained = single_number (codes "contains") ms rows; least = get_member (codes "minContains") ms }
+around ms rows = record { condition = single_number (codes "if") ms rows; contained = single_number (codes "contains") ms rows; least = get_member (codes "minContains") ms; patterned = get_member (codes "patternProperties") ms }
 
 abbrev pub says_rules : Option Bool → List Rule
 says_rules None = []

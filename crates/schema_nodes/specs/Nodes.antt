@@ -9,7 +9,7 @@ use Rattle.schema_rules.specs.Keywords.{keyword_of, shape_of}
 use Rattle.schema_rules.specs.Parts.{elements_in, members_in, beside}
 use Rattle.schema_rules.specs.Rules.{asks, joins}
 use Rattle.schema_rules.specs.declared.keyword.Keyword.{Keyword}
-use Rattle.schema_nodes.specs.Rules.{schemas_asked, AreRulesOf}
+use Rattle.schema_nodes.specs.Rules.{schemas_asked, AreRulesFor}
 use Rattle.schema_rules.specs.Schemas.{held_in, schemas}
 use Rattle.schema_graph.specs.Orders.{at}
 use Rattle.schema_graph.specs.Walks.{In}
@@ -74,7 +74,7 @@ IsRule schema root ms k v r = (x : Node) → Suits schema ms x
 -- the node says what the schema says
 abbrev pub IsNodeFor : Doc → (ℕ → Doc) → Node → Doc → Type 0
 IsNodeFor root schema x (boolean b) = x.rules.items ≡ Says b ∷ []
-IsNodeFor root schema x (object ms) = AreRulesOf root schema ms (map (rule_of x) x.rules.items) ms
+IsNodeFor root schema x (object ms) = AreRulesFor root schema ms (map (rule_of x) x.rules.items) ms
 IsNodeFor root schema x _ = x.rules.items ≡ []
 
 -- each node says what the schema of its number says, and past the last everything passes

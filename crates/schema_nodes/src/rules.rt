@@ -3,17 +3,18 @@ ghost use Rattle.std.specs.Prelude.{◌≡◌, IfOk, Some, codes, map, option_ma
 ghost use Rattle.doc_tree.specs.Doc.{text};
 ghost use Rattle.doc_tree.specs.Lists.{names_list};
 ghost use Rattle.doc_tree.specs.TreeView.{view, members_view};
-ghost use Rattle.schema_rules.specs.Parts.{members_in};
+ghost use Rattle.schema_rules.specs.Parts.{members_in, or_null};
+ghost use Rattle.schema_rules.specs.declared.keyword.Keyword.TheVariants.{PatternProperties};
 ghost use Rattle.schema_rules.specs.References.{without_front};
 ghost use Rattle.schema_graph.specs.Orders.{at};
 ghost use Rattle.schema_levels.specs.Below.{number_named};
-ghost use Rattle.schema_nodes.specs.Fits.{Fits, AreFitting, AsMany, AreSorted, AreTargets, AsksNoSchema, IsCount, IsDependent, IsLimit, IsMatch, IsReference, around, first_of, known_near, number_by, number_in, pattern_number, target_number};
+ghost use Rattle.schema_nodes.specs.Fits.{Fits, FitAll, Follow, AreFitting, AreMatching, ArePatterns, IsNamePattern, IsOthers, or_first, AsMany, AreSorted, AreTargets, AsksNoSchema, IsCount, IsDependent, IsLimit, IsMatch, IsReference, around, first_of, known_near, number_by, number_in, pattern_number, target_number};
 
 use crate::names::single_number;
 use crate::ranks::rank_of;
 use doc_tree::Tree;
 use name_map::NameMap;
-use schema_levels::Rule;
+use schema_levels::{NamePattern, Rule};
 use schema_rules::{Assertion, Keyword, keyword_named, member_named, target};
 use std::alloc::{AllocError, Global};
 use std::collections::BTreeMap;
@@ -38,9 +39,11 @@ pub struct Near<'s> {
     pub contained: Option<usize>,
     /// The value of `minContains`.
     pub least: Option<&'s Tree>,
+    /// The value of `patternProperties`.
+    pub patterned: Option<&'s Tree>,
 }
 
-/// The rules, one for each member.
+/// The rules of all members.
 pub(crate) fn rules_of(
     members: &NameMap<Tree>,
     rows: &[Vec<usize>],
@@ -57,7 +60,8 @@ pub(crate) fn rules_of(
     let near = near_in(members, rows);
     let mut rules = Vec::new(alloc);
     for ((name, value), row) in members.iter().zip(rows) {
-        rules.push(rule_of(
+        rules = with_member(
+            rules,
             &near,
             keyword_named(name.as_str()),
             value,
@@ -66,9 +70,32 @@ pub(crate) fn rules_of(
             targets,
             ranks,
             alloc,
-        )?)?;
+        )?;
     }
     Ok(rules)
+}
+
+// With those of one member after them.
+fn with_member(
+    mut rules: Vec<Rule>,
+    near: &Near<'_>,
+    keyword: Keyword,
+    value: &Tree,
+    row: &[usize],
+    root: &Tree,
+    targets: &Targets<'_>,
+    ranks: &[usize],
+    alloc: Global,
+) -> Result<Vec<Rule>, AllocError>
+    ensures { IfOk result (λ rs. Follow rules.items (FitAll targets.now ranks.now (view root.now) (known_near near.now) keyword (view value.now) row.now) rs.items) }
+{
+    match keyword {
+        Keyword::PatternProperties => with_patterns(rules, value, row, targets.patterns, alloc),
+        _ => {
+            rules.push(rule_of(near, keyword, value, row, root, targets, ranks, alloc)?)?;
+            Ok(rules)
+        }
+    }
 }
 
 fn near_in<'s>(members: &'s NameMap<Tree>, rows: &[Vec<usize>]) -> Near<'s>
@@ -78,10 +105,11 @@ fn near_in<'s>(members: &'s NameMap<Tree>, rows: &[Vec<usize>]) -> Near<'s>
         condition: single_number("if", members, rows),
         contained: single_number("contains", members, rows),
         least: member_named(members, "minContains"),
+        patterned: member_named(members, "patternProperties"),
     }
 }
 
-// The rule of one member.
+// The rule of one member, if it is no `patternProperties`.
 fn rule_of(
     near: &Near<'_>,
     keyword: Keyword,
@@ -92,11 +120,12 @@ fn rule_of(
     ranks: &[usize],
     alloc: Global,
 ) -> Result<Rule, AllocError>
+    requires { keyword ≡ PatternProperties → ⊥ }
     ensures { IfOk result (λ r. Fits targets.now ranks.now (view root.now) (known_near near.now) keyword (view value.now) row.now r) }
 {
     match keyword {
         Keyword::Properties => Ok(Rule::Properties),
-        Keyword::AdditionalProperties => Ok(Rule::Others(first_of(row))),
+        Keyword::AdditionalProperties => others(near.patterned, row, targets.patterns, alloc),
         Keyword::PropertyNames => Ok(Rule::Names(first_of(row))),
         Keyword::PrefixItems => Ok(Rule::ByPlace(copy(row, alloc)?)),
         Keyword::Items => Ok(Rule::Rest(first_of(row))),
@@ -188,6 +217,111 @@ fn number_in(texts: &[&str], text: &str) -> Option<usize>
         number += 1;
     }
     None
+}
+
+// ---- Patterns for the names of members.
+
+// Of `patternProperties`: with one for each pattern after them.
+fn with_patterns(
+    rules: Vec<Rule>,
+    value: &Tree,
+    row: &[usize],
+    patterns: &[&str],
+    alloc: Global,
+) -> Result<Vec<Rule>, AllocError>
+    ensures { IfOk result (λ rs. Follow rules.items (AreMatching (map (λ s. s.now) patterns.now) (members_in (view value.now)) row.now) rs.items) }
+{
+    match value {
+        Tree::Object(named) => with_each_pattern(rules, named, row, patterns, alloc),
+        _ => Ok(rules),
+    }
+}
+
+fn with_each_pattern(
+    mut rules: Vec<Rule>,
+    named: &NameMap<Tree>,
+    row: &[usize],
+    patterns: &[&str],
+    alloc: Global,
+) -> Result<Vec<Rule>, AllocError>
+    ensures { IfOk result (λ rs. Follow rules.items (AreMatching (map (λ s. s.now) patterns.now) (members_view named.now.entries) row.now) rs.items) }
+{
+    for ((name, _), number) in named.iter().zip(row) {
+        let pattern = name_pattern(name.as_str(), patterns, alloc)?;
+        rules.push(Rule::Matching(pattern, *number))?;
+    }
+    Ok(rules)
+}
+
+fn name_pattern(name: &str, patterns: &[&str], alloc: Global) -> Result<NamePattern, AllocError>
+    ensures { IfOk result (IsNamePattern (map (λ s. s.now) patterns.now) name.now) }
+{
+    let text = String::from_str(alloc, name)?;
+    Ok(NamePattern {
+        number: or_first(number_in(patterns, name)),
+        text,
+    })
+}
+
+fn or_first(number: Option<usize>) -> usize
+    ensures { result ≡ or_first number }
+{
+    match number {
+        Some(number) => number,
+        None => 0,
+    }
+}
+
+// Of `additionalProperties`, with the value of `patternProperties` beside it.
+fn others(
+    patterned: Option<&Tree>,
+    row: &[usize],
+    patterns: &[&str],
+    alloc: Global,
+) -> Result<Rule, AllocError>
+    ensures { IfOk result (IsOthers (map (λ s. s.now) patterns.now) (option_map (λ t. view t.now) patterned.entry) row.now) }
+{
+    Ok(Rule::Others(patterns_beside(patterned, patterns, alloc)?, first_of(row)))
+}
+
+fn patterns_beside(
+    patterned: Option<&Tree>,
+    patterns: &[&str],
+    alloc: Global,
+) -> Result<Vec<NamePattern>, AllocError>
+    ensures { IfOk result (λ v. ArePatterns (map (λ s. s.now) patterns.now) (names_list (members_in (or_null (option_map (λ t. view t.now) patterned.entry)))) v.items) }
+{
+    match patterned {
+        Some(value) => patterns_named(value, patterns, alloc),
+        None => Ok(Vec::new(alloc)),
+    }
+}
+
+fn patterns_named(
+    value: &Tree,
+    patterns: &[&str],
+    alloc: Global,
+) -> Result<Vec<NamePattern>, AllocError>
+    ensures { IfOk result (λ v. ArePatterns (map (λ s. s.now) patterns.now) (names_list (members_in (view value.now))) v.items) }
+{
+    match value {
+        Tree::Object(members) => patterns_in(members, patterns, alloc),
+        _ => Ok(Vec::new(alloc)),
+    }
+}
+
+fn patterns_in(
+    members: &NameMap<Tree>,
+    patterns: &[&str],
+    alloc: Global,
+) -> Result<Vec<NamePattern>, AllocError>
+    ensures { IfOk result (λ v. ArePatterns (map (λ s. s.now) patterns.now) (names_list (members_view members.now.entries)) v.items) }
+{
+    let mut found = Vec::with_capacity(alloc, members.len())?;
+    for (name, _) in members.iter() {
+        found.push(name_pattern(name.as_str(), patterns, alloc)?)?;
+    }
+    Ok(found)
 }
 
 // Of `dependentSchemas`: the names, and the numbers of their schemas.

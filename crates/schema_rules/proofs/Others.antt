@@ -4,12 +4,13 @@ use Rattle.doc_tree.specs.Doc.{Doc, Members}
 use Rattle.schema_rules.specs.Assertions.{asserts}
 use Rattle.schema_rules.specs.Rules.{asks, joins}
 use Rattle.schema_rules.specs.declared.keyword.Keyword.{Keyword}
-use Rattle.schema_rules.specs.declared.keyword.Keyword.TheVariants.{Pattern, Properties, AdditionalProperties, PropertyNames, PrefixItems, Items, Contains, MaxContains, AllOf, AnyOf, OneOf, Not, Then, Else, DependentSchemas, Ref}
+use Rattle.schema_rules.specs.declared.keyword.Keyword.TheVariants.{Pattern, Properties, PatternProperties, AdditionalProperties, PropertyNames, PrefixItems, Items, Contains, MaxContains, AllOf, AnyOf, OneOf, Not, Then, Else, DependentSchemas, Ref}
 
 -- the keyword is none that asks schemas, and none that searches
 pub record AsksNone (k : Keyword) : Type 0 where
   pub not_pattern : k ≡ Pattern → ⊥
   pub not_properties : k ≡ Properties → ⊥
+  pub not_pattern_properties : k ≡ PatternProperties → ⊥
   pub not_additional_properties : k ≡ AdditionalProperties → ⊥
   pub not_property_names : k ≡ PropertyNames → ⊥
   pub not_prefix_items : k ≡ PrefixItems → ⊥
@@ -27,6 +28,7 @@ pub record AsksNone (k : Keyword) : Type 0 where
 
 pub asks-none : (k : Keyword) → AsksNone k → (root : Doc) (ms : Members) (v t : Doc) → asks root ms k v t ≡ []
 asks-none Properties h root ms v t = absurd (h.not_properties refl)
+asks-none PatternProperties h root ms v t = absurd (h.not_pattern_properties refl)
 asks-none AdditionalProperties h root ms v t = absurd (h.not_additional_properties refl)
 asks-none PropertyNames h root ms v t = absurd (h.not_property_names refl)
 asks-none PrefixItems h root ms v t = absurd (h.not_prefix_items refl)
@@ -46,6 +48,7 @@ asks-none _ h root ms v t = refl
 pub joins-none : (k : Keyword) → AsksNone k → (ms : Members) (v t : Doc) (answers : List Bool) → joins ms k v t answers ≡ asserts k v t
 joins-none Pattern h ms v t answers = absurd (h.not_pattern refl)
 joins-none Properties h ms v t answers = absurd (h.not_properties refl)
+joins-none PatternProperties h ms v t answers = absurd (h.not_pattern_properties refl)
 joins-none AdditionalProperties h ms v t answers = absurd (h.not_additional_properties refl)
 joins-none PropertyNames h ms v t answers = absurd (h.not_property_names refl)
 joins-none PrefixItems h ms v t answers = absurd (h.not_prefix_items refl)

@@ -6,7 +6,7 @@ use Rattle.doc_tree.specs.Doc.{Doc, boolean, int, text, list, object, element}
 use Rattle.doc_tree.specs.Lists.{elements_list, values_list}
 use Rattle.schema_rules.specs.Assertions.{are_distinct}
 use Rattle.schema_rules.specs.declared.keyword.Keyword.{Keyword}
-use Rattle.schema_rules.specs.declared.keyword.Keyword.TheVariants.{OfType, Enumeration, MultipleOf, Minimum, Maximum, ExclusiveMinimum, ExclusiveMaximum, MinLength, MaxLength, Pattern, MinItems, MaxItems, UniqueItems, MinProperties, MaxProperties, Required, DependentRequired, Properties, PrefixItems, MinContains, MaxContains, AllOf, AnyOf, OneOf, DependentSchemas, Defs, Ref, Id, Dialect, LeftOut}
+use Rattle.schema_rules.specs.declared.keyword.Keyword.TheVariants.{OfType, Enumeration, MultipleOf, Minimum, Maximum, ExclusiveMinimum, ExclusiveMaximum, MinLength, MaxLength, Pattern, MinItems, MaxItems, UniqueItems, MinProperties, MaxProperties, Required, DependentRequired, Properties, PatternProperties, PrefixItems, MinContains, MaxContains, AllOf, AnyOf, OneOf, DependentSchemas, Defs, Ref, Id, Dialect, LeftOut}
 
 abbrev pub is_text : Doc → Bool
 is_text (text s) = true
@@ -77,6 +77,7 @@ has_form at_root MaxProperties v = is_number_from (pos 0) v
 has_form at_root Required v = is_list_of_distinct is_text v
 has_form at_root DependentRequired v = is_object_of (is_list_of_distinct is_text) v
 has_form at_root Properties v = is_object v
+has_form at_root PatternProperties v = is_object v
 has_form at_root MinContains v = is_number_from (pos 0) v
 has_form at_root MaxContains v = is_number_from (pos 0) v
 has_form at_root PrefixItems v = is_some_list v

@@ -2,7 +2,7 @@
 use Rattle.std.specs.Prelude.{ℕ, List, [], ◌∷◌, if◌then◌else◌, Option, Some, None, codes}
 use Rattle.std.specs.Str.{bytes_eq}
 use Rattle.schema_rules.specs.declared.keyword.Keyword.{Keyword}
-use Rattle.schema_rules.specs.declared.keyword.Keyword.TheVariants.{OfType, Enumeration, Constant, MultipleOf, Minimum, Maximum, ExclusiveMinimum, ExclusiveMaximum, MinLength, MaxLength, Pattern, MinItems, MaxItems, UniqueItems, MinProperties, MaxProperties, Required, DependentRequired, Properties, AdditionalProperties, PropertyNames, PrefixItems, Items, Contains, MinContains, MaxContains, AllOf, AnyOf, OneOf, Not, If, Then, Else, DependentSchemas, Defs, Ref, Id, Dialect, LeftOut, Unknown}
+use Rattle.schema_rules.specs.declared.keyword.Keyword.TheVariants.{OfType, Enumeration, Constant, MultipleOf, Minimum, Maximum, ExclusiveMinimum, ExclusiveMaximum, MinLength, MaxLength, Pattern, MinItems, MaxItems, UniqueItems, MinProperties, MaxProperties, Required, DependentRequired, Properties, PatternProperties, AdditionalProperties, PropertyNames, PrefixItems, Items, Contains, MinContains, MaxContains, AllOf, AnyOf, OneOf, Not, If, Then, Else, DependentSchemas, Defs, Ref, Id, Dialect, LeftOut, Unknown}
 use Rattle.schema_rules.specs.declared.keyword.Shape.{Shape}
 use Rattle.schema_rules.specs.declared.keyword.Shape.TheVariants.{Plain, One, Several, Named}
 
@@ -91,7 +91,7 @@ of_core name = found (
 unfoldable pub not_offered : List ℕ → Option Keyword
 not_offered name = found (
     (codes "pattern", Pattern)
-    ∷ (codes "patternProperties", LeftOut)
+    ∷ (codes "patternProperties", PatternProperties)
     ∷ (codes "unevaluatedItems", LeftOut)
     ∷ (codes "unevaluatedProperties", LeftOut)
     ∷ (codes "dependentSchemas", DependentSchemas)
@@ -108,6 +108,7 @@ keyword_of name = or_unknown (or_else (for_any name) (or_else (for_numbers name)
 -- how the values of a keyword hold schemas: not at all, as one schema, as an array of them, or as an object of them by name
 abbrev pub shape_of : Keyword → Shape
 shape_of Properties = Named
+shape_of PatternProperties = Named
 shape_of AdditionalProperties = One
 shape_of PropertyNames = One
 shape_of PrefixItems = Several

@@ -1,19 +1,21 @@
 -- The texts in a schema that are read as patterns.
 use Rattle.std.specs.Prelude.{ℕ, List, [], ◌∷◌, ◌++◌}
 use Rattle.doc_tree.specs.Doc.{Doc, text, Members, no_members, member}
+use Rattle.doc_tree.specs.Lists.{names_list}
 use Rattle.schema_rules.specs.Keywords.{keyword_of}
 use Rattle.schema_rules.specs.Parts.{members_in}
 use Rattle.schema_rules.specs.Profiles.{offered}
 use Rattle.schema_rules.specs.Schemas.{offered_in}
 use Rattle.schema_rules.specs.declared.keyword.Keyword.{Keyword}
-use Rattle.schema_rules.specs.declared.keyword.Keyword.TheVariants.{Pattern}
+use Rattle.schema_rules.specs.declared.keyword.Keyword.TheVariants.{Pattern, PatternProperties}
 use Rattle.schema_rules.specs.declared.keyword.Shape.TheVariants.{One}
 use Rattle.schema_rules.specs.declared.profile.Profile.{Profile}
 use Rattle.schema_rules.specs.declared.profile.Profile.TheVariants.{Three}
 
--- those in a keyword's value (JSON Schema Validation, section 6.3.3)
+-- those in a keyword's value (JSON Schema Validation, section 6.3.3; Core, section 10.3.2.2)
 abbrev pub texts_of : Keyword → Doc → List (List ℕ)
 texts_of Pattern (text s) = s ∷ []
+texts_of PatternProperties v = names_list (members_in v)
 texts_of _ _ = []
 
 -- those in the members of a schema object, but not in the schemas below it

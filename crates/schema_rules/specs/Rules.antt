@@ -1,14 +1,16 @@
 -- The rule of a member of a schema object: which schemas it asks of which values, and how it joins their answers (JSON
 -- Schema Core, section 10).
-use Rattle.std.specs.Prelude.{ℕ, pos, ◌+◌, ◌==◌, List, [], ◌∷◌, length, Bool, true, false, not, ◌&&◌, ◌||◌, if◌then◌else◌, Option, Some, None, is_some, codes}
+use Rattle.std.specs.Prelude.{ℕ, pos, ◌+◌, ◌==◌, List, [], ◌∷◌, ◌++◌, length, Bool, true, false, not, ◌&&◌, ◌||◌, if◌then◌else◌, Option, Some, None, is_some, codes}
 use Rattle.doc_tree.specs.Doc.{Doc, int, text, object, Elements, no_elements, element, Members, no_members, member, get_member}
 use Rattle.doc_tree.specs.Lists.{elements_list, names_list}
 use Rattle.schema_rules.specs.Parts.{elements_in, members_in, after, beside}
 use Rattle.schema_rules.specs.Assertions.{asserts, at_least, at_most, on_list}
+use Rattle.schema_pattern.specs.Patterns.{is_found, pattern_in}
+use Rattle.schema_pattern.specs.Tables.{some_found}
 use Rattle.schema_rules.specs.Patterns.{fits}
 use Rattle.schema_rules.specs.References.{target}
 use Rattle.schema_rules.specs.declared.keyword.Keyword.{Keyword}
-use Rattle.schema_rules.specs.declared.keyword.Keyword.TheVariants.{Pattern, Properties, AdditionalProperties, PropertyNames, PrefixItems, Items, Contains, MaxContains, AllOf, AnyOf, OneOf, Not, Then, Else, DependentSchemas, Ref}
+use Rattle.schema_rules.specs.declared.keyword.Keyword.TheVariants.{Pattern, Properties, PatternProperties, AdditionalProperties, PropertyNames, PrefixItems, Items, Contains, MaxContains, AllOf, AnyOf, OneOf, Not, Then, Else, DependentSchemas, Ref}
 
 -- ---- which schemas are asked of which values
 
@@ -56,10 +58,20 @@ abbrev pub each_named : Doc → Members → List Ask
 each_named (object ss) ts = by_name ss ts
 each_named _ ts = []
 
--- one schema, of each member that isn't named (Core, section 10.3.2.3)
-abbrev pub of_others : Members → Doc → Members → List Ask
-of_others named s no_members = []
-of_others named s (member k t ts) = if is_some (get_member k named) then of_others named s ts else (ask s t ∷ of_others named s ts)
+-- one schema, of each member in whose name the pattern is found
+abbrev pub of_matching : List ℕ → Doc → Members → List Ask
+of_matching p s no_members = []
+of_matching p s (member k t ts) = if is_found (pattern_in p) k then (ask s t ∷ of_matching p s ts) else of_matching p s ts
+
+-- the same of each schema, whose name is the pattern (Core, section 10.3.2.2)
+abbrev pub by_pattern : Members → Members → List Ask
+by_pattern no_members ts = []
+by_pattern (member p s ss) ts = of_matching p s ts ++ by_pattern ss ts
+
+-- one schema, of each member that isn't named, and in whose name none of the patterns is found (Core, section 10.3.2.3)
+abbrev pub of_others : Members → List (List ℕ) → Doc → Members → List Ask
+of_others named patterns s no_members = []
+of_others named patterns s (member k t ts) = if is_some (get_member k named) || some_found patterns k then of_others named patterns s ts else (ask s t ∷ of_others named patterns s ts)
 
 -- one schema, of each member's name as a text (Core, section 10.3.2.4)
 abbrev pub of_names : Doc → Members → List Ask
@@ -83,7 +95,8 @@ after_if (Some condition) s t = ask condition t ∷ ask s t ∷ []
 -- what the keyword asks, with this value and these members of its object (itself among them); a keyword that isn't listed asks nothing
 abbrev pub asks : Doc → Members → Keyword → Doc → Doc → List Ask
 asks root ms Properties v t = each_named v (members_in t)
-asks root ms AdditionalProperties v t = of_others (members_in (beside (codes "properties") ms)) v (members_in t)
+asks root ms PatternProperties v t = by_pattern (members_in v) (members_in t)
+asks root ms AdditionalProperties v t = of_others (members_in (beside (codes "properties") ms)) (names_list (members_in (beside (codes "patternProperties") ms))) v (members_in t)
 asks root ms PropertyNames v t = of_names v (members_in t)
 asks root ms PrefixItems v t = by_place (elements_in v) (elements_in t)
 asks root ms Items v t = of_each v (after (length (elements_list (elements_in (beside (codes "prefixItems") ms)))) (elements_in t))
@@ -149,6 +162,7 @@ where_present _ _ _ = true
 -- whether the instance passes, by the answers to what was asked; a keyword that asks nothing says what it asserts
 abbrev pub joins : Members → Keyword → Doc → Doc → List Bool → Bool
 joins ms Properties v t answers = every answers
+joins ms PatternProperties v t answers = every answers
 joins ms AdditionalProperties v t answers = every answers
 joins ms PropertyNames v t answers = every answers
 joins ms PrefixItems v t answers = every answers

@@ -35,10 +35,10 @@ pub fn has_form(at_root: bool, keyword: Keyword, value: &Tree) -> bool
         Keyword::UniqueItems => matches!(value, Tree::Bool(_)),
         Keyword::Required => is_list_of_texts(value),
         Keyword::DependentRequired => is_object_of_lists(value),
-        Keyword::Properties | Keyword::DependentSchemas | Keyword::Defs => matches!(
-            value,
-            Tree::Object(_)
-        ),
+        Keyword::Properties
+        | Keyword::PatternProperties
+        | Keyword::DependentSchemas
+        | Keyword::Defs => matches!(value, Tree::Object(_)),
         Keyword::PrefixItems | Keyword::AllOf | Keyword::AnyOf | Keyword::OneOf => is_some_list(
             value,
         ),

@@ -43,6 +43,8 @@ pub enum Keyword {
     DependentRequired,
     /// `properties`: Core, section 10.3.2.1.
     Properties,
+    /// `patternProperties`: Core, section 10.3.2.2.
+    PatternProperties,
     /// `additionalProperties`: Core, section 10.3.2.3.
     AdditionalProperties,
     /// `propertyNames`: Core, section 10.3.2.4.
@@ -105,7 +107,10 @@ pub fn shape_of(keyword: Keyword) -> Shape
     ensures { result ≡ shape_of keyword }
 {
     match keyword {
-        Keyword::Properties | Keyword::DependentSchemas | Keyword::Defs => Shape::Named,
+        Keyword::Properties
+        | Keyword::PatternProperties
+        | Keyword::DependentSchemas
+        | Keyword::Defs => Shape::Named,
         Keyword::AdditionalProperties
         | Keyword::PropertyNames
         | Keyword::Items

@@ -129,7 +129,7 @@ fn not_offered(name: &str) -> Option<Keyword>
 {
     match name {
         "pattern" => Some(Keyword::Pattern),
-        "patternProperties" => Some(Keyword::LeftOut),
+        "patternProperties" => Some(Keyword::PatternProperties),
         "unevaluatedItems" => Some(Keyword::LeftOut),
         "unevaluatedProperties" => Some(Keyword::LeftOut),
         "dependentSchemas" => Some(Keyword::DependentSchemas),

@@ -7,7 +7,7 @@ use crate::keyword::Keyword;
 /// Which schemas are accepted. Each profile accepts what those before it accept, with the same meaning.
 #[derive(Clone, Copy, Debug, Drop, PartialEq, Eq)]
 pub enum Profile {
-    /// Without `pattern` and `dependentSchemas`.
+    /// Without `pattern`, `patternProperties` and `dependentSchemas`.
     Two,
     /// With all keywords that are read.
     Three,
@@ -19,7 +19,10 @@ impl Profile {
         ensures { result ≡ offered self keyword }
     {
         match (self, keyword) {
-            (Profile::Two, Keyword::Pattern | Keyword::DependentSchemas) => Keyword::LeftOut,
+            (
+                Profile::Two,
+                Keyword::Pattern | Keyword::PatternProperties | Keyword::DependentSchemas,
+            ) => Keyword::LeftOut,
             _ => keyword,
         }
     }

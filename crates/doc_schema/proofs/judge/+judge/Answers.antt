@@ -1,8 +1,9 @@
-use Rattle.std.proofs.Common.{◌≡◌, ◌==◌, ◌&&◌, inl, inr, ⊎_elim, ◌+◌, ◌*◌, ◌<◌, true, false, refl, sym, ap, subst, ◌∙◌, arith, rules, string_bytes, option_map, codes, is_some, not}
+use Rattle.std.proofs.Common.{◌≡◌, [], ◌==◌, ◌&&◌, inl, inr, ⊎_elim, ◌+◌, ◌*◌, ◌<◌, true, false, refl, sym, ap, subst, ◌∙◌, arith, rules, string_bytes, option_map, codes, is_some, not}
 use Rattle.std.proofs.lemmas.List.{drop_all}
 use Rattle.doc_tree.specs.Doc.{object, text, get_member}
 use Rattle.doc_tree.specs.TreeView.{view, elements_view, members_view}
 use Rattle.doc_tree.proofs.Views.{view-Object}
+use Rattle.doc_tree.specs.Lists.{names_list}
 use Rattle.schema_graph.specs.Walks.{In, first, later}
 use Rattle.schema_rules.specs.Keywords.{keyword_of}
 use Rattle.schema_rules.specs.Instances.{seen}
@@ -12,7 +13,7 @@ use Rattle.schema_rules.specs.Rules.{Ask, asks, ask, at_each, by_each, of_each, 
 use Rattle.doc_schema.specs.Steps.{verdict, passes, all_hold, holds, told, ArePlaced, steps, most}
 use Rattle.schema_rules.specs.PatternTexts.{texts_by, texts_of}
 use Rattle.schema_rules.specs.declared.profile.Profile.TheVariants.{Three}
-use Rattle.doc_schema.proofs.Searchless.{none_first, none_later, no_search}
+use Rattle.doc_schema.proofs.Searchless.{none_first, none_later, no_names, no_search, searchless_object, unpatterned}
 use Rattle.doc_schema.proofs.Fuel.{verdict_is, asked_by}
 use Rattle.doc_schema.proofs.Rest.{Rest, and_true, here, less, further, on, one_found, one_passed, no_place_left, begin_rest, at_item, of_item, place_next, member_next, each_next, presence, presence_next, name_next, other_named, other_next, found_placed, found_most, found_further, on_found, member_placed, member_most, next_among, left_among, next_holds, items_asked}
 use Rattle.doc_schema.proofs.judge.+judge.Goals as goal
@@ -37,7 +38,7 @@ members_hold-member_holds-requires t c =
     let le = member_most r c.requires.plain.loops ms u c.requires.placed xs among in
     let same = ap (λ k. most r (asks r ms k v u)) k in
     let lt : 6 * most r (asks r ms c.keyword_named.result v u) + 3 < 6 * steps r (object ms) u + 4 = omega (arith, le, same) in
-    (search rules, (c.requires.plain, (subst (λ k. ArePlaced r (asks r ms k v u)) (sym k) (member_placed r c.requires.plain.loops ms u c.requires.placed xs among), ap (λ w. texts_of w v) k ∙ none_first (texts_of (keyword_of (string_bytes c.in-Some.name.now)) v) _ (sym (ap (λ es. texts_by Three (members_view es)) c.in-Some.ensures.steps) ∙ c.loop-name.invariant.2))))
+    (search rules, (c.requires.plain, (subst (λ k. ArePlaced r (asks r ms k v u)) (sym k) (member_placed r c.requires.plain.loops ms u c.requires.placed xs among), (ap (λ w. texts_of w v) k ∙ none_first (texts_of (keyword_of (string_bytes c.in-Some.name.now)) v) _ (sym (ap (λ es. texts_by Three (members_view es)) c.in-Some.ensures.steps) ∙ c.loop-name.invariant.2), unpatterned ms (searchless_object r ms c.requires.placed c.requires.plain.patterns)))))
 
 pub members_hold-loop-name-preserved : goal.members_hold-loop-name-preserved
 members_hold-loop-name-preserved t c =
@@ -295,7 +296,7 @@ others_accepted-accepts_at-requires t c =
     let r = view c.args.root.now in
     let ns = members_in (beside (codes "properties") (members_view c.args.siblings.now.entries)) in
     let s = view c.args.schema.now in
-    let all = of_others ns s (members_view c.args.members.now.entries) in
+    let all = of_others ns [] s (members_view c.args.members.now.entries) in
     let m = view c.in-Some.member.now in
     let h : false ≡ is_some (get_member (string_bytes c.in-Some.name.now) ns) = c.if-not-is_named.ensures ∙ ap (λ n. is_some (get_member n ns)) c.as_str.ensures.value in
     let e = other_next ns s c.in-Some.name.now c.in-Some.member.now _ _ c.in-Some.ensures.steps h in
@@ -308,7 +309,7 @@ others_accepted-loop-name-preserved t c =
     let r = view c.args.root.now in
     let ns = members_in (beside (codes "properties") (members_view c.args.siblings.now.entries)) in
     let s = view c.args.schema.now in
-    let all = of_others ns s (members_view c.args.members.now.entries) in
+    let all = of_others ns [] s (members_view c.args.members.now.entries) in
     let inv = c.loop-name.invariant in
     elim c.else-not-is_named.branch [
       | others_accepted-else-not-is_named-via-then-not-is_named+else-not-accepts_at w ↦
@@ -499,7 +500,7 @@ others_accepted-returns t c =
     let r = view c.args.root.now in
     let ns = members_in (beside (codes "properties") (members_view c.args.siblings.now.entries)) in
     let s = view c.args.schema.now in
-    sym (ap (λ es. every (told (verdict r) (of_others ns s (members_view es)))) c.in-None.ensures.steps.0) ∙ c.loop-name.invariant.1
+    sym (ap (λ es. every (told (verdict r) (of_others ns [] s (members_view es)))) c.in-None.ensures.steps.0) ∙ c.loop-name.invariant.1
 
 pub names_accepted-returns-then-not-accepts_at : goal.names_accepted-returns-then-not-accepts_at
 names_accepted-returns-then-not-accepts_at t c =
@@ -631,7 +632,7 @@ member_holds-returns-in-Some-members_of t c =
     let v = view c.args.value.now in
     let u = seen c.args.instance in
     let ns = members_in (beside (codes "properties") ms) in
-    c.others_accepted.ensures ∙ ap (λ m. every (told (verdict r) (of_others ns v m))) c.in-Some-members_of.ensures ∙ sym (ap (λ k. holds (verdict r) r ms k v u) c.in-AdditionalProperties.is)
+    c.others_accepted.ensures ∙ ap (λ m. every (told (verdict r) (of_others ns [] v m))) c.in-Some-members_of.ensures ∙ ap (λ ps. every (told (verdict r) (of_others ns ps v (members_in u)))) (sym c.requires.unpatterned) ∙ sym (ap (λ k. holds (verdict r) r ms k v u) c.in-AdditionalProperties.is)
 
 pub member_holds-returns-in-Some-members_of-2 : goal.member_holds-returns-in-Some-members_of-2
 member_holds-returns-in-Some-members_of-2 t c =
@@ -648,7 +649,8 @@ member_holds-returns-in-None-members_of t c =
     let v = view c.args.value.now in
     let u = seen c.args.instance in
     let ns = members_in (beside (codes "properties") ms) in
-    sym (ap (λ m. every (told (verdict r) (of_others ns v m))) c.in-None-members_of.ensures) ∙ sym (ap (λ k. holds (verdict r) r ms k v u) c.in-AdditionalProperties.is)
+    let ps = names_list (members_in (beside (codes "patternProperties") ms)) in
+    sym (ap (λ m. every (told (verdict r) (of_others ns ps v m))) c.in-None-members_of.ensures) ∙ sym (ap (λ k. holds (verdict r) r ms k v u) c.in-AdditionalProperties.is)
 
 pub member_holds-returns-in-None-members_of-2 : goal.member_holds-returns-in-None-members_of-2
 member_holds-returns-in-None-members_of-2 t c =
@@ -690,3 +692,11 @@ member_holds-returns-in-Pattern t c =
     let v = view c.args.value.now in
     let u = seen c.args.instance in
     sym (no_search v u (ap (λ k. texts_of k v) (sym c.in-Pattern.is) ∙ c.requires.searchless)) ∙ sym (ap (λ k. holds (verdict r) r ms k v u) c.in-Pattern.is)
+
+pub member_holds-returns-in-PatternProperties : goal.member_holds-returns-in-PatternProperties
+member_holds-returns-in-PatternProperties t c =
+    let r = view c.args.root.now in
+    let ms = members_view c.args.siblings.now.entries in
+    let v = view c.args.value.now in
+    let u = seen c.args.instance in
+    sym (ap (λ l. every (told (verdict r) l)) (no_names v u (ap (λ k. texts_of k v) (sym c.in-PatternProperties.is) ∙ c.requires.searchless))) ∙ sym (ap (λ k. holds (verdict r) r ms k v u) c.in-PatternProperties.is)

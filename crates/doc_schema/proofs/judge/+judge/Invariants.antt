@@ -56,7 +56,7 @@ abbrev pub decreases-named_accepted : goal.decreases-named_accepted
 decreases-named_accepted l = 6 * most (view l.root.now) (by_name (members_view l.schemas.now.entries) (members_view l.members.now.entries)) + 1
 
 abbrev pub decreases-others_accepted : goal.decreases-others_accepted
-decreases-others_accepted l = 6 * most (view l.root.now) (of_others (members_in (beside (codes "properties") (members_view l.siblings.now.entries))) (view l.schema.now) (members_view l.members.now.entries))
+decreases-others_accepted l = 6 * most (view l.root.now) (of_others (members_in (beside (codes "properties") (members_view l.siblings.now.entries))) [] (view l.schema.now) (members_view l.members.now.entries))
 
 abbrev pub decreases-present_accept : goal.decreases-present_accept
 decreases-present_accept l = 6 * most (view l.root.now) (by_each (members_view l.schemas.now.entries) (seen l.instance))
@@ -98,8 +98,8 @@ invariant-named_accepted-loop-name l = Rest (view l.root) (by_name (members_view
     × (every (told (verdict (view l.root)) (by_name (members_view l.schemas.entries) (members_view l.name-iterator))) ≡ every (told (verdict (view l.root)) (by_name (members_view l.schemas.entries) (members_view l.members.entries))))
 
 abbrev pub invariant-others_accepted-loop-name : goal.invariant-others_accepted-loop-name
-invariant-others_accepted-loop-name l = Rest (view l.root) (of_others (members_in (beside (codes "properties") (members_view l.siblings.entries))) (view l.schema) (members_view l.name-iterator)) (of_others (members_in (beside (codes "properties") (members_view l.siblings.entries))) (view l.schema) (members_view l.members.entries))
-    × (every (told (verdict (view l.root)) (of_others (members_in (beside (codes "properties") (members_view l.siblings.entries))) (view l.schema) (members_view l.name-iterator))) ≡ every (told (verdict (view l.root)) (of_others (members_in (beside (codes "properties") (members_view l.siblings.entries))) (view l.schema) (members_view l.members.entries))))
+invariant-others_accepted-loop-name l = Rest (view l.root) (of_others (members_in (beside (codes "properties") (members_view l.siblings.entries))) [] (view l.schema) (members_view l.name-iterator)) (of_others (members_in (beside (codes "properties") (members_view l.siblings.entries))) [] (view l.schema) (members_view l.members.entries))
+    × (every (told (verdict (view l.root)) (of_others (members_in (beside (codes "properties") (members_view l.siblings.entries))) [] (view l.schema) (members_view l.name-iterator))) ≡ every (told (verdict (view l.root)) (of_others (members_in (beside (codes "properties") (members_view l.siblings.entries))) [] (view l.schema) (members_view l.members.entries))))
 
 abbrev pub invariant-present_accept-loop-name : goal.invariant-present_accept-loop-name
 invariant-present_accept-loop-name l = Rest (view l.root) (by_each (members_view l.name-iterator) (seen l.instance)) (by_each (members_view l.schemas.entries) (seen l.instance))

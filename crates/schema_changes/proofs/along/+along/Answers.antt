@@ -1,8 +1,8 @@
-use Rattle.std.proofs.Common.{◌≡◌, ◌≤◌, ◌∙◌, map, sym, ap, length, arith}
+use Rattle.std.proofs.Common.{◌≡◌, ◌≤◌, ◌∙◌, map, refl, sym, ap, length, arith}
 use Rattle.doc_tree.specs.Place.{place_of}
 use Rattle.doc_tree.specs.TreeView.{view}
 use Rattle.schema_levels.specs.Bits.{size}
-use Rattle.schema_levels.specs.Below.{seen}
+use Rattle.schema_changes.specs.Again.{site_of}
 use Rattle.schema_changes.proofs.Location.{child_complete, child_holds, collected, ends_here, found_same, found_some, from_closed, goes_on, no_places, step_again, step_below, to_closed, whole_holds}
 use Rattle.schema_changes.proofs.along.+along.Goals as goal
 
@@ -53,8 +53,8 @@ child_passes-returns-else-not-name_passes-clause-sound t c = λ e known table d 
     let nodes = c.args.nodes.now in
     let asked = c.args.asked.now in
     let len : length c.name_passes.new.below ≡ length asked = c.name_passes.auto.below ∙ c.requires.below_len in
-    let is = collected nodes asked c.fill.new.words c.collect.new.found (length c.name_passes.new.below) (place_of c.args.step.now) (seen c.spot_of.result) len c.fill.ensures c.spot_of.ensures c.collect.ensures in
-    child_holds c.args.shifts nodes known asked c.collect.new.found (place_of c.args.step.now) (map place_of c.args.rest.now) (view c.in-Some.value.now) d is (found_same c.args.found c.in-Some.value d c.in-Some.is at)
+    let is = collected nodes asked c.fill.new.words c.collect_at.new.found (length c.name_passes.new.below) (place_of c.args.step.now) (site_of (place_of c.args.step.now)) len c.fill.ensures refl c.collect_at.ensures.found in
+    child_holds c.args.shifts nodes known asked c.collect_at.new.found (place_of c.args.step.now) (map place_of c.args.rest.now) (view c.in-Some.value.now) d is (found_same c.args.found c.in-Some.value d c.in-Some.is at)
     ((c.name_passes.ensures.value known table).yes c.if-not-name_passes.false) (c.along.ensures.sound e known table)
 
 pub child_passes-returns-else-not-name_passes-clause-complete : goal.child_passes-returns-else-not-name_passes-clause-complete
@@ -63,5 +63,5 @@ child_passes-returns-else-not-name_passes-clause-complete t c = λ known table a
     let asked = c.args.asked.now in
     let room : length nodes ≤ size asked = omega (arith, c.requires.room) in
     let len : length c.name_passes.new.below ≡ length asked = c.name_passes.auto.below ∙ c.requires.below_len in
-    let is = collected nodes asked c.fill.new.words c.collect.new.found (length c.name_passes.new.below) (place_of c.args.step.now) (seen c.spot_of.result) len c.fill.ensures c.spot_of.ensures c.collect.ensures in
-    c.along.ensures.complete known table (child_complete nodes c.requires.order known asked c.collect.new.found room (place_of c.args.step.now) (view c.in-Some.value.now) is (all (view c.in-Some.value.now) (found_some c.args.found c.in-Some.value c.in-Some.is)))
+    let is = collected nodes asked c.fill.new.words c.collect_at.new.found (length c.name_passes.new.below) (place_of c.args.step.now) (site_of (place_of c.args.step.now)) len c.fill.ensures refl c.collect_at.ensures.found in
+    c.along.ensures.complete known table (child_complete nodes c.requires.order known asked c.collect_at.new.found room (place_of c.args.step.now) (view c.in-Some.value.now) is (all (view c.in-Some.value.now) (found_some c.args.found c.in-Some.value c.in-Some.is)))

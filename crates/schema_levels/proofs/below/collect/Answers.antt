@@ -1,5 +1,6 @@
 use Rattle.std.proofs.Common.{◌≡◌, ◌∙◌, ◌||◌, Bool, true, false, refl}
 use Rattle.schema_levels.specs.Below.{collect_rules, seen}
+use Rattle.schema_levels.proofs.Finding.{get_is}
 use Rattle.schema_levels.proofs.Skips.{begins, steps}
 use Rattle.schema_levels.proofs.below.collect.Goals as goal
 
@@ -16,3 +17,6 @@ loop-number-preserved c = (
       c.loop-number-test.true c.index-nodes-number.is c.collect_one-asks.ensures.found c.next-number-in-loop-number.ensures.at_least c.next-number-in-loop-number.ensures.none c.loop-number.invariant.0,
   λ e. (let both = neither c.loop-number.asks c.collect_one-asks.result e in c.collect_one-asks.ensures.none both.1 ∙ c.loop-number.invariant.1 both.0),
 )
+
+pub collect_one-asks-requires : goal.collect_one-asks-requires
+collect_one-asks-requires c = λ on. c.requires.known c.loop-number.number c.index-nodes-number.result (get_is c.args.nodes.now c.loop-number.number c.index-nodes-number.result c.loop-number-test.true c.index-nodes-number.is) on

@@ -139,9 +139,9 @@ fold_each_member-loop-name-preserved-then-fold_child t c = (
   c.fill.ensures ∙ ap (λ n. replicate n 0) (c.fold_child.auto.below_asked ∙ ap length c.loop-name.invariant.3 ∙ length-replicate (length c.args.asked.now) 0),
   c.fold_child.auto.below_passed ∙ c.loop-name.invariant.4,
   goes_on c.args.nodes.now c.args.asked.now c.args.passed.now c.loop-name.passed c.fold_child.new.passed _ _ (members_each (members_view c.next.new.self)) (members_each (members_view c.args.members.now.entries)) c.loop-name.invariant.5
-      (member_next c.in-Some.name.now c.as_str.result.now c.in-Some.member.now c.loop-name.name-iterator c.next.new.self c.in-Some.ensures.steps c.as_str.ensures.value) c.fold_child.ensures.folded,
-  still _ _ c.args.nodes.now c.fold_child.ensures.same c.loop-name.invariant.6,
-  c.fold_child.ensures.same ∙ c.loop-name.invariant.7,
+      (member_next c.in-Some.name.now c.as_str-key.result.now c.in-Some.member.now c.loop-name.name-iterator c.next.new.self c.in-Some.ensures.steps c.as_str-key.ensures.value) c.fold_child.ensures.folded,
+  still _ _ c.args.nodes.now (c.fold_child.ensures.same ∙ c.find_for-found.ensures.same) c.loop-name.invariant.6,
+  c.fold_child.ensures.same ∙ c.find_for-found.ensures.same ∙ c.loop-name.invariant.7,
 )
 
 pub fold_each_member-loop-name-preserved : goal.fold_each_member-loop-name-preserved
@@ -152,9 +152,9 @@ fold_each_member-loop-name-preserved t c = (
   (c.fold_child.ensures.none c.if-fold_child.false).0,
   c.fold_child.auto.below_passed ∙ c.loop-name.invariant.4,
   goes_on c.args.nodes.now c.args.asked.now c.args.passed.now c.loop-name.passed c.fold_child.new.passed _ _ (members_each (members_view c.next.new.self)) (members_each (members_view c.args.members.now.entries)) c.loop-name.invariant.5
-      (member_next c.in-Some.name.now c.as_str.result.now c.in-Some.member.now c.loop-name.name-iterator c.next.new.self c.in-Some.ensures.steps c.as_str.ensures.value) c.fold_child.ensures.folded,
-  still _ _ c.args.nodes.now c.fold_child.ensures.same c.loop-name.invariant.6,
-  c.fold_child.ensures.same ∙ c.loop-name.invariant.7,
+      (member_next c.in-Some.name.now c.as_str-key.result.now c.in-Some.member.now c.loop-name.name-iterator c.next.new.self c.in-Some.ensures.steps c.as_str-key.ensures.value) c.fold_child.ensures.folded,
+  still _ _ c.args.nodes.now (c.fold_child.ensures.same ∙ c.find_for-found.ensures.same) c.loop-name.invariant.6,
+  c.fold_child.ensures.same ∙ c.find_for-found.ensures.same ∙ c.loop-name.invariant.7,
 )
 
 pub fold_each_member-returns : goal.fold_each_member-returns

@@ -24,6 +24,7 @@ returns-in_default c =
     let none : AsksNone c.args.keyword = record {
       not_pattern = c.in_default.not-Pattern;
       not_properties = c.in_default.not-Properties;
+      not_pattern_properties = c.requires;
       not_additional_properties = c.in_default.not-AdditionalProperties;
       not_property_names = c.in_default.not-PropertyNames;
       not_prefix_items = c.in_default.not-PrefixItems;

@@ -2,15 +2,12 @@ use Rattle.std.proofs.Common.{◌≡◌, ◌∙◌, sym, string_bytes, ap, subst
 use Rattle.std.proofs.lemmas.Result.{IfOk-from_err}
 use Rattle.doc_tree.specs.TreeView.{view, members_view}
 use Rattle.schema_rules.specs.Keywords.{keyword_of}
-use Rattle.schema_nodes.specs.Fits.{AreFitting, Fits, known_near}
+use Rattle.schema_nodes.specs.Fits.{AreFitting, FitAll, known_near}
 use Rattle.schema_nodes.proofs.Fitting.{Fitting, sorted, goes_on, ends}
 use Rattle.schema_nodes.proofs.rules.rules_of.Goals as goal
 
-pub returns-in_err-rule_of-clause-sorted : goal.returns-in_err-rule_of-clause-sorted
-returns-in_err-rule_of-clause-sorted c = sorted c.args.members.now.entries c.iter.ensures.ordered
-
-pub returns-in_err-push-clause-sorted : goal.returns-in_err-push-clause-sorted
-returns-in_err-push-clause-sorted c = sorted c.args.members.now.entries c.iter.ensures.ordered
+pub returns-in_err-rules-clause-sorted : goal.returns-in_err-rules-clause-sorted
+returns-in_err-rules-clause-sorted c = sorted c.args.members.now.entries c.iter.ensures.ordered
 
 pub returns-clause-sorted : goal.returns-clause-sorted
 returns-clause-sorted c = sorted c.args.members.now.entries c.iter.ensures.ordered
@@ -21,19 +18,17 @@ returns-clause-fits c =
     subst (λ o. AreFitting c.args.targets.now c.args.ranks.now (view c.args.root.now) o ms c.args.rows.now c.loop-name.rules.items) c.near_in-near.ensures
     (ends c.args.targets.now c.args.ranks.now (view c.args.root.now) (known_near c.near_in-near.result) _ ms _ c.args.rows.now c.loop-name.rules.items c.loop-name.invariant (⊎_elim (λ x. inl (ap members_view x.1.0)) (λ x. inr x.1.0) c.in-None.ensures.steps))
 
-pub returns-in_err-rule_of-clause-fits : goal.returns-in_err-rule_of-clause-fits
-returns-in_err-rule_of-clause-fits c = IfOk-from_err c.from_residual.result _ c.from_residual.ensures.0
-
-pub returns-in_err-push-clause-fits : goal.returns-in_err-push-clause-fits
-returns-in_err-push-clause-fits c = IfOk-from_err c.from_residual-in_err-push.result _ c.from_residual-in_err-push.ensures.0
+pub returns-in_err-rules-clause-fits : goal.returns-in_err-rules-clause-fits
+returns-in_err-rules-clause-fits c = IfOk-from_err c.from_residual.result _ c.from_residual.ensures.0
 
 pub loop-name-preserved : goal.loop-name-preserved
 loop-name-preserved c =
     let left = members_view c.next.new.self.a in
     let k : c.keyword_named.result ≡ keyword_of (string_bytes c.in-Some.name.now) = c.keyword_named.ensures ∙ ap keyword_of c.as_str.ensures.value in
     let near = known_near c.near_in-near.result in
-    subst (λ l. Fitting c.args.targets.now c.args.ranks.now (view c.args.root.now) near left c.next.new.self.b.rest.now (members_view c.args.members.now.entries) c.args.rows.now l) (sym c.in_ok-push.ensures.items)
-    (goes_on c.args.targets.now c.args.ranks.now (view c.args.root.now) near _ left (members_view c.args.members.now.entries) _ c.next.new.self.b.rest.now c.args.rows.now c.loop-name.rules.items (string_bytes c.in-Some.name.now) (view c.in-Some.value.now) c.in-Some.row.now c.in_ok-rule_of.field-0 c.loop-name.invariant
+    let f = c.in_ok-rules.ensures in
+    subst (λ l. Fitting c.args.targets.now c.args.ranks.now (view c.args.root.now) near left c.next.new.self.b.rest.now (members_view c.args.members.now.entries) c.args.rows.now l) (sym f.1)
+    (goes_on c.args.targets.now c.args.ranks.now (view c.args.root.now) near _ left (members_view c.args.members.now.entries) _ c.next.new.self.b.rest.now c.args.rows.now c.loop-name.rules.items (string_bytes c.in-Some.name.now) (view c.in-Some.value.now) c.in-Some.row.now f.0 c.loop-name.invariant
     (ap members_view c.in-Some.ensures.steps.0) c.in-Some.ensures.steps.1
-    (subst (λ x. Fits c.args.targets.now c.args.ranks.now (view c.args.root.now) near x (view c.in-Some.value.now) c.in-Some.row.now.items c.in_ok-rule_of.field-0) k
-    (subst (λ l. Fits c.args.targets.now c.args.ranks.now (view c.args.root.now) near c.keyword_named.result (view c.in-Some.value.now) l c.in_ok-rule_of.field-0) c.deref.ensures.value c.in_ok-rule_of.ensures)))
+    (subst (λ x. FitAll c.args.targets.now c.args.ranks.now (view c.args.root.now) near x (view c.in-Some.value.now) c.in-Some.row.now.items f.0) k
+    (subst (λ l. FitAll c.args.targets.now c.args.ranks.now (view c.args.root.now) near c.keyword_named.result (view c.in-Some.value.now) l f.0) c.deref.ensures.value f.2)))

@@ -8,6 +8,7 @@ use Rattle.schema_levels.specs.Searched.{AreSearched}
 use Rattle.schema_levels.specs.Table.{IsTable}
 use Rattle.schema_pattern.specs.Tables.{sources}
 use Rattle.schema_rules.specs.PatternTexts.{pattern_texts}
+use Rattle.doc_schema.proofs.Reading.{few}
 use Rattle.doc_schema.proofs.Tables.{judged_after}
 use Rattle.doc_schema.proofs.schema.Schema.judged_after.Goals as goal
 
@@ -21,4 +22,4 @@ returns-clause-judged c = λ valid was agree.
 
 pub passes_after-requires-clause-searched : goal.passes_after-requires-clause-searched
 passes_after-requires-clause-searched c = subst (λ l. AreSearched (sources c.args.searches.now) l) (sym c.deref.ensures.value)
-    (subst (λ ss. AreSearched ss c.self.inside.nodes.nodes.items) (ap (λ s. pattern_texts (view s)) c.self.view_is ∙ sym c.requires) c.self.invariant.1.searched)
+    (subst (λ ss. AreSearched ss c.self.inside.nodes.nodes.items) (ap (λ s. pattern_texts (view s)) c.self.view_is ∙ sym c.requires) (c.self.invariant.1.searched (few (view c.self.inside.source) c.self.invariant.0)))

@@ -7,6 +7,7 @@ use Rattle.schema_levels.specs.Searched.{AreSearched}
 use Rattle.schema_levels.specs.Table.{IsTable}
 use Rattle.schema_pattern.specs.Tables.{sources}
 use Rattle.schema_rules.specs.PatternTexts.{pattern_texts}
+use Rattle.doc_schema.proofs.Reading.{few}
 use Rattle.doc_schema.proofs.Tables.{judged_again}
 use Rattle.doc_schema.proofs.schema.Schema.judged_again.Goals as goal
 
@@ -20,4 +21,4 @@ returns-clause-judged c = λ valid was agree.
 
 pub passes_again-requires-clause-searched : goal.passes_again-requires-clause-searched
 passes_again-requires-clause-searched c = subst (λ l. AreSearched (sources c.args.searches.now) l) (sym c.deref.ensures.value)
-    (subst (λ ss. AreSearched ss c.self.inside.nodes.nodes.items) (ap (λ s. pattern_texts (view s)) c.self.view_is ∙ sym c.requires) c.self.invariant.1.searched)
+    (subst (λ ss. AreSearched ss c.self.inside.nodes.nodes.items) (ap (λ s. pattern_texts (view s)) c.self.view_is ∙ sym c.requires) (c.self.invariant.1.searched (few (view c.self.inside.source) c.self.invariant.0)))
