@@ -46,9 +46,13 @@ pub record Patches (ops : Doc) (if_rev : Option ℕ) (rev : ℕ) (old new : Stor
   pub back : Reverses r new.doc old.doc
   pub held : r.held ≡ held_by (operations_of ops) old.doc
 
--- the refusal is the first of what came out of the old document, or memory was refused
+-- the refusal is the first of what came out of the old document under the schema, or memory was refused
+abbrev pub RefusesOutcome : Doc → Result Doc Refusal → Refusal → Type 0
+RefusesOutcome schema outcome r = (r ≡ plain MEMORY) ⊎ (first (result_err outcome ∷ on_made (invalid_refusal schema) outcome ∷ []) ≡ Some r)
+
+-- the same under the schema that is kept
 abbrev pub RefusesMade : Result Doc Refusal → Stored → Refusal → Type 0
-RefusesMade outcome old r = (r ≡ plain MEMORY) ⊎ (first (result_err outcome ∷ on_made (invalid_refusal (view old.schema)) outcome ∷ []) ≡ Some r)
+RefusesMade outcome old r = RefusesOutcome (view old.schema) outcome r
 
 -- the refusal is the first that what is kept gives, or memory was refused
 abbrev pub RefusesPatch : Doc → Option ℕ → Stored → Refusal → Type 0

@@ -3,12 +3,11 @@
 //! `Documents` are lent to read and to judge. `make` does a judged change on the map that keeps them, and answers the
 //! `Undo` by which `unmake` takes it back without memory; `make_for_good` keeps none, and `patch_read_for_good` does
 //! the same of a patch that was read already. A patch is judged and made in its document's place: only what it can have
-//! changed is judged (`changed_at`, `accepts_patched`). What a change makes, and why it is refused, is defined in
+//! changed is judged (`judged_patches`). What a change makes, and why it is refused, is defined in
 //! `specs/Step.antt`; what every state keeps, in `specs/State.antt`; refusals as calls answer them, in
 //! `specs/Refusals.antt`.
 #![tactic(auto)]
 
-mod accepts;
 mod checks;
 mod documents;
 mod judge;
@@ -25,14 +24,13 @@ mod rules;
 mod stored;
 mod undo;
 
-pub use accepts::accepts_patched;
 pub use doc_schema::Profile;
 pub use documents::Documents;
 pub use judged::Judged;
+pub use judged_patches::accepts_patched;
 pub use lent::Lent;
 pub use making::{make, make_for_good, unmake};
 pub use names::is_valid_name;
-pub use patched_places::{Changed, changed_at, changed_places, changed_steps};
 pub use patching::patch_read_for_good;
 pub use refusal::Refusal;
 pub use stored::Stored;

@@ -24,10 +24,10 @@ ghost use Rattle.refusals.specs.declared.numbers.TheConstants.{MEMORY};
 
 use crate::Refusal;
 use crate::checks::{check_name, check_revision};
-use crate::rules::check_patched;
+use crate::rules::{apply_valid, apply_valid_for_good};
 use crate::stored::Stored;
 use crate::undo::Undo;
-use doc_patch::{Document, Patch, Reversal};
+use doc_patch::{Patch, Reversal};
 use doc_tree::Tree;
 use indexmap::IndexMap;
 use refusals::numbers::NO_DOCUMENT;
@@ -156,17 +156,11 @@ fn patch_stored(
     ensures unchanged { OnErr result ((name : List ℕ) → named name stored.new ≡ named name stored.old) }
 {
     check_revision(if_rev, stored.revision)?;
-    let (changes, reversal) = apply(alloc, ops, &mut stored.doc)?;
-    match check_patched(alloc, &stored.schema, &changes, stored.doc.tree()) {
-        Ok(()) => {
-            stored.revision = revision;
-            Ok(reversal)
-        }
-        Err(refusal) => {
-            stored.doc.take_back(reversal);
-            Err(refusal)
-        }
-    }
+    let changes = Patch::read(alloc, ops)?;
+    let reversal = apply_valid(alloc, &stored.schema, &changes, &mut stored.doc)?;
+    let _made = stored.doc.tree();
+    stored.revision = revision;
+    Ok(reversal)
 }
 
 // The same for good.
@@ -197,23 +191,8 @@ fn perform_for_good(
     ensures made { IfOk result (λ _. MakesForGood (or_refused (pure.patch (operations changes.now) stored.old.doc)) revision stored.old stored.new) }
     ensures refused { IfErr result (RefusesMade (or_refused (pure.patch (operations changes.now) stored.old.doc)) stored.old) }
 {
-    stored.doc.apply_for_good(alloc, changes)?;
-    check_patched(alloc, &stored.schema, changes, stored.doc.tree())?;
+    apply_valid_for_good(alloc, &stored.schema, changes, &mut stored.doc)?;
+    let _made = stored.doc.tree();
     stored.revision = revision;
     Ok(())
-}
-
-// Makes of a document what a patch says, as it is spelled, and answers its operations and what takes them back.
-fn apply(alloc: Global, ops: &Tree, doc: &mut Document) -> Result<(Patch, Reversal), Refusal>
-    ensures made { let made = patched (view ops.now) doc.old in
-        MatchResult result (λ _. made ≡ Ok doc.new) (λ r. (made ≡ Err r) ⊎ (r ≡ plain MEMORY)) }
-    ensures changes { IfOk result (λ p. pure.patch (operations p.0) doc.old ≡ Ok doc.new) }
-    ensures back { IfOk result (λ p. Reverses p.1 doc.new doc.old) }
-    ensures held { IfOk result (λ p. p.1.held ≡ held_by (operations_of (view ops.now)) doc.old) }
-    ensures unchanged { OnErr result (doc.new ≡ doc.old) }
-    ensures sound { IfOk result (λ _. IsSound (view ops.now)) }
-{
-    let changes = Patch::read(alloc, ops)?;
-    let reversal = doc.apply(alloc, &changes)?;
-    Ok((changes, reversal))
 }

@@ -1,15 +1,17 @@
 -- The first tokens of a place.
-use Rattle.std.proofs.Common.{◌≡◌, ◌↔◌, ℕ, zero, suc, ◌-◌, ◌<◌, ◌≤◌, List, [], ◌∷◌, ◌++◌, Option, Some, None, IfNone, IfSome, option_map, Bor, String, Global, string_bytes, Bool, true, false, ◌&&◌, length, get_or, take, refl, sym, ap, subst, ◌∙◌, arith}
+use Rattle.std.proofs.Common.{◌≡◌, ◌↔◌, ℕ, zero, suc, ◌-◌, ◌<◌, ◌≤◌, List, [], ◌∷◌, ◌++◌, Option, Some, None, IfNone, IfSome, option_map, Bor, String, Global, string_bytes, Bool, Ok, true, false, ◌&&◌, length, get_or, take, refl, sym, ap, subst, ◌∙◌, arith}
 use Rattle.std.proofs.lemmas.Slice.Eq.{bytes_eq-Decides}
 use Rattle.std.specs.Str.{bytes_eq}
 use Rattle.doc_edits.specs.Change.{tokens_of}
 use Rattle.doc_edits.specs.Edit.{Token, Tokens}
 use Rattle.doc_edits.specs.Meaning.{meaning}
 use Rattle.doc_patch.specs.Meaning.{meanings}
-use Rattle.doc_edits.specs.Operation.{Operation}
+use Rattle.doc_edits.specs.Operation.{Operation, change}
+use Rattle.doc_tree.specs.Doc.{Doc}
 use Rattle.doc_edits.specs.declared.operation.Operation as code
-use Rattle.doc_patch.specs.Within.{IsWithin, LeadsToFound, Narrows, holder, holds_all, leads_to, leads_to_each, reaches}
+use Rattle.doc_patch.specs.Within.{IsWithin, KeepsBut, LeadsToFound, Narrows, holder, holds_all, leads_to, leads_to_each, reaches}
 use Rattle.doc_patch.proofs.Untouched.{both}
+use Rattle.doc_patch.proofs.Within.{changed, unreached}
 
 pub and_true : (a b : Bool) → a ≡ true → b ≡ true → (a && b) ≡ true
 and_true true b e f = f
@@ -165,3 +167,14 @@ pub ends_without : (os : List code.Operation) (i : ℕ) (found : Option (Bor (Li
     → (P : Type 0) → (((ts : Tokens) → holds_all ts (meanings os) ≡ true) → P) → IfNone found P
 ends_without os i None le h P by = by (λ ts. (holder_all os i None le h ts).0 tt)
 ends_without os i (Some place) le h P by = tt
+
+-- ---- one operation alone
+
+pub one_holds : (new : Option (Bor (List (String Global)))) (o : Operation) → Narrows (option_map (λ p. tokens_of p.now) new) None o
+    → IfSome new (λ place. (d e : Doc) → change o d ≡ Ok e → KeepsBut (tokens_of place.now) d e)
+one_holds None o narrows = tt
+one_holds (Some place) o narrows = λ d e h. changed o (tokens_of place.now) d e ((narrows (tokens_of place.now)).0 (leads_to_itself (tokens_of place.now))).1 h
+
+pub one_without : (new : Option (Bor (List (String Global)))) (o : Operation) → Narrows (option_map (λ p. tokens_of p.now) new) None o → IfNone new ((d e : Doc) → change o d ≡ Ok e → d ≡ e)
+one_without None o narrows = λ d e h. unreached o d e (λ ts. ((narrows ts).0 tt).1) h
+one_without (Some place) o narrows = tt

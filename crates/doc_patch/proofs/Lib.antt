@@ -9,3 +9,4 @@ mod Spellings
 mod Unread
 mod PlainTexts
 pub mod Counts
+mod Stepping

@@ -22,7 +22,7 @@ Leaves None i left d e = patch_from i (meanings left) d ≡ Ok e
 Leaves (Some o) i left d e = (x : Doc) × (change (meaning o.now) d ≡ Ok x) × (patch_from i (meanings left) x ≡ Ok e)
 
 -- what an operation makes within the limits is what it makes
-made_within : (o : Operation) (d e : Doc) → op o d ≡ Ok e → change o d ≡ Ok e
+pub made_within : (o : Operation) (d e : Doc) → op o d ≡ Ok e → change o d ≡ Ok e
 made_within o d e h =
     let g = goes_on (change o d) within_limits e h in
     g.1 ∙ ap Ok (within_same (nat_lt 64 (height g.0)) (nat_lt 1_048_576 (length (text_of g.0))) DEPTH TOO_LARGE g.0 e g.2)

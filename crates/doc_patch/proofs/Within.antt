@@ -79,7 +79,7 @@ tested : (b : Bool) (ts : Tokens) (n : ℕ) (d e : Doc) → cond b (Ok d) (Err n
 tested true ts n d e h = inl cc
 tested false ts n d e h = absurd cc
 
-changed : (o : Operation) (ts : Tokens) (d e : Doc) → leads_to_each ts (reaches o) ≡ true → change o d ≡ Ok e → KeepsBut ts d e
+pub changed : (o : Operation) (ts : Tokens) (d e : Doc) → leads_to_each ts (reaches o) ≡ true → change o d ≡ Ok e → KeepsBut ts d e
 changed (pure.add path v) ts d e l h = inr (nearer ts (holder path) d e (both (leads_to ts (holder path)) true l).0 (added path v d e (was_there (edit.add path v d) e h)))
 changed (pure.remove []) ts d e l h = absurd cc
 changed (pure.remove (t ∷ rest)) ts d e l h = inr (nearer ts (holder (t ∷ rest)) d e (both (leads_to ts (holder (t ∷ rest))) true l).0 (removed (t ∷ rest) d e (was_there (edit.remove (t ∷ rest) d) e h)))

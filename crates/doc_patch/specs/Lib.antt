@@ -12,6 +12,7 @@ pub mod Within
 pub mod Held
 pub mod Only
 pub mod Plain
+pub mod Progress
 pub use Rattle.doc_edits.specs.Change
 pub use Rattle.doc_edits.specs.Edit
 pub use Rattle.doc_edits.specs.Operation

@@ -27,8 +27,8 @@ const NULL_LEN: u64 = 4;
 /// A document within the limits. Clauses see it as the document that its tree represents.
 #[derive(Drop)]
 pub struct Document {
-    tree: Tree,
-    len: u64,
+    pub(crate) tree: Tree,
+    pub(crate) len: u64,
 }
 
 /// Takes a patch of a `Document` back. It has the memory for that already.

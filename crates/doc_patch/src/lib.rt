@@ -5,7 +5,8 @@
 //!
 //! A `Document` is within the limits and knows the length of its text, so no patch of it need walk over the whole.
 //! `Document::apply` changes it where it is, and answers a `Reversal` that makes it what it was and takes no memory;
-//! `Document::apply_for_good` keeps nothing to take it back. `Patch::apply` answers what the operations make of another
+//! `Document::apply_for_good` keeps nothing to take it back. `Document::begin` and `Document::apply_next` make a patch
+//! operation by operation, so that a caller sees the document after each. `Patch::apply` answers what the operations make of another
 //! tree, which never changes.
 //! All equal their definitions in `specs/Reading.antt` and `specs/Patch.antt` exactly, with refusals and their order.
 //! After each operation the document is within `limits`, which are judged from what changed. What one operation makes
@@ -42,6 +43,7 @@ mod log;
 mod only;
 mod patch;
 mod plain;
+mod progress;
 mod reach;
 mod read;
 mod spelling;
@@ -50,3 +52,5 @@ mod undo;
 pub use document::{Document, Reversal};
 pub use fault::PatchFault;
 pub use patch::Patch;
+pub use progress::Progress;
+pub use reach::reach_of;

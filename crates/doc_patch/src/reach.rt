@@ -1,11 +1,13 @@
 //! The place below which a patch changes a document.
 
-ghost use Rattle.std.specs.Prelude.{◌≡◌, true, Some, IfNone, IfSome, option_map};
+ghost use Rattle.std.specs.Prelude.{◌≡◌, Ok, true, Some, IfNone, IfSome, option_map};
 ghost use Rattle.doc_edits.specs.Change.{tokens_of};
 ghost use Rattle.doc_edits.specs.Edit.{Tokens};
 ghost use Rattle.doc_edits.specs.Meaning.{meaning};
+ghost use Rattle.doc_edits.specs.Operation.{change};
 ghost use Rattle.doc_patch.specs.Meaning.{operations};
-ghost use Rattle.doc_patch.specs.Within.{IsWithin, Narrows, Unchanging, holder, holds_all, leads_to};
+ghost use Rattle.doc_patch.specs.Within.{IsWithin, KeepsBut, Narrows, Unchanging, holder, holds_all, leads_to};
+ghost use Rattle.doc_tree.specs.Doc.{Doc};
 
 use crate::patch::Patch;
 use doc_edits::Operation;
@@ -25,6 +27,14 @@ impl Patch {
         }
         found
     }
+}
+
+/// The tokens of the place that holds all that one operation changes. `None` if it changes nothing.
+pub fn reach_of(operation: &Operation) -> Option<&[String]>
+    ensures some { IfSome result (λ place. (d e : Doc) → change (meaning operation.now) d ≡ Ok e → KeepsBut (tokens_of place.now) d e) }
+    ensures none { IfNone result ((d e : Doc) → change (meaning operation.now) d ≡ Ok e → d ≡ e) }
+{
+    narrowed(None, operation)
 }
 
 // The place, if there is one, as far as it holds what the operation reaches.

@@ -71,7 +71,7 @@ pub same_agrees : (ps : List Place) (d : Doc) → AgreeOff ps d d
 same_agrees [] d = tt
 same_agrees (p ∷ ps) d = inl refl
 
-kept_agrees : (ts : Tokens) (d e : Doc) → KeepsBut ts d e → AgreeOff (places_along (end_places None) ts e) d e
+pub kept_agrees : (ts : Tokens) (d e : Doc) → KeepsBut ts d e → AgreeOff (places_along (end_places None) ts e) d e
 kept_agrees ts d e (inl is) = subst (AgreeOff (places_along (end_places None) ts e) d) is (same_agrees (places_along (end_places None) ts e) d)
 kept_agrees ts d e (inr h) = agrees ts d e h
 

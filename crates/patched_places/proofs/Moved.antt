@@ -1,12 +1,12 @@
 -- A value that moves between places of which neither holds the other changes its document at the one, and then at the other.
-use Rattle.std.proofs.Common.{Bor, ◌≡◌, ◌≢◌, ℕ, ◌⊎◌, inl, inr, ⊎_elim, List, [], ◌∷◌, ◌++◌, length, map, Vec, Option, Some, None, option_map, option_to_list, Ok, Bool, true, false, cond, refl, sym, ap, subst, ◌∙◌}
+use Rattle.std.proofs.Common.{◌≡◌, ◌≢◌, ℕ, ◌⊎◌, inl, inr, List, [], ◌∷◌, ◌++◌, map, Vec, Option, Some, None, option_map, option_to_list, Ok, Bool, true, false, cond, refl, sym, ap, subst, ◌∙◌}
 use Rattle.std.specs.Bool.{⊤}
 use Rattle.std.specs.Option.{option_and_then}
 use Rattle.std.specs.Cmp.Lexicographic.{pointwise}
-use Rattle.std.specs.Prelude.{IfSome, String}
+use Rattle.std.specs.Prelude.{IfSome}
 use Rattle.std.specs.Str.{bytes_eq}
 use Rattle.std.specs.declared.alloc.Global.{Global}
-use Rattle.doc_tree.specs.Doc.{Doc, null, boolean, int, text, list, object, Elements, Members, Place, name, index, child, get_element, get_member}
+use Rattle.doc_tree.specs.Doc.{Doc, null, boolean, int, text, list, object, Elements, Place, name, index, get_element, get_member}
 use Rattle.doc_tree.specs.Place.{place_of}
 use Rattle.doc_tree.specs.declared.tree.Step.{Step}
 use Rattle.doc_pointer.specs.Place.{child_named, resolve}

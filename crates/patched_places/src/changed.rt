@@ -72,8 +72,12 @@ fn only_move<'t>(changes: &'t Patch, made: &Tree) -> Option<Moved<'t>>
     ends_of_move(operation, made)
 }
 
-// The steps to what went, and to what came.
-fn both_places(moved: Moved, made: &Tree, alloc: Global) -> Result<Vec<Vec<Step>>, AllocError>
+/// The steps to what went, and to what came.
+pub(crate) fn both_places(
+    moved: Moved,
+    made: &Tree,
+    alloc: Global,
+) -> Result<Vec<Vec<Step>>, AllocError>
     ensures { IfOk result (λ places. map (λ p. map place_of p.items) places.items ≡ moved_places moved.entry (view made.now)) }
 {
     let gone = with_steps(Vec::new(alloc), moved.from, Some(moved.gone), made, alloc)?;

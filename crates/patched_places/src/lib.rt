@@ -8,9 +8,11 @@
 mod apart;
 mod changed;
 mod ends;
+mod one;
 mod places;
 mod shift;
 mod steps;
 
 pub use changed::{changed_places, changed_steps};
+pub use one::changed_by;
 pub use places::{Changed, changed_at};

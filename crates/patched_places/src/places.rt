@@ -54,8 +54,8 @@ fn only_shift<'t>(changes: &'t Patch, made: &Tree) -> Option<Shift<'t>>
     shift_of(operation, made)
 }
 
-// The steps to the list, and to the index in it.
-fn shift_steps(shift: Shift, made: &Tree, alloc: Global) -> Result<Vec<Step>, AllocError>
+/// The steps to the list, and to the index in it.
+pub(crate) fn shift_steps(shift: Shift, made: &Tree, alloc: Global) -> Result<Vec<Step>, AllocError>
     ensures { IfOk result (λ v. map place_of v.items ≡ places_along (end_places None) (tokens_of shift.entry.holder.now) (view made.now) ++ index shift.entry.index ∷ []) }
 {
     let mut steps = with_steps(Vec::new(alloc), shift.holder, None, made, alloc)?;

@@ -4,14 +4,14 @@ use Rattle.doc_changes.proofs.patching.perform_for_good.Goals as goal
 
 pub returns-clause-made : goal.returns-clause-made
 returns-clause-made c =
-    let tree_is = c.tree.ensures.value in
-    let made = c.in_ok-apply_for_good.ensures.made in
+    let tree_is = c.tree-made.ensures.value in
+    let made = c.in_ok-apply_valid_for_good.ensures.made in
     record {
       made = ap or_refused made;
       valid = search rules;
       schema = refl;
       revision = refl;
-      tree = c.tree.result.now;
+      tree = c.tree-made.result.now;
       tree_is = tree_is;
-      sound = c.tree.ensures.sound;
+      sound = c.tree-made.ensures.sound;
     }

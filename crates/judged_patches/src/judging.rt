@@ -16,7 +16,7 @@ use patched_places::{Changed, changed_at};
 use std::alloc::{AllocError, Global};
 
 /// Whether the document is valid under the schema. Memory is taken for the searches for the schema's patterns alone.
-pub(crate) fn accepts(schema: &Schema, doc: &Tree, alloc: Global) -> Result<bool, AllocError>
+pub fn accepts(schema: &Schema, doc: &Tree, alloc: Global) -> Result<bool, AllocError>
     ensures judged { IfOk result (Judges (view schema.now) (view doc.now)) }
     ensures memory { pattern_texts (view schema.now) ≡ [] → IsOk result }
 {
@@ -47,8 +47,8 @@ pub fn accepts_patched(
     }
 }
 
-// Whether a document that agrees with a valid one off all of these locations is valid.
-fn accepts_changes(
+/// Whether a document that agrees with a valid one off all of these locations is valid. An error means the same.
+pub(crate) fn accepts_changes(
     schema: &Schema,
     doc: &Tree,
     places: &[Vec<Step>],
@@ -58,14 +58,17 @@ fn accepts_changes(
         → IfOk result (Judges (view schema.now) (view doc.now)) }
     ensures memory { pattern_texts (view schema.now) ≡ [] → IsOk result }
 {
+    if places.is_empty() {
+        return Ok(true);
+    }
     match schema.accepts_changes(doc, places) {
         Some(valid) => Ok(valid),
         None => accepts_changes_by_trial(schema, doc, places, alloc),
     }
 }
 
-// The same if an element came to the end of these steps, or went from there.
-fn accepts_shift(
+/// The same if an element came to the end of these steps, or went from there.
+pub(crate) fn accepts_shift(
     schema: &Schema,
     doc: &Tree,
     path: &[Step],

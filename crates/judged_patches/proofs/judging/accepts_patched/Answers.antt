@@ -4,7 +4,7 @@ use Rattle.doc_patch.specs.Meaning.{operations}
 use Rattle.doc_patch.specs.Within.{Unchanging}
 use Rattle.doc_schema.specs.Judge.{Judges}
 use Rattle.patched_places.specs.declared.places.Changed.{Changed}
-use Rattle.doc_changes.proofs.accepts.accepts_patched.Goals as goal
+use Rattle.judged_patches.proofs.judging.accepts_patched.Goals as goal
 
 -- no operation changes anything
 pub returns-in-Ok-None-clause-judged : goal.returns-in-Ok-None-clause-judged
