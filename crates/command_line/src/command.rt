@@ -166,7 +166,7 @@ fn format_command<'a>(alloc: Global) -> Result<Command<'a>, Error>
         .arg(file_sectors(alloc))?
         .arg(format_option(
             alloc,
-            "Format of the file, 2 or 3; 2 if absent. In format 3 a small change waits for one sync of the disk, in format 2 for two",
+            "Format of the file, 2 or 3; 2 if absent. Format 3 takes 160 sectors at least, bears torn blocks of the disk, and waits for one sync at most changes, format 2 for two",
         ))?
         .arg(mode_option(alloc))?
         .arg(sparse_flag(alloc))?
@@ -235,7 +235,10 @@ fn upgrade_command<'a>(alloc: Global) -> Result<Command<'a>, Error>
             alloc,
             "The file of the store; no other program may have it open",
         ))?
-        .arg(format_option(alloc, "Format to bring it to, 2 or 3; 3 if absent"))?
+        .arg(format_option(
+            alloc,
+            "Format to bring it to, 2 or 3; 3 if absent. It takes 255 sectors at least, since both are in the file meanwhile",
+        ))?
         .arg(why_flag(alloc))?;
     Ok(upgrade)
 }

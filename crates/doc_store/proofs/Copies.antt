@@ -2,7 +2,8 @@
 use Rattle.std.proofs.Common.{◌≡◌, inl, inr, ⊎_elim, ℕ, List, length, refl, ap, subst, ◌∙◌}
 use Rattle.sector_device.specs.Disk.{Disk, Image, LeavesOnly}
 use Rattle.sector_device.proofs.Moments.{leaves_weaker}
-use Rattle.store_journal.specs.Carries.{Carried, Carries, one_more}
+use Rattle.half_journal.specs.States.{one_more}
+use Rattle.store_journal.specs.Carries.{Carried, Carries}
 use Rattle.store_journal.specs.Filling.{Filled, NoneOrAll, filled}
 use Rattle.store_journal.proofs.Unique.{carries_one}
 use Rattle.schema_rules.specs.declared.profile.Profile.TheVariants.{Two}

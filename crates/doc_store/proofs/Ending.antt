@@ -1,21 +1,22 @@
 -- What a life leaves, and what its part tells of what the crash kept.
 use Rattle.std.proofs.Common.{◌≡◌, ◌⊎◌, inl, inr, ⊎_elim, ℕ, ◌+◌, ◌-◌, List, [], ◌∷◌, ◌++◌, length, refl, sym, ◌∙◌, ap, subst, arith, Bool, true, false, Some, None, if◌then◌else◌, ◌<◌, take, drop, get_or, set}
 use Rattle.std.proofs.lemmas.List.{append_assoc, length-append, drop_more, drop-set, take_more, take-set}
-use Rattle.sector_device.specs.Disk.{Disk, Image, IsCoherent, LeavesOnly}
+use Rattle.sector_device.specs.Disk.{Disk, Image, IsCoherent, IsTearing, LeavesOnly}
 use Rattle.sector_device.specs.Charges.{Failed}
-use Rattle.sector_device.specs.Sectors.{sectors_of}
 use Rattle.sector_device.proofs.Charges.{failed_more}
 use Rattle.sector_device.proofs.Moments.{left_now}
 use Rattle.store_journal.specs.Layout.{capacity_of}
-use Rattle.store_journal.specs.Carries.{Carried, Carries, EitherCarried}
+use Rattle.store_journal.specs.Carries.{Carried, Carries, EitherCarried, NamesBlocks}
+use Rattle.store_journal.specs.Models.{model, weak}
+use Rattle.store_journal.specs.Opening.{load_calls}
 use Rattle.doc_machine.specs.Transaction.{Transaction}
 use Rattle.doc_changes.specs.State.{State}
 use Rattle.store_commits.specs.Account.{StoreView}
 use Rattle.store_commits.specs.Folds.{after_each}
 use Rattle.store_commits.specs.Run.{dones_of, hits_of}
-use Rattle.doc_store.specs.Opening.{OldOrStands, OpenFailed, carried_after, opening_cost}
+use Rattle.doc_store.specs.Opening.{LacksRoom, OldOrStands, OpenFailed, carried_after, opening_cost}
 use Rattle.store_commits.specs.Snapshot.{snapshot_bytes}
-use Rattle.store_commits.specs.Images.{Stands}
+use Rattle.store_commits.specs.Images.{Stands, rides_for}
 use Rattle.doc_store.specs.Ending.{HasSpent, Leaves, TimedIf, all_with_kept, began_or, next_of, with_kept, Told}
 use Rattle.doc_store.specs.Opening.{MayLackRoom}
 use Rattle.doc_store.specs.Lives.{IsLives, IsOpened, TellsNothing, accepted_of, events_of, replies_of}
@@ -23,11 +24,13 @@ use Rattle.doc_store.specs.Timed.{IsLate, IsTimely, Left, Timed, left}
 use Rattle.doc_store.specs.declared.life.Life.{Life}
 use Rattle.doc_store.specs.declared.life.Part.{Part}
 use Rattle.store_commits.proofs.Changes.{after_append, seq_counts}
-use Rattle.doc_store.proofs.Opened.{one_carried, one_state, after_version}
+use Rattle.store_commits.proofs.Modelled.{model_sectors}
+use Rattle.doc_store.proofs.Opened.{one_carried, one_state, after_version, carried_format}
+use Rattle.doc_store.proofs.Rides.{model_adds, riding_version, stands_rides}
 
 -- with each image that is left an opened life leaves what the image stands for
 pub leaves_opened : {D : Type 0} (disk : D → Disk) (given : Disk) (start end : StoreView D) (faults : ℕ) (settled : Bool) (s : State) (life : Life) (p : Part) (began : ℕ) → Told disk start end (events_of life) p
-    → (disk start.device).honest → start.account.broken ≡ false → start.account.copy ≡ None → start.account.state ≡ s → began ≡ s.seq → (image : Image) → (disk end.device).left image
+    → (disk start.device).honest → start.account.broken ≡ false → start.account.copy ≡ None → start.account.state ≡ s → began ≡ s.seq → (image : Image) → (model start.account.rides (disk end.device)).left image
     → ((t : State) → HasSpent life.stop 0 given → IsTimely (left s given.seen settled) life.stop faults (events_of life) (replies_of p) start.account end.account (left t image true))
     → Leaves given (left s given.seen settled) life (record p { opened = true; kept = began; disk_faults = faults }) image
 leaves_opened disk given start end faults settled s life p began told honest works no_copy begins began_is image left_so timely =
@@ -63,9 +66,9 @@ leaves_opened disk given start end faults settled s life p began told honest wor
     record { state = now; lived = (left now image true, Some (start.account, end.account), opened, timely now, refl); began = began_is; stands = stands.stands }
 
 -- where the opening failed, an image was there before, or it stands for the state too, and carries what was read, or what the opening makes of it
-pub unopened : (old new : Disk) (s : State) (stands : Stands s old.seen) → IsCoherent new → LeavesOnly old new (OldOrStands old)
+unopened_in : (old new : Disk) (s : State) (stands : Stands s old.seen) → IsCoherent new → LeavesOnly old new (OldOrStands old)
     → (image : Image) → new.left image → old.left image ⊎ (Stands s image × EitherCarried stands.carried (carried_after stands.carried s) image)
-unopened old new s stands new_coherent leaves image left =
+unopened_in old new s stands new_coherent leaves image left =
     ⊎_elim (λ was. inl was)
     (λ other. (
     let read_is : other.1.carried ≡ stands.carried = one_carried old.seen other.0 s other.1 stands in
@@ -79,20 +82,25 @@ unopened old new s stands new_coherent leaves image left =
     ))
     (left_now old new (OldOrStands old) new_coherent leaves image left)
 
+pub unopened : (rides : Bool) (old new : Disk) (s : State) (stands : Stands s old.seen) → IsCoherent (model rides new) → LeavesOnly (model rides old) (model rides new) (OldOrStands (model rides old))
+    → (image : Image) → (model rides new).left image → (model rides old).left image ⊎ (Stands s image × EitherCarried stands.carried (carried_after stands.carried s) image)
+unopened false old new s stands coherent leaves image left = unopened_in old new s stands coherent leaves image left
+unopened true old new s stands coherent leaves image left = unopened_in (weak old) (weak new) s stands coherent leaves image left
+
 -- a fault hit one of at most the calls that open what it stands for
-pub failed_to_open : (old new : Disk) (s : State) (stands : Stands s old.seen) → OpenFailed old new → new.honest → Failed old new (opening_cost stands.carried s)
-failed_to_open old new s stands failed honest =
-    ⊎_elim (λ early. failed_more old new (2 + sectors_of (length stands.carried.bytes)) (opening_cost stands.carried s) (omega arith) early)
-    (λ late. subst (λ (t : State). Failed old new (opening_cost stands.carried t)) (one_state old.seen late.0 s late.1 stands) late.3)
-    (failed.few honest stands.carried stands.carries)
+pub failed_to_open : (old new : Disk) (s : State) (stands : Stands s old.seen) → OpenFailed old new → new.honest → (blocks : ℕ) → NamesBlocks stands.carried blocks old.seen → Failed old new (opening_cost stands.carried s blocks)
+failed_to_open old new s stands failed honest blocks names =
+    ⊎_elim (λ early. failed_more old new (load_calls stands.carried.rides (length stands.carried.bytes) blocks) (opening_cost stands.carried s blocks) (omega arith) early)
+    (λ late. subst (λ (t : State). Failed old new (opening_cost stands.carried t blocks)) (one_state old.seen late.0 s late.1 stands) late.3)
+    (failed.few honest stands.carried blocks stands.carries names)
 
 -- in as many sectors
-pub sized_unopened : (old new : Disk) → IsCoherent old → IsCoherent new → new.sectors ≡ old.sectors → (image : Image) → new.left image → length image ≡ length old.seen
-sized_unopened old new old_coherent new_coherent same image left = (new_coherent.shape image left).count ∙ same ∙ sym (old_coherent.shape old.seen old_coherent.seen).count
+pub sized_unopened : (rides : Bool) (old new : Disk) → IsCoherent old → IsCoherent (model rides new) → new.sectors ≡ old.sectors → (image : Image) → (model rides new).left image → length image ≡ length old.seen
+sized_unopened rides old new old_coherent new_coherent same image left = (new_coherent.shape image left).count ∙ model_sectors rides new ∙ same ∙ sym (old_coherent.shape old.seen old_coherent.seen).count
 
 -- a half that lacks room lacked it before
-pub rooms_unopened : (old new : Disk) → IsCoherent old → IsCoherent new → new.sectors ≡ old.sectors → LeavesOnly old new (OldOrStands old) → MayLackRoom new → MayLackRoom old
-rooms_unopened old new old_coherent new_coherent same leaves lacks =
+rooms_in_2 : (old new : Disk) → IsCoherent old → IsCoherent new → new.sectors ≡ old.sectors → LeavesOnly old new (OldOrStands old) → MayLackRoom new → MayLackRoom old
+rooms_in_2 old new old_coherent new_coherent same leaves lacks =
     ⊎_elim (λ was. (lacks.0, was, lacks.2))
     (λ other. (
     let image = lacks.0 in
@@ -101,7 +109,7 @@ rooms_unopened old new old_coherent new_coherent same leaves lacks =
     let s_is : lack.state ≡ other.0 = one_state image lack.state other.0 lack.stands other.2 in
     let one : other.2.carried.version ≡ 1 = sym (ap (λ (c : Carried). c.version) c_is) ∙ lack.version_is in
     let snapshot_is = ap (λ (s : State). length (snapshot_bytes s.documents)) s_is in
-    let size = ap capacity_of (sized_unopened old new old_coherent new_coherent same image lacks.1) in
+    let size = ap (capacity_of false) (sized_unopened false old new old_coherent new_coherent same image lacks.1) in
     let over = lack.over in (
       old.seen,
       old_coherent.seen,
@@ -109,12 +117,27 @@ rooms_unopened old new old_coherent new_coherent same leaves lacks =
         state = other.0;
         stands = other.1;
         version_is = ⊎_elim (λ same. sym (ap (λ (c : Carried). c.version) same) ∙ one)
-            (λ after. (let two = sym (ap (λ (c : Carried). c.version) after) ∙ one in let is = after_version other.1.carried other.0 other.1.carries.version_fits in absurd (omega (arith, two, is)))) other.3;
+            (λ after. (let two = sym (ap (λ (c : Carried). c.version) after) ∙ one in let is = after_version other.1.carried other.0 (carried_format other.1.carried old.seen other.1.carries) in absurd (omega (arith, two, is)))) other.3;
         over = omega (arith, over, size, snapshot_is);
       },
     )
     ))
     (left_now old new (OldOrStands old) new_coherent leaves lacks.0 lacks.1)
+
+-- in format 3 none lacks it
+pub riding_has_room : (s : State) (image : Image) → rides_for s.profile ≡ true → Stands s image → LacksRoom image → ⊥
+riding_has_room s image rides stands lack =
+    let two = riding_version stands.carried image (stands_rides s image stands ∙ rides) stands.carries in
+    let same = ap (λ (c : Carried). c.version) (one_carried image lack.state s lack.stands stands) in
+    let one = lack.version_is in
+    omega (arith, one, same, two)
+
+pub rooms_unopened : (rides : Bool) (old new : Disk) (s : State) → rides_for s.profile ≡ rides → IsCoherent old → ((r : Bool) → IsCoherent (model r new)) → ((torn : List ℕ → Bool) → IsTearing torn new) → new.sectors ≡ old.sectors
+    → LeavesOnly (model rides old) (model rides new) (OldOrStands (model rides old)) → ((image : Image) → (model rides old).left image → Stands s image) → Stands s old.seen → MayLackRoom new → MayLackRoom old
+rooms_unopened false old new s is old_coherent new_coherent tears same leaves all here lacks = rooms_in_2 old new old_coherent (new_coherent false) same leaves lacks
+rooms_unopened true old new s is old_coherent new_coherent tears same leaves all here lacks =
+    let stands = ⊎_elim (all lacks.0) (λ other. other.0) (unopened true old new s here (new_coherent true) leaves lacks.0 (model_adds true new tears lacks.0 lacks.1)) in
+    absurd (riding_has_room s lacks.0 is stands lacks.2)
 
 pub leaves_unopened : (given : Disk) (faults : ℕ) (settled : Bool) (s : State) (life : Life) (part : Part) (image : Image) → TellsNothing part
     → (HasSpent life.stop 0 given → IsLate (left s given.seen settled) life.stop faults (left s image true)) → Stands s image → Leaves given (left s given.seen settled) life (record part { disk_faults = faults }) image

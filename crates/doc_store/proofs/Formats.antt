@@ -1,28 +1,33 @@
 -- A store that is brought to another format.
-use Rattle.std.proofs.Common.{◌≡◌, ◌⊎◌, inl, inr, ℕ, List, length, refl, sym, ◌∙◌, ap, subst, Bool, true, false, Option, None, Some, ◌↔◌, if◌then◌else◌, arith, Result, Ok, Err, IfErr, OnOk}
+use Rattle.std.proofs.Common.{◌≡◌, ◌≢◌, ◌⊎◌, inl, inr, ⊎_elim, ℕ, ◌+◌, ◌-◌, ◌≤◌, List, length, refl, sym, ◌∙◌, ap, subst, Bool, true, false, Option, None, ◌↔◌, if◌then◌else◌, nat_eq, arith, Result, Ok, Err, IfErr, OnOk}
+use Rattle.std.proofs.lemmas.Bool.{cases_eq, eq-eqb, ne_eqb}
+use Rattle.sector_device.specs.Charges.{Failed, Made}
 use Rattle.sector_device.specs.Disk.{Disk, Image, IsCoherent, LeavesOnly}
-use Rattle.sector_device.proofs.Moments.{leaves_weaker, started}
-use Rattle.store_journal.specs.Calls.{BeginsWith}
-use Rattle.store_journal.specs.Carries.{Carried, Carries, EitherCarried}
+use Rattle.sector_device.proofs.Charges.{failed_joined, failed_more, made_joined}
+use Rattle.sector_device.proofs.Moments.{joined, leaves_weaker, started}
+use Rattle.store_journal.specs.Calls.{Broke}
+use Rattle.store_journal.specs.Carries.{Carried, Carries, EitherCarried, switched, turned}
 use Rattle.store_journal.specs.JournalView.{JournalView, IsKept, carried_of}
+use Rattle.store_journal.specs.Models.{model}
+use Rattle.store_journal.specs.Turning.{Downgraded, Halted, Unwritten, Upgraded}
 use Rattle.schema_rules.specs.declared.profile.Profile.TheVariants as profile
 use Rattle.doc_changes.proofs.Framed.{framed_storable}
 use Rattle.doc_changes.specs.Refusals.{plain}
 use Rattle.doc_changes.specs.State.{AreOffered, Good, State, in_profile}
 use Rattle.doc_changes.specs.declared.refusal.Refusal.{Refusal}
-use Rattle.refusals.specs.declared.numbers.TheConstants.{DEVICE}
+use Rattle.refusals.specs.declared.numbers.TheConstants.{DEVICE, MEMORY, SEQ_END}
 use Rattle.store_commits.specs.Account.{Account, Copy, account_broken, with_copy}
-use Rattle.store_commits.specs.Copying.{IsCopied, Target}
 use Rattle.store_commits.specs.Inside.{IsHeld, account_of}
 use Rattle.store_commits.specs.Images.{Holds, profile_in}
-use Rattle.store_commits.specs.Snapshot.{RemakesAll, calls_of_snapshot, snapshot_bytes}
+use Rattle.store_commits.specs.Snapshot.{account_with_snapshot, calls_of_snapshot, snapshot_bytes, snapshot_size}
 use Rattle.store_commits.proofs.Migrating.{snapshot_holds}
 use Rattle.store_commits.proofs.Raised.{ChangesStay, holds_raised}
 use Rattle.store_commits.proofs.Snapshots.{remakes_all}
 use Rattle.doc_store.proofs.Copies.{good_in_2}
-use Rattle.doc_store.specs.Formats.{FormatAnswers, InEither, IsImageOf, IsLowered, IsNamed, StaysInThree, account_between, account_in, account_lowered, account_raised, calls_between, calls_to, format_of, lowered, number_of, rides_in}
+use Rattle.doc_store.specs.Formats.{FormatAnswers, InEither, IsImageOf, OneOf, OneOfThree, StaysAs, account_between, account_in, account_over, account_ready, account_turned, calls_between, calls_to, calls_to_ready, format_of, half_from, number_of, rides_in}
 use Rattle.doc_store.specs.declared.format.Format.{Format}
 use Rattle.doc_store.specs.declared.format.Format.TheVariants.{Three, Two}
+use Rattle.store_journal.specs.Writes.{downgrade_calls, upgrade_calls}
 
 -- an image that carries bytes of format 2 that hold the account's state
 image_of : (c : Carried) (a : Account) → c.version ≡ 2 → c.rides ≡ a.rides → c.half ≡ a.half → length c.bytes ≡ a.used → c.opens ≡ a.opens → c.seq ≡ a.state.seq → profile_in a.rides ≡ a.state.profile
@@ -42,11 +47,56 @@ image_of c a version rides half used opens seq profile holds image carries = rec
   opens_is = opens;
 }
 
--- one of both
-abbrev pub OneOf : Account → Account → Image → Type 0
-OneOf a b image = IsImageOf a image ⊎ IsImageOf b image
+-- a journal that went over to another format: the target in its other half
+pub record WentOver {D : Type 0} (disk : D → Disk) (before now : JournalView D) (rides : Bool) (target : List ℕ) : Type 0 where
+  pub kept : IsKept (disk now.device) now
+  pub bytes : (disk now.device).honest → now.bytes ≡ target
+  pub used : length now.bytes ≡ length target
+  pub version : now.version ≡ 2
+  pub rides_is : now.rides ≡ rides
+  pub half : now.half ≡ 1 - before.half
+  pub seq : now.seq ≡ before.seq
+  pub opens : now.opens ≡ before.opens
+  pub sectors : now.sectors ≡ before.sectors
+  pub works : now.broken ≡ false
+  pub settled : now.settled ≡ true
 
-module _ {D : Type 0} (disk : D → Disk) (before now : JournalView D) (state : State) (k : Option Copy) (held : IsHeld (disk before.device) before state) where
+pub over_up : {D : Type 0} (disk : D → Disk) (before now : JournalView D) (target : List ℕ) → IsKept (disk now.device) now → Upgraded (disk before.device) (disk now.device) before now target → WentOver disk before now true target
+over_up disk before now target kept is = record {
+  kept = kept;
+  bytes = is.bytes;
+  used = is.used;
+  version = is.version;
+  rides_is = is.rides;
+  half = is.half;
+  seq = is.seq;
+  opens = is.opens;
+  sectors = is.sectors;
+  works = is.works;
+  settled = is.settled;
+}
+
+pub over_down : {D : Type 0} (disk : D → Disk) (before now : JournalView D) (target : List ℕ) → IsKept (disk now.device) now → ((disk before.device).honest ↔ (disk now.device).honest) → Downgraded (disk before.device) (disk now.device) before now target
+    → WentOver disk before now false target
+over_down disk before now target kept same is = record {
+  kept = kept;
+  bytes = λ honest. is.bytes (same.1 honest);
+  used = is.used;
+  version = is.version;
+  rides_is = is.rides;
+  half = is.half;
+  seq = is.seq;
+  opens = is.opens;
+  sectors = is.sectors;
+  works = is.works;
+  settled = is.settled;
+}
+
+-- ready, by whether it is in that half
+abbrev pub ready_by : Bool → Account → Account
+ready_by b a = if b then record a { copy = None } else account_with_snapshot a
+
+module _ {D : Type 0} (disk : D → Disk) (before : JournalView D) (state : State) (k : Option Copy) (held : IsHeld (disk before.device) before state) where
   abbrev account : Account
   account = with_copy (account_of before state) k
 
@@ -54,112 +104,183 @@ module _ {D : Type 0} (disk : D → Disk) (before now : JournalView D) (state : 
   as_it_was honest image carries = image_of (carried_of before) account held.version refl refl refl refl held.seq held.profile (held.held honest) image carries
 
   -- each image of a store that works is its account's
-  pub images_are : before.broken ≡ false → (disk before.device).honest → (image : Image) → (disk before.device).left image → IsImageOf account image
+  pub images_are : before.broken ≡ false → (disk before.device).honest → (image : Image) → (model before.rides (disk before.device)).left image → IsImageOf account image
   images_are works honest image left = as_it_was honest image (held.kept.carried honest works image left)
 
-  -- also where nothing is done
-  pub stays_as_one : (other : Account) → ((disk before.device).honest → IsCoherent (disk before.device)) → before.broken ≡ false → (disk before.device).honest → LeavesOnly (disk before.device) (disk before.device) (OneOf account other)
-  stays_as_one other coherent works honest = started (disk before.device) (OneOf account other) (coherent honest) (λ image left. inl (images_are works honest image left))
+  -- also if nothing is done
+  pub still_images : ((disk before.device).honest → IsCoherent (model before.rides (disk before.device))) → before.broken ≡ false → (disk before.device).honest
+      → LeavesOnly (model before.rides (disk before.device)) (model before.rides (disk before.device)) (IsImageOf account)
+  still_images coherent works honest = started (model before.rides (disk before.device)) (IsImageOf account) (coherent honest) (images_are works honest)
 
-  pub stays_formatted : (format : Format) → ((disk before.device).honest → IsCoherent (disk before.device)) → before.broken ≡ false → (disk before.device).honest → LeavesOnly (disk before.device) (disk before.device) (InEither account format)
-  stays_formatted format = stays_as_one (account_in format account)
+  pub still_one : (other : Account) → ((disk before.device).honest → IsCoherent (model before.rides (disk before.device))) → before.broken ≡ false → (disk before.device).honest
+      → LeavesOnly (model before.rides (disk before.device)) (model before.rides (disk before.device)) (OneOf account other)
+  still_one other coherent works honest = started (model before.rides (disk before.device)) (OneOf account other) (coherent honest) (λ image left. inl (images_are works honest image left))
 
-  -- ---- to format 3
+  abbrev target : List ℕ
+  target = snapshot_bytes state.documents
 
-  module _ (stay : ChangesStay) where
-    either_raised : (disk before.device).honest → (image : Image) → EitherCarried (carried_of before) (record (carried_of before) { rides = true }) image → OneOf account (account_raised account) image
-    either_raised honest image (inl carries) = inl (as_it_was honest image carries)
-    either_raised honest image (inr carries) =
-        inr (image_of (record (carried_of before) { rides = true }) (account_raised account) held.version refl refl refl refl held.seq refl
-        (holds_raised stay state.profile 2 state.seq before.bytes state.documents (held.held honest)) image carries)
+  holds_here : Holds state.profile 2 state.seq target state.documents
+  holds_here = snapshot_holds state state.seq refl (remakes_all framed_storable state held.good)
 
-    -- while it is named
-    pub raised_moments : ((disk before.device).honest → LeavesOnly (disk before.device) (disk now.device) (EitherCarried (carried_of before) (record (carried_of before) { rides = true })))
-        → (disk before.device).honest → LeavesOnly (disk before.device) (disk now.device) (OneOf account (account_raised account))
-    raised_moments leaves honest =
-        leaves_weaker (disk before.device) (disk now.device) (EitherCarried (carried_of before) (record (carried_of before) { rides = true })) (OneOf account (account_raised account)) (either_raised honest) (leaves honest)
+  -- ---- by a snapshot, in the same format
 
-    module _ (same : (disk before.device).honest ↔ (disk now.device).honest) (kept : IsKept (disk now.device) now) (named : IsNamed (disk before.device) (disk now.device) before now) where
-      pub raised_held : Good (in_profile profile.Three state) → IsHeld (disk now.device) now (in_profile profile.Three state)
-      raised_held good = record {
-        kept = kept;
-        version = named.version ∙ held.version;
-        settled = named.settled;
-        seq = named.seq ∙ held.seq;
-        profile = ap profile_in named.rides;
-        good = good;
-        held = λ honest. (let h = same.1 honest in
-            subst (λ (l : List ℕ). Holds profile.Three 2 state.seq l state.documents) (sym (named.bytes h)) (holds_raised stay state.profile 2 state.seq before.bytes state.documents (held.held h)));
-      }
+  either_snapped : (disk before.device).honest → (image : Image) → EitherCarried (carried_of before) (switched (carried_of before) target) image → OneOf account (account_with_snapshot account) image
+  either_snapped honest image (inl carries) = inl (as_it_was honest image carries)
+  either_snapped honest image (inr carries) = inr (image_of (switched (carried_of before) target) (account_with_snapshot account) held.version refl refl refl refl held.seq held.profile holds_here image carries)
 
-      pub raised_copied : before.broken ≡ false → (t : Option Target) → IsCopied (disk before.device) before state t → IsCopied (disk now.device) now (in_profile profile.Three state) t
-      raised_copied works None copied = tt
-      raised_copied works (Some t) copied = record {
-        holds = holds_raised stay state.profile 2 state.seq t.bytes state.documents copied.holds;
-        within = copied.within;
-        copied = λ honest fine. (let h = same.1 honest in subst (BeginsWith _) (sym (named.copied h)) (copied.copied h works));
-      }
+  pub snapped_moments : (now : JournalView D) → (disk before.device).honest → LeavesOnly (model before.rides (disk before.device)) (model before.rides (disk now.device)) (EitherCarried (carried_of before) (switched (carried_of before) target))
+      → LeavesOnly (model before.rides (disk before.device)) (model before.rides (disk now.device)) (OneOf account (account_with_snapshot account))
+  snapped_moments now honest leaves = leaves_weaker (model before.rides (disk before.device)) (model before.rides (disk now.device)) (EitherCarried (carried_of before) (switched (carried_of before) target)) (OneOf account (account_with_snapshot account)) (either_snapped honest) leaves
 
-      pub raised_is : before.broken ≡ false → with_copy (account_of now (in_profile profile.Three state)) k ≡ account_raised account
-      raised_is works = λ i. record {
-        state = in_profile profile.Three state;
-        used = named.used i;
-        half = named.half i;
-        rides = named.rides i;
-        opens = named.opens i;
-        sectors = named.sectors i;
-        broken = (named.works ∙ sym works) i;
-        copy = k;
-      }
+  -- there, since it was in the other half
+  pub snapped_ready : (now : JournalView D) → (account.half ≡ half_from account.rides → ⊥) → (disk before.device).honest
+      → LeavesOnly (model before.rides (disk before.device)) (model before.rides (disk now.device)) (EitherCarried (carried_of before) (switched (carried_of before) target))
+      → LeavesOnly (model before.rides (disk before.device)) (model before.rides (disk now.device)) (OneOf account (account_ready account))
+  snapped_ready now ne honest leaves =
+      subst (λ (b : Account). LeavesOnly (model before.rides (disk before.device)) (model before.rides (disk now.device)) (OneOf account b)) (sym (ap (λ (b : Bool). ready_by b account) (ne_eqb account.half (half_from account.rides) ne)))
+      (snapped_moments now honest leaves)
 
-  -- ---- to format 2
+  -- ---- in another format
 
-  module _ (offered : AreOffered profile.Two state.documents) where
-    abbrev pub state_lowered : State
-    state_lowered = in_profile profile.Two state
+  pub holds_up : ChangesStay → Holds (profile_in true) 2 state.seq target state.documents
+  holds_up stay = holds_raised stay state.profile 2 state.seq target state.documents holds_here
 
-    pub good_lowered : Good state_lowered
-    good_lowered = good_in_2 state held.good offered
+  pub holds_down : AreOffered profile.Two state.documents → Holds (profile_in false) 2 state.seq target state.documents
+  holds_down offered = let lowered = in_profile profile.Two state in snapshot_holds lowered state.seq refl (remakes_all framed_storable lowered (good_in_2 state held.good offered))
 
-    abbrev target : List ℕ
-    target = snapshot_bytes state.documents
+  module _ (rides : Bool) (holds : Holds (profile_in rides) 2 state.seq target state.documents) where
+    either_over : (disk before.device).honest → (image : Image) → EitherCarried (carried_of before) (turned rides (carried_of before) target) image → OneOf account (account_over rides account) image
+    either_over honest image (inl carries) = inl (as_it_was honest image carries)
+    either_over honest image (inr carries) = inr (image_of (turned rides (carried_of before) target) (account_over rides account) refl refl refl refl refl held.seq refl holds image carries)
 
-    holds_lowered : Holds profile.Two 2 state.seq target state.documents
-    holds_lowered = snapshot_holds state_lowered state.seq refl (remakes_all framed_storable state_lowered good_lowered)
+    pub over_moments : (now : JournalView D) → (disk before.device).honest → LeavesOnly (model before.rides (disk before.device)) (model before.rides (disk now.device)) (EitherCarried (carried_of before) (turned rides (carried_of before) target))
+        → LeavesOnly (model before.rides (disk before.device)) (model before.rides (disk now.device)) (OneOf account (account_over rides account))
+    over_moments now honest leaves = leaves_weaker (model before.rides (disk before.device)) (model before.rides (disk now.device)) (EitherCarried (carried_of before) (turned rides (carried_of before) target)) (OneOf account (account_over rides account)) (either_over honest) leaves
 
-    either_lowered : (disk before.device).honest → (image : Image) → EitherCarried (carried_of before) (lowered (carried_of before) target) image → OneOf account (account_lowered account) image
-    either_lowered honest image (inl carries) = inl (as_it_was honest image carries)
-    either_lowered honest image (inr carries) =
-        inr (image_of (lowered (carried_of before) target) (account_lowered account) refl refl refl refl refl held.seq refl holds_lowered image carries)
-
-    pub lowered_moments : ((disk before.device).honest → LeavesOnly (disk before.device) (disk now.device) (EitherCarried (carried_of before) (lowered (carried_of before) target)))
-        → (disk before.device).honest → LeavesOnly (disk before.device) (disk now.device) (OneOf account (account_lowered account))
-    lowered_moments leaves honest =
-        leaves_weaker (disk before.device) (disk now.device) (EitherCarried (carried_of before) (lowered (carried_of before) target)) (OneOf account (account_lowered account)) (either_lowered honest) (leaves honest)
-
-    module _ (same : (disk before.device).honest ↔ (disk now.device).honest) (kept : IsKept (disk now.device) now) (is : IsLowered (disk before.device) (disk now.device) before now target) where
-      pub lowered_held : IsHeld (disk now.device) now state_lowered
-      lowered_held = record {
-        kept = kept;
+    module _ (now : JournalView D) (is : WentOver disk before now rides target) where
+      pub over_held : Good (in_profile (profile_in rides) state) → IsHeld (disk now.device) now (in_profile (profile_in rides) state)
+      over_held good = record {
+        kept = is.kept;
         version = is.version;
         settled = is.settled;
         seq = is.seq ∙ held.seq;
-        profile = ap profile_in is.rides;
-        good = good_lowered;
-        held = λ honest. subst (λ (l : List ℕ). Holds profile.Two 2 state.seq l state.documents) (sym (is.bytes (same.1 honest))) holds_lowered;
+        profile = ap profile_in is.rides_is;
+        good = good;
+        held = λ honest. subst (λ (l : List ℕ). Holds (profile_in rides) 2 state.seq l state.documents) (sym (is.bytes honest)) holds;
       }
 
-      pub lowered_is : before.broken ≡ false → with_copy (account_of now state_lowered) None ≡ account_lowered account
-      lowered_is works = λ i. record {
-        state = state_lowered;
+      pub over_is : before.broken ≡ false → with_copy (account_of now (in_profile (profile_in rides) state)) None ≡ account_over rides account
+      over_is works = λ i. record {
+        state = in_profile (profile_in rides) state;
         used = is.used i;
         half = is.half i;
-        rides = is.rides i;
+        rides = is.rides_is i;
         opens = is.opens i;
         sectors = is.sectors i;
         broken = (is.works ∙ sym works) i;
         copy = None;
       }
+
+-- a journal that an upgrade left as it was, or broke
+pub unwritten_held : {D : Type 0} (disk : D → Disk) (before now : JournalView D) (state : State) → IsHeld (disk before.device) before state → ((disk now.device).honest → (disk before.device).honest) → IsKept (disk now.device) now
+    → Unwritten (disk before.device) (disk now.device) before now → IsHeld (disk now.device) now state
+unwritten_held disk before now state held back kept is = record {
+  kept = kept;
+  version = is.stays.version ∙ held.version;
+  settled = is.stays.settled ∙ held.settled;
+  seq = is.stays.seq ∙ held.seq;
+  profile = ap profile_in is.stays.rides ∙ held.profile;
+  good = held.good;
+  held = λ honest. subst (λ (l : List ℕ). Holds state.profile 2 state.seq l state.documents) (sym (is.stays.bytes honest)) (held.held (back honest));
+}
+
+pub halted_held : {D : Type 0} (disk : D → Disk) (before now : JournalView D) (state : State) (calls : ℕ) → IsHeld (disk before.device) before state → ((disk now.device).honest → (disk before.device).honest) → IsKept (disk now.device) now
+    → Halted (disk before.device) (disk now.device) calls before now → IsHeld (disk now.device) now state
+halted_held disk before now state calls held back kept is = record {
+  kept = kept;
+  version = is.stays.version ∙ held.version;
+  settled = is.stays.settled ∙ held.settled;
+  seq = is.stays.seq ∙ held.seq;
+  profile = ap profile_in is.stays.rides ∙ held.profile;
+  good = held.good;
+  held = λ honest. subst (λ (l : List ℕ). Holds state.profile 2 state.seq l state.documents) (sym (is.stays.bytes honest)) (held.held (back honest));
+}
+
+pub unwritten_is : {D : Type 0} (disk : D → Disk) (before now : JournalView D) (state : State) → before.broken ≡ false → Unwritten (disk before.device) (disk now.device) before now → account_of now state ≡ account_of before state
+unwritten_is disk before now state works is = λ i. record { state = state; used = is.stays.used i; half = is.stays.half i; rides = is.stays.rides i; opens = is.stays.opens i; sectors = is.stays.sectors i; broken = (is.works ∙ sym works) i; copy = None }
+
+pub halted_is : {D : Type 0} (disk : D → Disk) (before now : JournalView D) (state : State) (calls : ℕ) → Halted (disk before.device) (disk now.device) calls before now → account_of now state ≡ account_broken (account_of before state)
+halted_is disk before now state calls is = λ i. record { state = state; used = is.stays.used i; half = is.stays.half i; rides = is.stays.rides i; opens = is.stays.opens i; sectors = is.stays.sectors i; broken = is.broken i; copy = None }
+
+-- ---- the half from which a format gives way
+
+pub ready_is : (a : Account) → a.half ≡ half_from a.rides → account_ready a ≡ record a { copy = None }
+ready_is a is = ap (λ (b : Bool). ready_by b a) (eq-eqb a.half (half_from a.rides) is)
+
+pub ready_snapped : (a : Account) → (a.half ≡ half_from a.rides → ⊥) → account_ready a ≡ account_with_snapshot a
+ready_snapped a ne = ap (λ (b : Bool). ready_by b a) (ne_eqb a.half (half_from a.rides) ne)
+
+pub calls_none : (a : Account) → a.half ≡ half_from a.rides → calls_to_ready a ≡ 0
+calls_none a is = ap (λ (b : Bool). if b then 0 else calls_of_snapshot a) (eq-eqb a.half (half_from a.rides) is)
+
+pub calls_snapped : (a : Account) → (a.half ≡ half_from a.rides → ⊥) → calls_to_ready a ≡ calls_of_snapshot a
+calls_snapped a ne = ap (λ (b : Bool). if b then 0 else calls_of_snapshot a) (ne_eqb a.half (half_from a.rides) ne)
+
+-- what holds in both cases
+ready_in : (P : Account → Type 0) (a : Account) → P (record a { copy = None }) → P (account_with_snapshot a) → P (account_ready a)
+ready_in P a here there = by (nat_eq a.half (half_from a.rides))
+  where
+    by : (b : Bool) → P (ready_by b a)
+    by true = here
+    by false = there
+
+pub ready_state : (a : Account) → (account_ready a).state ≡ a.state
+ready_state a = ready_in (λ b. b.state ≡ a.state) a refl refl
+
+pub ready_rides : (a : Account) → (account_ready a).rides ≡ a.rides
+ready_rides a = ready_in (λ b. b.rides ≡ a.rides) a refl refl
+
+pub ready_sectors : (a : Account) → (account_ready a).sectors ≡ a.sectors
+ready_sectors a = ready_in (λ b. b.sectors ≡ a.sectors) a refl refl
+
+pub ready_broken : (a : Account) → (account_ready a).broken ≡ a.broken
+ready_broken a = ready_in (λ b. b.broken ≡ a.broken) a refl refl
+
+-- no copy runs
+pub ready_alone : (a : Account) → record (account_ready a) { copy = None } ≡ account_ready a
+ready_alone a = ready_in (λ b. record b { copy = None } ≡ b) a refl refl
+
+pub ready_size : (a : Account) → snapshot_size (account_ready a) ≡ snapshot_size a
+ready_size a = ap (λ (s : State). length (snapshot_bytes s.documents)) (ready_state a)
+
+pub ready_half : (a : Account) → a.half ≤ 1 → (account_ready a).half ≡ half_from a.rides
+ready_half a fits = ⊎_elim (λ is. ap (λ (b : Account). b.half) (ready_is a is) ∙ is) (λ ne. ap (λ (b : Account). b.half) (ready_snapped a ne) ∙ other a.rides ne) (cases_eq a.half (half_from a.rides))
+  where
+    other : (r : Bool) → a.half ≢ half_from r → 1 - a.half ≡ half_from r
+    other true ne = let one : a.half ≡ 1 = omega (arith, fits, ne) in omega (arith, one)
+    other false ne = let none : a.half ≡ 0 = omega (arith, fits, ne) in omega (arith, none)
+
+-- ---- there, and then over
+
+-- there or not
+pub ready_moments : (old new : Disk) (a d : Account) → LeavesOnly (model a.rides old) (model a.rides new) (OneOf a (account_ready a)) → LeavesOnly (model a.rides old) (model a.rides new) (OneOfThree a d)
+ready_moments old new a d leaves = leaves_weaker (model a.rides old) (model a.rides new) (OneOf a (account_ready a)) (OneOfThree a d) (λ image is. ⊎_elim (λ was. inl was) (λ now. inr (inl now)) is) leaves
+
+module _ (old mid new : Disk) (a b : Account) (rides : Bool) (ready : b ≡ account_ready a) where
+  pub turned_moments : LeavesOnly (model a.rides old) (model a.rides mid) (OneOf a (account_ready a)) → LeavesOnly (model b.rides mid) (model b.rides new) (OneOf b (account_over rides b))
+      → LeavesOnly (model a.rides old) (model a.rides new) (OneOfThree a (account_turned rides a))
+  turned_moments first second =
+      joined (model a.rides old) (model a.rides mid) (model a.rides new) (OneOfThree a (account_turned rides a)) (ready_moments old mid a (account_turned rides a) first)
+      (leaves_weaker (model a.rides mid) (model a.rides new) (OneOf (account_ready a) (account_turned rides a)) (OneOfThree a (account_turned rides a)) (λ image is. inr is)
+      (subst (λ (r : Bool). LeavesOnly (model r mid) (model r new) (OneOf (account_ready a) (account_turned rides a))) (ready_rides a)
+      (subst (λ (x : Account). LeavesOnly (model x.rides mid) (model x.rides new) (OneOf x (account_over rides x))) ready second)))
+
+  pub turned_failed : (calls : ℕ → ℕ) → Made old mid (calls_to_ready a) → Failed mid new (calls (snapshot_size b)) → Failed old new (calls_to_ready a + calls (snapshot_size a))
+  turned_failed calls made failed = failed_joined old mid new (calls_to_ready a) (calls (snapshot_size a)) (calls_to_ready a + calls (snapshot_size a)) (omega arith) made
+      (subst (λ (n : ℕ). Failed mid new (calls n)) (ap snapshot_size ready ∙ ready_size a) failed)
+
+pub no_moments : (disk : Disk) (a d : Account) → LeavesOnly (model a.rides disk) (model a.rides disk) (IsImageOf a) → LeavesOnly (model a.rides disk) (model a.rides disk) (OneOfThree a d)
+no_moments disk a d leaves = leaves_weaker (model a.rides disk) (model a.rides disk) (IsImageOf a) (OneOfThree a d) (λ image is. inl is) leaves
 
 -- ---- the answer, by the format that the store has
 
@@ -172,16 +293,16 @@ two_of a is = ap (λ (b : Bool). if b then Three else Two) is
 differ : Three ≡ Two → ⊥
 differ e = let numbers : 3 ≡ 2 = ap number_of e in omega (arith, numbers)
 
-pub in_two : (a : Account) → a.rides ≡ true → account_in Two a ≡ account_lowered a
+pub in_two : (a : Account) → a.rides ≡ true → account_in Two a ≡ account_turned false a
 in_two a is = ap (λ (f : Format). account_between f Two a) (three_of a is)
 
-pub in_three : (a : Account) → a.rides ≡ false → account_in Three a ≡ account_raised a
+pub in_three : (a : Account) → a.rides ≡ false → account_in Three a ≡ account_turned true a
 in_three a is = ap (λ (f : Format). account_between f Three a) (two_of a is)
 
-pub calls_two : (a : Account) → a.rides ≡ true → calls_to Two a ≡ calls_of_snapshot a
+pub calls_two : (a : Account) → a.rides ≡ true → calls_to Two a ≡ calls_to_ready a + downgrade_calls (snapshot_size a)
 calls_two a is = ap (λ (f : Format). calls_between f Two a) (three_of a is)
 
-pub calls_three : (a : Account) → a.rides ≡ false → calls_to Three a ≡ 2
+pub calls_three : (a : Account) → a.rides ≡ false → calls_to Three a ≡ calls_to_ready a + upgrade_calls (snapshot_size a)
 calls_three a is = ap (λ (f : Format). calls_between f Three a) (two_of a is)
 
 -- it has the format already
@@ -193,13 +314,19 @@ pub calls_same : (format : Format) (a : Account) → a.rides ≡ rides_in format
 calls_same Two a is = ap (λ (f : Format). calls_between f Two a) (two_of a is)
 calls_same Three a is = ap (λ (f : Format). calls_between f Three a) (three_of a is)
 
-pub raised_answers : (old new : Account) (r : Result (Unit {0}) Refusal) → old.broken ≡ false → old.rides ≡ false → OnOk r (new ≡ account_raised old)
-    → IfErr r (λ x. (x ≡ plain DEVICE) × (new ≡ account_broken old)) → FormatAnswers old Three r new
-raised_answers old new (Ok u) works rides ok err = (works, ok ∙ sym (in_three old rides))
-raised_answers old new (Err x) works rides ok err = inl (err.0, works, (λ same. differ (sym same ∙ two_of old rides)), err.1)
+-- the answer of a store in format 2, and in format 3
+abbrev pub WasHit : Account → Account → Refusal → Type 0
+WasHit old new x = (x ≡ plain DEVICE) × ((new ≡ account_broken old) ⊎ (new ≡ account_broken (account_ready old)))
 
-pub lowered_answers : (old new : Account) (r : Result (Unit {0}) Refusal) → old.broken ≡ false → old.rides ≡ true → OnOk r (new ≡ account_lowered old)
-    → IfErr r (λ x. ((x ≡ plain DEVICE) × (new ≡ account_broken old)) ⊎ (StaysInThree old x × (new ≡ old))) → FormatAnswers old Two r new
+pub raised_answers : (old new : Account) (r : Result (Unit {0}) Refusal) → old.broken ≡ false → old.rides ≡ false → OnOk r (new ≡ account_turned true old)
+    → IfErr r (λ x. WasHit old new x ⊎ (StaysAs Three old x × (new ≡ old)) ⊎ (((x ≡ plain MEMORY) ⊎ (x ≡ plain SEQ_END)) × (new ≡ account_ready old))) → FormatAnswers old Three r new
+raised_answers old new (Ok u) works rides ok err = (works, ok ∙ sym (in_three old rides))
+raised_answers old new (Err x) works rides ok (inl hit) = inl (hit.0, works, (λ same. differ (sym same ∙ two_of old rides)), hit.1)
+raised_answers old new (Err x) works rides ok (inr (inl stays)) = inr (inr (inl (stays.0, works, (λ same. differ (sym same ∙ two_of old rides)), stays.1)))
+raised_answers old new (Err x) works rides ok (inr (inr way)) = inr (inr (inr (way.0, works, two_of old rides, refl, way.1)))
+
+pub lowered_answers : (old new : Account) (r : Result (Unit {0}) Refusal) → old.broken ≡ false → old.rides ≡ true → OnOk r (new ≡ account_turned false old)
+    → IfErr r (λ x. WasHit old new x ⊎ (StaysAs Two old x × (new ≡ old))) → FormatAnswers old Two r new
 lowered_answers old new (Ok u) works rides ok err = (works, ok ∙ sym (in_two old rides))
 lowered_answers old new (Err x) works rides ok (inl hit) = inl (hit.0, works, (λ same. differ (sym (three_of old rides) ∙ same)), hit.1)
-lowered_answers old new (Err x) works rides ok (inr stays) = inr (inr (stays.0, works, three_of old rides, refl, stays.1))
+lowered_answers old new (Err x) works rides ok (inr stays) = inr (inr (inl (stays.0, works, (λ same. differ (sym (three_of old rides) ∙ same)), stays.1)))

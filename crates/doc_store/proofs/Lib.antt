@@ -1,9 +1,12 @@
 mod Copies
+mod Counting
+mod Crashed
 mod Ending
 mod Formats
 pub mod Opened
 pub mod Promised
 mod Pumps
+mod Rides
 mod Single
 pub mod Telling
 mod Timing

@@ -4,6 +4,7 @@ use Rattle.std.proofs.lemmas.List.{append_assoc, append-nil, length-append}
 use Rattle.std.proofs.Math.Seq.{take-append_seam}
 use Rattle.sector_device.specs.Disk.{Disk, Image}
 use Rattle.sector_device.proofs.Moments.{leaves_weaker}
+use Rattle.store_journal.specs.Models.{model}
 use Rattle.doc_changes.specs.State.{State}
 use Rattle.doc_machine.specs.Transaction.{Transaction}
 use Rattle.store_commits.specs.Images.{Stands}
@@ -72,7 +73,7 @@ run_keeps disk x y es rs ran =
       ledger = end;
       history = run_history (begun s) x.account y.account es rs ran.commits refl ran.run;
       state = lasts.state_is ∙ ap (λ (l : List Transaction). after_each s l) (sym (take-append_seam ds hs));
-      any_moment = λ honest works. leaves_weaker (disk x.device) (disk y.device) (StandsAfter s (ds ++ hs)) (IsLeftOf (record end { lasting = 0 }))
+      any_moment = λ honest works. leaves_weaker (model x.account.rides (disk x.device)) (model x.account.rides (disk y.device)) (StandsAfter s (ds ++ hs)) (IsLeftOf (record end { lasting = 0 }))
           (λ image stands. left_of (record end { lasting = 0 }) stands.kept stands.rest image stands.parts (omega arith) stands.stands) (lasts.any_moment honest works);
       at_end = λ honest works image left. (
           let stands = lasts.at_end honest works image left in

@@ -1,6 +1,7 @@
 -- One event as a run: a transaction is a batch of one, and a snapshot or a step of a copy makes no change.
 use Rattle.std.proofs.Common.{◌≡◌, ◌≢◌, inl, inr, ⊎_elim, ℕ, [], ◌∷◌, List, refl, sym, ap, subst, OnOk, IfErr, Result, Ok, Err, ◌∙◌, false, ◌↔◌, Bool, if◌then◌else◌, ◌++◌, ◌⊎◌}
-use Rattle.sector_device.specs.Disk.{Disk, IsCoherent, LeavesOnly}
+use Rattle.sector_device.specs.Disk.{Disk, LeavesOnly}
+use Rattle.store_journal.specs.Models.{model}
 use Rattle.doc_machine.specs.Transaction.{Transaction}
 use Rattle.refusals.specs.declared.numbers.TheConstants.{DEVICE, MEMORY}
 use Rattle.doc_changes.specs.Refusals.{plain}
@@ -15,13 +16,15 @@ use Rattle.store_commits.specs.Copying.{PumpAnswers}
 use Rattle.store_commits.specs.Folds.{StandsAfter}
 use Rattle.store_commits.specs.declared.pump.Pump.{Pump}
 use Rattle.store_commits.proofs.Running.{lasts_nothing, lasts_unchanged, one_done, pumped_state, pumped_works}
+use Rattle.store_commits.proofs.Modelled.{AreCoherent}
 use Rattle.store_commits.proofs.Standing.{stays}
 use Rattle.store_commits.proofs.Went.{batch_none, no_commit, one_answer, one_failed, snapshot_otherwise, stops_own}
 use Rattle.std.proofs.lemmas.Bool.{ne_eqb}
+use Rattle.doc_store.proofs.Rides.{pumped_rides}
 
 -- ---- a transaction
 
-module _ {D : Type 0} (disk : D → Disk) (coherent : (device : D) → (disk device).honest → IsCoherent (disk device)) where
+module _ {D : Type 0} (disk : D → Disk) (coherent : AreCoherent disk) where
   -- memory ran out for it
   pub ran_no_memory : (old new : StoreView D) (t : Transaction) (r : Refusal) → new ≡ old → r ≡ plain MEMORY → IsStanding (disk old.device) old.account → Ran disk old new (change t ∷ []) (Refused r ∷ [])
   ran_no_memory old new t r same is standing = subst (λ (q : Refusal). Ran disk old new (change t ∷ []) (Refused q ∷ [])) (sym is) (subst (λ (v : StoreView D). Ran disk old v (change t ∷ []) (Refused (plain MEMORY) ∷ [])) (sym same) (record {
@@ -93,12 +96,12 @@ step_why a b most (Ok p) is = tt
 step_why a b most (Err r) (inl hit) = inl hit.0
 step_why a b most (Err r) (inr kept) = inr (stops_own a r kept.0)
 
-module _ {D : Type 0} (disk : D → Disk) (coherent : (device : D) → (disk device).honest → IsCoherent (disk device)) (x y : StoreView D) (stands : IsStanding (disk x.device) x.account) (same : (disk x.device).honest ↔ (disk y.device).honest) where
+module _ {D : Type 0} (disk : D → Disk) (coherent : AreCoherent disk) (x y : StoreView D) (stands : IsStanding (disk x.device) x.account) (same : (disk x.device).honest ↔ (disk y.device).honest) where
   abbrev Moments : Type 0
-  Moments = (disk x.device).honest → x.account.broken ≡ false → LeavesOnly (disk x.device) (disk y.device) (StandsAfter x.account.state [])
+  Moments = (disk x.device).honest → x.account.broken ≡ false → LeavesOnly (model x.account.rides (disk x.device)) (model x.account.rides (disk y.device)) (StandsAfter x.account.state [])
 
   unmoved : y.device ≡ x.device → Moments
-  unmoved is honest works = subst (λ (d : D). LeavesOnly (disk x.device) (disk d) (StandsAfter x.account.state [])) (sym is) (stays (disk x.device) x.account [] (coherent x.device) stands honest works)
+  unmoved is honest works = subst (λ (d : D). LeavesOnly (model x.account.rides (disk x.device)) (model x.account.rides (disk d)) (StandsAfter x.account.state [])) (sym is) (stays (disk x.device) x.account [] (coherent x.account.rides x.device) stands honest works)
 
   pub ran_snapshot : (r : Result ℕ Refusal) → SnapshotAnswers x.account r y.account → AreMade disk x.device (commits_of r (to_snapshot x.account) y.account) y.device → IfErr r (λ q. q.number ≢ DEVICE → y.device ≡ x.device)
       → OnOk r Moments → IfErr r (λ q. q.number ≡ DEVICE → Moments) → Ran disk x y (snapshot ∷ []) (reply_of Snapped r ∷ [])
@@ -106,13 +109,13 @@ module _ {D : Type 0} (disk : D → Disk) (coherent : (device : D) → (disk dev
     commits = commits_of (Ok used) (to_snapshot x.account) y.account;
     run = one_done x.account y.account (snapshot ∷ []) (Snapped used ∷ []) (commits_of (Ok used) (to_snapshot x.account) y.account) (a_snapshot x.account y.account (Ok used) is);
     made = made;
-    lasts = lasts_unchanged disk coherent x y same (λ broken. (let contrary = sym is.can.works ∙ broken in absurd (cc contrary))) (ap (λ (a : Account). a.state) is.new_is) moments;
+    lasts = lasts_unchanged disk coherent x y same (λ broken. (let contrary = sym is.can.works ∙ broken in absurd (cc contrary))) (ap (λ (a : Account). a.state) is.new_is) (ap (λ (a : Account). a.rides) is.new_is) moments;
   }
   ran_snapshot (Err r) (inl hit) made uncalled moments moments_err = record {
     commits = commits_of {A = ℕ} (Err r) (to_snapshot x.account) y.account;
     run = one_done x.account y.account (snapshot ∷ []) (Refused r ∷ []) (commits_of {A = ℕ} (Err r) (to_snapshot x.account) y.account) (a_snapshot x.account y.account (Err r) (inl hit));
     made = made;
-    lasts = lasts_unchanged disk coherent x y same (λ broken. (let contrary = sym hit.1.can.works ∙ broken in absurd (cc contrary))) (ap (λ (a : Account). a.state) hit.1.new_is) (moments_err (ap (λ (q : Refusal). q.number) hit.0));
+    lasts = lasts_unchanged disk coherent x y same (λ broken. (let contrary = sym hit.1.can.works ∙ broken in absurd (cc contrary))) (ap (λ (a : Account). a.state) hit.1.new_is) (ap (λ (a : Account). a.rides) hit.1.new_is) (moments_err (ap (λ (q : Refusal). q.number) hit.0));
   }
   ran_snapshot (Err r) (inr kept) made uncalled moments moments_err =
       let is = uncalled (snapshot_otherwise x.account y.account r kept) in
@@ -121,7 +124,7 @@ module _ {D : Type 0} (disk : D → Disk) (coherent : (device : D) → (disk dev
         run = one_done x.account y.account (snapshot ∷ []) (Refused r ∷ []) (commits_of {A = ℕ} (Err r) (to_snapshot x.account) y.account) (a_snapshot x.account y.account (Err r) (inr kept));
         made = made;
         lasts = lasts_unchanged disk coherent x y same (λ broken. ⊎_elim (λ stops. (λ i. record { device = is i; account = stops.1 i })) (λ long. (let contrary = sym long.1.works ∙ broken in absurd (cc contrary))) kept)
-            (⊎_elim (λ stops. ap (λ (a : Account). a.state) stops.1) (λ long. ap (λ (a : Account). a.state) long.1.new_is) kept) (unmoved is);
+            (⊎_elim (λ stops. ap (λ (a : Account). a.state) stops.1) (λ long. ap (λ (a : Account). a.state) long.1.new_is) kept) (⊎_elim (λ stops. ap (λ (a : Account). a.rides) stops.1) (λ long. ap (λ (a : Account). a.rides) long.1.new_is) kept) (unmoved is);
       }
 
   pub ran_step : (most : ℕ) (r : Result Pump Refusal) → PumpAnswers x.account most r y.account → AreMade disk x.device (commits_of r (to_step x.account most) y.account) y.device → IfErr r (λ q. q.number ≢ DEVICE → y ≡ x)
@@ -130,13 +133,13 @@ module _ {D : Type 0} (disk : D → Disk) (coherent : (device : D) → (disk dev
     commits = commits_of (Ok p) (to_step x.account most) y.account;
     run = one_done x.account y.account (pump most ∷ []) (Pumped p ∷ []) (commits_of (Ok p) (to_step x.account most) y.account) (a_step x.account y.account most (Ok p) is);
     made = made;
-    lasts = lasts_unchanged disk coherent x y same (λ broken. (let contrary = sym (pumped_works x.account y.account most p is) ∙ broken in absurd (cc contrary))) (pumped_state x.account y.account most p is) moments;
+    lasts = lasts_unchanged disk coherent x y same (λ broken. (let contrary = sym (pumped_works x.account y.account most p is) ∙ broken in absurd (cc contrary))) (pumped_state x.account y.account most p is) (pumped_rides x.account y.account most p is) moments;
   }
   ran_step most (Err r) (inl hit) made unchanged moments moments_err = record {
     commits = commits_of {A = Pump} (Err r) (to_step x.account most) y.account;
     run = one_done x.account y.account (pump most ∷ []) (Refused r ∷ []) (commits_of {A = Pump} (Err r) (to_step x.account most) y.account) (a_step x.account y.account most (Err r) (inl hit));
     made = made;
-    lasts = lasts_unchanged disk coherent x y same (λ broken. (let contrary = sym hit.1.can.works ∙ broken in absurd (cc contrary))) (ap (λ (a : Account). a.state) hit.1.new_is) (moments_err (ap (λ (q : Refusal). q.number) hit.0));
+    lasts = lasts_unchanged disk coherent x y same (λ broken. (let contrary = sym hit.1.can.works ∙ broken in absurd (cc contrary))) (ap (λ (a : Account). a.state) hit.1.new_is) (ap (λ (a : Account). a.rides) hit.1.new_is) (moments_err (ap (λ (q : Refusal). q.number) hit.0));
   }
   ran_step most (Err r) (inr kept) made unchanged moments moments_err =
       let is = unchanged (stops_own x.account r kept.0) in
@@ -144,5 +147,5 @@ module _ {D : Type 0} (disk : D → Disk) (coherent : (device : D) → (disk dev
         commits = commits_of {A = Pump} (Err r) (to_step x.account most) y.account;
         run = one_done x.account y.account (pump most ∷ []) (Refused r ∷ []) (commits_of {A = Pump} (Err r) (to_step x.account most) y.account) (a_step x.account y.account most (Err r) (inr kept));
         made = made;
-        lasts = lasts_unchanged disk coherent x y same (λ broken. is) (ap (λ (v : StoreView D). v.account.state) is) (unmoved (ap (λ (v : StoreView D). v.device) is));
+        lasts = lasts_unchanged disk coherent x y same (λ broken. is) (ap (λ (v : StoreView D). v.account.state) is) (ap (λ (v : StoreView D). v.account.rides) is) (unmoved (ap (λ (v : StoreView D). v.device) is));
       }

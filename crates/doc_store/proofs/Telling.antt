@@ -1,7 +1,7 @@
 -- What a part tells goes on by one event.
 use Rattle.std.proofs.Common.{◌≡◌, ◌⊎◌, inl, inr, ◌+◌, List, [], ◌∷◌, ◌++◌, length, map, refl, sym, ◌∙◌, ap, subst, true, false, Bool, ℕ}
 use Rattle.std.proofs.lemmas.List.{append_assoc, append-nil, length-append}
-use Rattle.sector_device.specs.Disk.{Disk, IsCoherent}
+use Rattle.sector_device.specs.Disk.{Disk}
 use Rattle.doc_machine.specs.Transaction.{Transaction, transaction_of}
 use Rattle.store_commits.specs.Account.{StoreView, IsStanding}
 use Rattle.store_commits.specs.Events.{done_by, hit_by}
@@ -10,6 +10,7 @@ use Rattle.store_commits.specs.declared.event.Reply.{Reply}
 use Rattle.doc_store.specs.Lives.{TellsNothing, accepted_of, replies_of}
 use Rattle.doc_store.specs.Ending.{Told}
 use Rattle.doc_store.specs.declared.life.Part.{Part}
+use Rattle.store_commits.proofs.Modelled.{AreCoherent}
 use Rattle.store_commits.proofs.Running.{dones_append, hits_append, ran_joined, ran_nothing, run_paired}
 
 shuffled : (D H d h : List Transaction) → (H ≡ []) ⊎ (d ≡ []) → ((D ++ H) ++ d) ++ h ≡ (D ++ d) ++ (H ++ h)
@@ -20,7 +21,7 @@ none_front : (xs ys : List Transaction) → xs ++ ys ≡ [] → xs ≡ []
 none_front [] ys none = refl
 none_front (x ∷ xs) ys none = absurd (cc none)
 
-module _ {D : Type 0} (disk : D → Disk) (coherent : (device : D) → (disk device).honest → IsCoherent (disk device)) where
+module _ {D : Type 0} (disk : D → Disk) (coherent : AreCoherent disk) where
   pub told_nothing : (x : StoreView D) (p : Part) → TellsNothing p → IsStanding (disk x.device) x.account → Told disk x x [] p
   told_nothing x p untold standing = record {
     ran = subst (λ (rs : List Reply). Ran disk x x [] rs) (sym untold.replies) (ran_nothing disk coherent x standing);

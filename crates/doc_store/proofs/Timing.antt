@@ -2,7 +2,8 @@
 use Rattle.std.proofs.Common.{Bool, ◌≡◌, ◌⊎◌, inl, inr, ⊎_elim, ℕ, ◌+◌, ◌-◌, ◌<◌, ◌≤◌, List, [], ◌∷◌, length, refl, sym, ◌∙◌, ap, subst, arith, true, false, Option, Some}
 use Rattle.sector_device.specs.Charges.{Made, Failed, IsShort, less}
 use Rattle.sector_device.specs.Disk.{Disk, Image, AtLeast}
-use Rattle.store_journal.specs.Carries.{Carries, EitherCarried, Carried}
+use Rattle.store_journal.specs.Carries.{Carries, EitherCarried, Carried, NamesBlocks}
+use Rattle.store_journal.specs.Models.{model}
 use Rattle.doc_changes.specs.State.{State}
 use Rattle.store_commits.specs.Account.{Account, StoreView, IsStandingAs, Extent, StandsAs, extent_of}
 use Rattle.store_commits.specs.Batch.{AreMade, Commit, failed, passed}
@@ -14,6 +15,7 @@ use Rattle.doc_store.specs.Opening.{IsOpenedFrom, carried_after, opening_cost, L
 use Rattle.doc_store.specs.Timed.{AreInTime, HasOneImage, IsLate, IsLeftBy, IsTimely, Left, left}
 use Rattle.store_commits.proofs.Went.{Stop, Went, has_failed, run_went}
 use Rattle.store_journal.proofs.Unique.{carries_one}
+use Rattle.doc_store.proofs.Rides.{AreOf, run_rides}
 
 -- all that is left is in format 2, and needs no room
 pub in_format_2 : (l : Extent) (image : Image) → StandsAs l image → LacksRoom image → ⊥
@@ -57,13 +59,14 @@ module _ {D : Type 0} (disk : D → Disk) where
   last_made commits mid end none made = subst (λ (ks : List Commit). AreMade disk mid ks end) none made
 
   -- what a crash leaves
-  left_by : (commits : List Commit) (old new : D) (last : Account) → Stop commits → AreMade disk old commits new → (has_failed commits ≡ false → last.broken ≡ false) → IsStandingAs (disk new) last
-      → (disk new).honest → (image : Image) → (disk new).left image → IsLeftBy commits last image
-  left_by [] old new last stop made works stands honest image is_left = stands honest (works refl) image is_left
-  left_by (passed k ∷ commits) old new last stop made works stands honest image is_left = left_by commits made.0 new last stop made.2 works stands honest image is_left
-  left_by (failed k kept ∷ commits) old new last stop made works stands honest image is_left =
+  left_by : (commits : List Commit) (old new : D) (last : Account) → Stop commits → AreOf last.rides commits → AreMade disk old commits new → (has_failed commits ≡ false → last.broken ≡ false) → IsStandingAs (disk new) last
+      → (disk new).honest → (image : Image) → (model last.rides (disk new)).left image → IsLeftBy commits last image
+  left_by [] old new last stop of made works stands honest image is_left = stands honest (works refl) image is_left
+  left_by (passed k ∷ commits) old new last stop of made works stands honest image is_left = left_by commits made.0 new last stop of made.2 works stands honest image is_left
+  left_by (failed k kept ∷ commits) old new last stop of made works stands honest image is_left =
+      let here = subst (λ (r : Bool). (model r (disk new)).left image) (sym of.0) is_left in
       let same = last_made commits made.0 new stop made.2 in
-      ⊎_elim (λ old. inl old) (λ new. inr new.stands) (made.1.leaves (rw same at honest) image (rw same at is_left))
+      ⊎_elim (λ old. inl old) (λ new. inr new.stands) (made.1.leaves (subst (λ (d : D). (disk d).honest) same honest) image (subst (λ (d : D). (model kept.rides (disk d)).left image) same here))
 
   -- the disk itself had no fault if all passed
   same_faults : (commits : List Commit) (old new : D) → has_failed commits ≡ false → AreMade disk old commits new → faults_of new ≡ faults_of old
@@ -90,8 +93,11 @@ module _ {D : Type 0} (disk : D → Disk) where
     abbrev went : Went start.account end.account ran.commits (dones_of es rs) (hits_of es rs)
     went = run_went start.account end.account es rs ran.commits ran.run
 
-    pub run_leaves : IsStandingAs (disk end.device) end.account → (disk end.device).honest → (image : Image) → (disk end.device).left image → IsLeftBy ran.commits end.account image
-    run_leaves = left_by ran.commits start.device end.device end.account went.stop ran.made (λ none. went.works none works)
+    abbrev rides : (end.account.rides ≡ start.account.rides) × AreOf start.account.rides ran.commits
+    rides = run_rides start.account end.account es rs ran.commits ran.run
+
+    pub run_leaves : IsStandingAs (disk end.device) end.account → (disk end.device).honest → (image : Image) → (model end.account.rides (disk end.device)).left image → IsLeftBy ran.commits end.account image
+    run_leaves = left_by ran.commits start.device end.device end.account went.stop (subst (λ (r : Bool). AreOf r ran.commits) (sym rides.0) rides.1) ran.made (λ none. went.works none works)
 
     pub none_failed : end.account.broken ≡ false → has_failed ran.commits ≡ false
     none_failed fine = by (has_failed ran.commits) refl
@@ -102,17 +108,19 @@ module _ {D : Type 0} (disk : D → Disk) where
 
 -- an opening and events, through a fuse of so many calls
 pub timely_from : {D : Type 0} (disk : D → Disk) (given : D) (start end : StoreView D) (stop : ℕ) (es : List Event) (rs : List Reply) → start.account.broken ≡ false → IsStandingAs (disk end.device) end.account
-    → (found : IsOpenedFrom (disk given).seen start.account) → start.account.sectors ≡ length (disk given).seen → Made (disk given) (disk start.device) (opening_cost found.stands.carried start.account.state)
-    → Ran disk start end es rs → (s : State) (settled : Bool) (t : Left) → t.settled ≡ true → (disk end.device).honest → (disk end.device).left t.image → HasSpent stop 0 (disk given)
+    → (found : IsOpenedFrom (disk given).seen start.account) (blocks : ℕ) → NamesBlocks found.stands.carried blocks (disk given).seen → start.account.sectors ≡ length (disk given).seen → Made (disk given) (disk start.device) (opening_cost found.stands.carried start.account.state blocks)
+    → Ran disk start end es rs → (s : State) (settled : Bool) (t : Left) → t.settled ≡ true → (disk end.device).honest → (model end.account.rides (disk end.device)).left t.image → HasSpent stop 0 (disk given)
     → IsTimely (left s (disk given).seen settled) stop ((disk end.device).own_failures - (disk given).own_failures) es rs start.account end.account t
-timely_from {D} disk given start end stop es rs works stands found sectors made ran s settled t settles honest is_left has =
-    let opening = opening_cost found.stands.carried start.account.state in
+timely_from {D} disk given start end stop es rs works stands found blocks names sectors made ran s settled t settles honest is_left has =
+    let opening = opening_cost found.stands.carried start.account.state blocks in
     let begun = spends stop 0 opening (disk given) (disk start.device) has made in
     let begun_is : HasSpent stop opening (disk start.device) = subst (λ (n : ℕ). HasSpent stop n (disk start.device)) (let n : 0 + opening ≡ opening = omega arith in n) begun in
     let opened = made.own_failures in
     record {
       found = found;
       sectors = sectors;
+      blocks = blocks;
+      names = names;
       within = begun_is.within;
       commits = ran.commits;
       run = ran.run;
@@ -124,13 +132,12 @@ timely_from {D} disk given start end stop es rs works stands found sectors made 
     }
 
 -- an opening that failed, through such a fuse
-pub late_from : (given after : Disk) (stop : ℕ) (s : State) (stands : Stands s given.seen) → Failed given after (opening_cost stands.carried s) → (settled : Bool) (t : Left) → (settled ≡ true → HasOneImage given) → t.settled ≡ true
-    → given.left t.image ⊎ EitherCarried stands.carried (carried_after stands.carried s) t.image → length t.image ≡ length given.seen → HasSpent stop 0 given → IsLate (left s given.seen settled) stop (after.own_failures - given.own_failures) t
-late_from given after stop s stands hit settled t alone settles leaves sized has =
-    let calls = opening_cost stands.carried s in
+pub late_from : (rides : Bool) (given after : Disk) (stop : ℕ) (s : State) (stands : Stands s given.seen) → ((blocks : ℕ) → NamesBlocks stands.carried blocks given.seen → Failed given after (opening_cost stands.carried s blocks)) → (settled : Bool) (t : Left)
+    → (settled ≡ true → HasOneImage rides given) → t.settled ≡ true → (model rides given).left t.image ⊎ EitherCarried stands.carried (carried_after stands.carried s) t.image → length t.image ≡ length given.seen → HasSpent stop 0 given → IsLate (left s given.seen settled) stop (after.own_failures - given.own_failures) t
+late_from rides given after stop s stands hit settled t alone settles leaves sized has =
     record {
       stands = stands;
-      late = λ none. ⊎_elim (λ past. omega (arith, past)) (λ more. omega (arith, more, none)) (short stop 0 calls given after has hit);
+      late = λ none blocks names. ⊎_elim (λ past. omega (arith, past)) (λ more. omega (arith, more, none)) (short stop 0 (opening_cost stands.carried s blocks) given after has (hit blocks names));
       sectors = sized;
       leaves = λ is. ⊎_elim (λ old. inl (subst (λ (image : Image). Carries stands.carried image) (sym (alone is t.image old)) stands.carries)) (λ other. other) leaves;
       settles = settles;

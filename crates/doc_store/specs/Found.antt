@@ -1,10 +1,11 @@
 -- For the clauses within the crate: the bytes that were read of a device, their replay, and an opened journal whose opening is counted.
-use Rattle.std.specs.Prelude.{◌≡◌, ℕ, List, length, false, ◌⊎◌, ◌<◌, ◌≤◌}
+use Rattle.std.specs.Prelude.{◌≡◌, ℕ, ◌+◌, ◌*◌, List, length, Bool, false, true, ◌⊎◌, ◌<◌, ◌≤◌}
 use Rattle.sector_device.specs.Disk.{Disk}
 use Rattle.sector_device.specs.Sectors.{KeepsImages}
 use Rattle.store_journal.specs.Carries.{Carried}
 use Rattle.store_journal.specs.Opening.{Loaded}
 use Rattle.store_journal.specs.JournalView.{JournalView, carried_of}
+use Rattle.store_journal.specs.Models.{model}
 use Rattle.doc_changes.specs.State.{Good, State}
 use Rattle.store_commits.specs.Images.{Holds, profile_in}
 use Rattle.store_journal.specs.Layout.{capacity_of}
@@ -21,26 +22,29 @@ carried_in journal bytes = record (carried_of journal) { bytes = bytes }
 
 -- the device was only read: it carries the bytes, and they hold the state
 pub record WasFound {D : Type 0} (disk : D → Disk) (device : D) (journal : JournalView D) (bytes : List ℕ) (state : State) : Type 0 where
-  pub loaded : Loaded (disk device) (disk journal.device) (carried_in journal bytes)
+  pub loaded : Loaded (disk device) (disk journal.device) (carried_in journal bytes) journal.blocks
   pub read : (disk journal.device).honest → journal.bytes ≡ bytes
   pub used_is : length journal.bytes ≡ length bytes
   pub sectors_are : journal.sectors ≡ (disk device).sectors
   pub works : journal.broken ≡ false
+  pub fresh : journal.rides ≡ true → journal.settled ≡ false
+  -- in format 3 a slot names whole blocks of them, and has room for the others
+  pub tail : journal.rides ≡ true → (4096 * journal.blocks ≤ length bytes) × (length bytes ≤ 4096 * journal.blocks + 15444)
   pub seq_is : state.seq ≡ journal.seq
   pub profile_is : profile_in journal.rides ≡ state.profile
   pub good : Good state
   pub holds : Holds state.profile journal.version journal.seq bytes state.documents
-  pub keeps : (disk journal.device).honest → KeepsImages (disk device) (disk journal.device)
+  pub keeps : (disk journal.device).honest → (rides : Bool) → KeepsImages (model rides (disk device)) (model rides (disk journal.device))
   pub honest : (disk journal.device).honest → (disk device).honest
 
 -- it is seen to carry what the opening makes of what was read
 abbrev pub IsSettled : {D : Type 0} → Disk → Disk → Carried → JournalView D → JournalView D → State → Type 0
-IsSettled disk new_disk was old new state = Became disk new_disk old new (carried_after was state) (length (carried_after was state).bytes) (calls_to_settle was state)
+IsSettled disk new_disk was old new state = Became disk new_disk old new (carried_after was state) (length (carried_after was state).bytes) (calls_to_settle was state old.blocks)
 
--- Why it isn't counted: memory was refused, or bytes of format 1 are in a half that has no room for the snapshot of the
+-- Why it isn't counted: memory was refused, or no number is left, or bytes of format 1 are in a half that has no room for the snapshot of the
 -- state, and then nothing was done; or the device failed, if a half has room.
 abbrev pub IsNotSettled : {D : Type 0} → Disk → Disk → Carried → JournalView D → JournalView D → State → Refusal → Type 0
 IsNotSettled disk new_disk was old new state r =
     ((r ≡ plain MEMORY) × (new ≡ old))
-    ⊎ ((r ≡ plain NO_ROOM) × ((old.version ≡ 1) × (capacity_of old.sectors < length (snapshot_bytes state.documents))) × (new ≡ old))
-    ⊎ ((r ≡ plain DEVICE) × (old.version ≡ 1 → length (snapshot_bytes state.documents) ≤ capacity_of old.sectors) × Broke disk new_disk (calls_to_settle was state) old new)
+    ⊎ ((r ≡ plain NO_ROOM) × ((old.version ≡ 1) × (capacity_of old.rides old.sectors < length (snapshot_bytes state.documents))) × (new ≡ old))
+    ⊎ ((r ≡ plain DEVICE) × (old.version ≡ 1 → length (snapshot_bytes state.documents) ≤ capacity_of old.rides old.sectors) × Broke disk new_disk (calls_to_settle was state old.blocks) old new)

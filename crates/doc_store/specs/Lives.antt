@@ -1,7 +1,7 @@
 -- Lives: each is opened with what the one before left, is asked its events, and ends in a crash.
-use Rattle.std.specs.Prelude.{◌≡◌, ◌≤◌, List, [], ◌∷◌, ◌++◌, length, map, true, false, Option, Some, None, ⊤, ◌⊎◌, ℕ}
-use Rattle.sector_device.specs.Disk.{Disk, Image}
-use Rattle.sector_device.specs.History.{left_after}
+use Rattle.std.specs.Prelude.{◌≡◌, ◌≤◌, All, Bool, List, [], ◌∷◌, ◌++◌, length, map, true, false, Option, Some, None, ⊤, ◌⊎◌, ℕ}
+use Rattle.sector_device.specs.Disk.{Disk, Image, IsDamage}
+use Rattle.store_journal.specs.Models.{IsTold, model}
 use Rattle.sector_device.specs.Memory.{mem_disk}
 use Rattle.sector_device.specs.declared.memory.MemDisk.{MemDisk}
 use Rattle.doc_changes.specs.State.{State}
@@ -11,7 +11,7 @@ use Rattle.store_commits.specs.Folds.{after_each, all_changes}
 use Rattle.store_commits.specs.Batch.{Commit}
 use Rattle.store_commits.specs.Run.{Event, IsRun, dones_of, hits_of}
 use Rattle.store_commits.specs.declared.event.Reply.{Reply}
-use Rattle.store_commits.specs.Images.{Stands}
+use Rattle.store_commits.specs.Images.{Stands, rides_for}
 use Rattle.store_commits.specs.Events.{event_of}
 use Rattle.doc_store.specs.declared.life.Life.{Life}
 use Rattle.doc_store.specs.declared.life.Part.{Part}
@@ -82,13 +82,22 @@ LivesSo {L} state_of more s lives parts t = ⊥
 abbrev pub IsLives : State → List Life → List Part → State → Type 0
 IsLives = LivesSo (λ s. s) (λ s life part accounts t. ⊤)
 
--- every image that a crash may leave holds the state
+-- every image that a crash may leave, in the disk model of the state's format, holds the state
 abbrev pub AllStand : Disk → State → Type 0
-AllStand disk s = (image : Image) → disk.left image → Stands s image
+AllStand disk s = (image : Image) → (model (rides_for s.profile) disk).left image → Stands s image
 
--- the same of a disk in memory, by its history
+-- the same of a disk in memory
 abbrev pub DiskStands : MemDisk → State → Type 0
-DiskStands disk s = (image : Image) → left_after disk.history image → Stands s image
+DiskStands disk s = AllStand (mem_disk disk) s
+
+-- The crash of a life keeps to the disk model of that format: it tears no sector, or, in format 3, no torn one verifies, whatever the size of the disk.
+abbrev pub CrashKeeps : Bool → Life → Type 0
+CrashKeeps false life = life.damage.items ≡ []
+CrashKeeps true life = (torn : List ℕ → Bool) × ((sectors : ℕ) → IsTold sectors torn) × All (λ d. IsDamage torn d.content) life.damage.items
+
+-- so does that of each, on a disk that holds the state
+abbrev pub CrashesKeep : State → List Life → Type 0
+CrashesKeep s lives = All (CrashKeeps (rides_for s.profile)) lives
 
 -- the failures that a disk counts after lives, by those that it counted before: a crash leaves none
 abbrev pub failures_after : List Life → ℕ → ℕ

@@ -1,6 +1,7 @@
 -- The promise, as a state machine: the transactions that count, and how many of them no crash can lose.
 use Rattle.std.specs.Prelude.{◌≡◌, ◌≤◌, ℕ, List, [], ◌∷◌, ◌++◌, length, map, take, false, None}
 use Rattle.sector_device.specs.Disk.{Disk, Image, LeavesOnly}
+use Rattle.store_journal.specs.Models.{model}
 use Rattle.doc_changes.specs.State.{State}
 use Rattle.doc_machine.specs.Transaction.{Transaction, refusal_in}
 use Rattle.store_commits.specs.Images.{Stands}
@@ -71,10 +72,10 @@ pub record LivesKeep (s : State) (lives : List Life) (parts : List Part) (t : St
 abbrev pub IsLeftOf : Ledger → Image → Type 0
 IsLeftOf l image = (m : Ledger) × Crashed l m × Stands (state_of m) image
 
--- What a call keeps that accepted transactions and answered them as done, and then accepted others, which a fault of its device hit. That is a history, and the store's state is that after those that were answered as done. At each moment of the call every image that a crash may leave is one of a ledger of which nothing lasts yet, and at its end one of which all that were answered as done last.
+-- What a call keeps that accepted transactions and answered them as done, and then accepted others, which a fault of its device hit. That is a history, and the store's state is that after those that were answered as done. At each moment of the call every image that a crash may leave, in the disk model of the store's format, is one of a ledger of which nothing lasts yet, and at its end one of which all that were answered as done last.
 pub record KeepsPromise {D : Type 0} (disk : D → Disk) (old new : StoreView D) (done hit : List Transaction) : Type 0 where
   pub ledger : Ledger
   pub history : History (begun old.account.state) (map accepts done ++ answers ∷ map accepts hit) ledger
   pub state : new.account.state ≡ after_each ledger.begins (take ledger.lasting ledger.counted)
-  pub any_moment : (disk old.device).honest → old.account.broken ≡ false → LeavesOnly (disk old.device) (disk new.device) (IsLeftOf (record ledger { lasting = 0 }))
-  pub at_end : (disk old.device).honest → old.account.broken ≡ false → (image : Image) → (disk new.device).left image → IsLeftOf ledger image
+  pub any_moment : (disk old.device).honest → old.account.broken ≡ false → LeavesOnly (model old.account.rides (disk old.device)) (model old.account.rides (disk new.device)) (IsLeftOf (record ledger { lasting = 0 }))
+  pub at_end : (disk old.device).honest → old.account.broken ≡ false → (image : Image) → (model old.account.rides (disk new.device)).left image → IsLeftOf ledger image

@@ -1,7 +1,8 @@
 -- Lives by the clock of their device: each call counts one, and the fuse stops it after `stop` calls.
 use Rattle.std.specs.Prelude.{◌≡◌, ◌⊎◌, ℕ, ◌+◌, ◌≤◌, ◌<◌, List, [], ◌∷◌, length, Bool, true, false, Option, Some, None, ⊤}
 use Rattle.sector_device.specs.Disk.{Disk, Image}
-use Rattle.store_journal.specs.Carries.{EitherCarried}
+use Rattle.store_journal.specs.Carries.{EitherCarried, NamesBlocks}
+use Rattle.store_journal.specs.Models.{model}
 use Rattle.doc_changes.specs.State.{State}
 use Rattle.store_commits.specs.Account.{Account, StandsAs, extent_of}
 use Rattle.store_commits.specs.Batch.{Commit, failed, passed}
@@ -34,18 +35,21 @@ pub record Left : Type 0 where
 abbrev pub left : State → Image → Bool → Left
 left s image settled = record { state = s; image = image; settled = settled }
 
--- a crash leaves the device as it reads
-abbrev pub HasOneImage : Disk → Type 0
-HasOneImage disk = (image : Image) → disk.left image → image ≡ disk.seen
+-- a crash leaves the device as it reads, in the disk model of that format
+abbrev pub HasOneImage : Bool → Disk → Type 0
+HasOneImage rides disk = (image : Image) → (model rides disk).left image → image ≡ disk.seen
 
 -- An opened life: its first account is what the image carries, the calls of its opening were within the stop, each commit is in time, and the crash leaves what these leave.
 pub record IsTimely (l : Left) (stop faults : ℕ) (events : List Event) (replies : List Reply) (first last : Account) (t : Left) : Type 0 where
   pub found : IsOpenedFrom l.image first
   pub sectors : first.sectors ≡ length l.image
-  pub within : opening_cost found.stands.carried first.state ≤ stop
+  -- in format 3 how many blocks the slot names
+  pub blocks : ℕ
+  pub names : NamesBlocks found.stands.carried blocks l.image
+  pub within : opening_cost found.stands.carried first.state blocks ≤ stop
   pub commits : List Commit
   pub run : IsRun first events replies commits last
-  pub timely : AreInTime stop faults (opening_cost found.stands.carried first.state) commits
+  pub timely : AreInTime stop faults (opening_cost found.stands.carried first.state blocks) commits
   -- if the store works at the end, the disk itself had no fault
   pub none : last.broken ≡ false → faults ≡ 0
   pub leaves : IsLeftBy commits last t.image
@@ -54,7 +58,7 @@ pub record IsTimely (l : Left) (stop faults : ℕ) (events : List Event) (replie
 -- One that was not opened: though the disk itself never failed, the calls that open the image pass the stop; and the crash leaves as many sectors, with what they carry as it is, or as the opening makes it.
 pub record IsLate (l : Left) (stop faults : ℕ) (t : Left) : Type 0 where
   pub stands : Stands l.state l.image
-  pub late : faults ≡ 0 → stop < opening_cost stands.carried l.state
+  pub late : faults ≡ 0 → (blocks : ℕ) → NamesBlocks stands.carried blocks l.image → stop < opening_cost stands.carried l.state blocks
   pub sectors : length t.image ≡ length l.image
   pub leaves : l.settled ≡ true → EitherCarried stands.carried (carried_after stands.carried l.state) t.image
   pub settles : t.settled ≡ true

@@ -1,6 +1,7 @@
 //! The reading of a device, by which its documents are made again.
-ghost use Rattle.std.specs.Prelude.{◌≡◌, IfOk, IfErr};
+ghost use Rattle.std.specs.Prelude.{◌≡◌, Bool, IfOk, IfErr};
 ghost use Rattle.sector_device.specs.Sectors.{KeepsImages};
+ghost use Rattle.store_journal.specs.Models.{model};
 ghost use Rattle.store_commits.specs.Images.{profile_in};
 ghost use Rattle.doc_store.specs.Found.{WasFound};
 ghost use Rattle.doc_store.specs.Opening.{NotOpened};
@@ -20,7 +21,7 @@ pub(crate) fn find<D: SectorDevice>(
 ) -> Result<(Journal<D>, Vec<u8>, Machine), OpenFault<D>>
     ensures found { IfOk result (λ found. WasFound D.disk device found.0 found.1.items found.2) }
     ensures refused { IfErr result (λ fault. NotOpened (D.disk device) (D.disk fault.device) fault.number) }
-    ensures untouched { IfErr result (λ fault. (D.disk fault.device).honest → KeepsImages (D.disk device) (D.disk fault.device)) }
+    ensures untouched { IfErr result (λ fault. (D.disk fault.device).honest → (rides : Bool) → KeepsImages (model rides (D.disk device)) (model rides (D.disk fault.device))) }
     ensures honest_err { IfErr result (λ fault. (D.disk fault.device).honest → (D.disk device).honest) }
 {
     let (journal, bytes) = match Journal::open(alloc, device) {
@@ -37,7 +38,7 @@ pub(crate) fn find<D: SectorDevice>(
     }
 }
 
-// The profile of schemas in a store, by whether small commits ride.
+// The profile of schemas in a store, by whether the last bytes ride in slots.
 fn profile_of(rides: bool) -> Profile
     ensures { result ≡ profile_in rides }
 {

@@ -1,5 +1,6 @@
 //! A life of a disk, and its part: what the store answered in it, and what the crash kept.
 use doc_machine::Transaction;
+use sector_device::Damage;
 use store_commits::{Event, Reply};
 
 /// A life of a disk: the calls that the device passes before its power fails, what the crash then keeps of each
@@ -10,6 +11,8 @@ pub struct Life {
     pub stop: u64,
     /// What the crash keeps of each sector, as `MemDisk::crash` takes it.
     pub picks: Vec<u64>,
+    /// The sectors that it tears, as `MemDisk::crash_torn` takes them.
+    pub damage: Vec<Damage>,
     /// What the store is asked, in order.
     pub events: Vec<Event>,
 }

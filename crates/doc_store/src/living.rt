@@ -2,12 +2,14 @@
 ghost use Rattle.std.specs.Prelude.{◌≡◌, ◌⊎◌, ◌-◌, [], ◌∷◌, Bool, true, IfOk, IfErr};
 ghost use Rattle.sector_device.specs.Disk.{Image};
 ghost use Rattle.sector_device.specs.Memory.{mem_disk};
+ghost use Rattle.store_journal.specs.Models.{model};
 ghost use Rattle.doc_changes.specs.Refusals.{plain};
 ghost use Rattle.doc_changes.specs.State.{State};
 ghost use Rattle.refusals.specs.declared.numbers.TheConstants.{MEMORY, NO_ROOM};
 ghost use Rattle.doc_store.specs.Ending.{Leaves, TimedIf, began_or, with_kept};
 ghost use Rattle.doc_store.specs.Opening.{MayLackRoom};
-ghost use Rattle.doc_store.specs.Lives.{AllStand};
+ghost use Rattle.store_commits.specs.Images.{rides_for};
+ghost use Rattle.doc_store.specs.Lives.{AllStand, CrashKeeps};
 ghost use Rattle.doc_store.specs.Opening.{LacksRoom};
 ghost use Rattle.doc_store.specs.Timed.{HasOneImage, left};
 
@@ -30,18 +32,20 @@ pub struct Ended<D: SectorDevice> {
 
 /// A life of a disk: opened through a fuse, asked, and crashed.
 pub(crate) fn live(alloc: Global, disk: MemDisk, life: Life) -> Result<Ended<MemDisk>, Refusal>
-    ensures lived { (s : State) (settled : Bool) → AllStand (mem_disk disk) s → (settled ≡ true → HasOneImage (mem_disk disk)) → IfOk result (λ ended. (t : State)
+    ensures lived { (s : State) (settled : Bool) → AllStand (mem_disk disk) s → (settled ≡ true → HasOneImage (rides_for s.profile) (mem_disk disk)) → CrashKeeps (rides_for s.profile) life → IfOk result (λ ended. (t : State)
         × TimedIf ((mem_disk disk).failures_saturated → ⊥) (left s (mem_disk disk).seen settled) (life ∷ []) (with_kept ended.part t.seq ∷ []) (left t (mem_disk ended.device).seen true)
         × (began_or ended.part t.seq ≡ s.seq) × AllStand (mem_disk ended.device) t) }
-    ensures alone { IfOk result (λ ended. HasOneImage (mem_disk ended.device)) }
+    ensures alone { IfOk result (λ ended. (rides : Bool) → HasOneImage rides (mem_disk ended.device)) }
     ensures fresh { IfOk result (λ ended. (mem_disk ended.device).failures_saturated → ⊥) }
     ensures uncounted { IfOk result (λ ended. (mem_disk ended.device).failures ≡ 0) }
-    ensures rooms { IfOk result (λ ended. MayLackRoom (mem_disk ended.device) → MayLackRoom (mem_disk disk)) }
+    ensures rooms { (s : State) → AllStand (mem_disk disk) s → CrashKeeps (rides_for s.profile) life
+        → IfOk result (λ ended. MayLackRoom (mem_disk ended.device) → MayLackRoom (mem_disk disk)) }
     ensures err { IfErr result (λ refusal. (refusal ≡ plain MEMORY) ⊎ ((refusal ≡ plain NO_ROOM) × LacksRoom (mem_disk disk).seen)) }
 {
     let Life {
         stop,
         picks,
+        damage,
         events,
     } = life;
     let before = disk.failures();
@@ -53,7 +57,7 @@ pub(crate) fn live(alloc: Global, disk: MemDisk, life: Life) -> Result<Ended<Mem
             disk_faults,
             ..part
         },
-        device: disk.crash(&picks),
+        device: disk.crash_torn(&picks, &damage),
     })
 }
 
@@ -63,10 +67,10 @@ fn spend<D: SectorDevice + Drop>(
     device: D,
     events: Vec<Event>,
 ) -> Result<Ended<D>, Refusal>
-    ensures leaves { (s : State) (life : Life) (settled : Bool) → life.events ≡ events → AllStand (D.disk device) s → (settled ≡ true → HasOneImage (D.disk device))
-        → IfOk result (λ ended. (D.disk ended.device).honest → (image : Image) → (D.disk ended.device).left image
+    ensures leaves { (s : State) (life : Life) (settled : Bool) → life.events ≡ events → AllStand (D.disk device) s → (settled ≡ true → HasOneImage (rides_for s.profile) (D.disk device))
+        → IfOk result (λ ended. (D.disk ended.device).honest → (image : Image) → (model (rides_for s.profile) (D.disk ended.device)).left image
         → Leaves (D.disk device) (left s (D.disk device).seen settled) life (record ended.part { disk_faults = (D.disk ended.device).own_failures - (D.disk device).own_failures }) image) }
-    ensures rooms { IfOk result (λ ended. (D.disk ended.device).honest → MayLackRoom (D.disk ended.device) → MayLackRoom (D.disk device)) }
+    ensures rooms { (s : State) → AllStand (D.disk device) s → IfOk result (λ ended. (D.disk ended.device).honest → MayLackRoom (D.disk ended.device) → MayLackRoom (D.disk device)) }
     ensures err { IfErr result (λ refusal. (refusal ≡ plain MEMORY)
         ⊎ ((refusal ≡ plain NO_ROOM) × (((d : D) → (D.disk d).honest) → LacksRoom (D.disk device).seen))) }
 {

@@ -2,6 +2,7 @@
 ghost use Rattle.std.specs.Prelude.{◌≡◌, ◌≢◌, ◌↔◌, [], ◌∷◌, IfErr, OnOk, None, false};
 ghost use Rattle.sector_device.specs.Charges.{Made};
 ghost use Rattle.sector_device.specs.Disk.{LeavesOnly};
+ghost use Rattle.store_journal.specs.Models.{model};
 ghost use Rattle.doc_changes.specs.State.{Good};
 ghost use Rattle.refusals.specs.declared.numbers.TheConstants.{DEVICE, MEMORY};
 ghost use Rattle.store_commits.specs.Account.{IsStanding};
@@ -13,7 +14,7 @@ ghost use Rattle.store_commits.specs.Folds.{StandsAfter};
 
 use crate::store::Store;
 use doc_machine::Refusal;
-use refusals::numbers::BROKEN;
+use refusals::numbers::{BROKEN, MEMORY};
 use sector_device::SectorDevice;
 use store_commits::copying::{step, take_or_begin};
 use store_commits::{CopyState, Pump};
@@ -25,7 +26,7 @@ impl<D: SectorDevice> Store<D> {
     /// nothing is written and the copy is dropped. The documents and the number of accepted changes stay.
     ///
     /// `BROKEN` if the device failed before; `DEVICE` if it failed in this call. `MEMORY` may come if no copy runs,
-    /// before the device is called. All but `DEVICE` leave everything as it was.
+    /// before the device is called, and comes then if no number of a commit is left. All but `DEVICE` leave everything as it was.
     pub fn pump(&mut self, max: u64) -> Result<Pump, Refusal>
         ensures answer { PumpAnswers self.old.account max result self.new.account }
         ensures ran { Ran D.disk self.old self.new (pump max ∷ []) (reply_of Pumped result ∷ []) }
@@ -50,15 +51,19 @@ impl<D: SectorDevice> Store<D> {
         ensures failed { IfErr result (λ refusal. refusal.number ≡ DEVICE
             → FailedCommit D.disk self.old.device self.new.device (to_step self.old.account max) self.new.account) }
         ensures moments { OnOk result ((D.disk self.old.device).honest → self.old.account.broken ≡ false
-            → LeavesOnly (D.disk self.old.device) (D.disk self.new.device) (StandsAfter self.old.account.state [])) }
+            → LeavesOnly (model self.old.account.rides (D.disk self.old.device)) (model self.old.account.rides (D.disk self.new.device)) (StandsAfter self.old.account.state [])) }
         ensures moments_err { IfErr result (λ refusal. refusal.number ≡ DEVICE → (D.disk self.old.device).honest → self.old.account.broken ≡ false
-            → LeavesOnly (D.disk self.old.device) (D.disk self.new.device) (StandsAfter self.old.account.state [])) }
+            → LeavesOnly (model self.old.account.rides (D.disk self.old.device)) (model self.old.account.rides (D.disk self.new.device)) (StandsAfter self.old.account.state [])) }
         ensures honest { (D.disk self.old.device).honest ↔ (D.disk self.new.device).honest }
         ensures unchanged { IfErr result (λ refusal. refusal.number ≢ DEVICE → self.new ≡ self.old) }
         ensures good { Good self.new.account.state }
     {
         if self.journal.is_broken() {
             return Err(Refusal::plain(BROKEN));
+        }
+        // A copy that runs has a number left for its switch.
+        if !self.journal.has_number() {
+            return Err(Refusal::plain(MEMORY));
         }
         let copying = take_or_begin(self.alloc, &self.machine, &mut self.copy)?;
         if self.journal.capacity() < copying.target.len() as u64 {

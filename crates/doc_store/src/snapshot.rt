@@ -1,6 +1,7 @@
 //! A store's documents written anew, without the changes that led to them.
-ghost use Rattle.std.specs.Prelude.{◌≡◌, ◌≢◌, ◌↔◌, [], ◌∷◌, IfOk, IfErr, OnOk, false};
+ghost use Rattle.std.specs.Prelude.{◌≡◌, ◌≢◌, ◌<◌, ◌↔◌, [], ◌∷◌, IfOk, IfErr, OnOk, false};
 ghost use Rattle.sector_device.specs.Disk.{LeavesOnly};
+ghost use Rattle.store_journal.specs.Models.{model};
 ghost use Rattle.doc_changes.specs.Refusals.{plain};
 ghost use Rattle.doc_changes.specs.State.{Good};
 ghost use Rattle.refusals.specs.declared.numbers.TheConstants.{DEVICE, FULL, MEMORY};
@@ -13,7 +14,7 @@ ghost use Rattle.store_commits.specs.Folds.{StandsAfter};
 
 use crate::store::Store;
 use doc_machine::Refusal;
-use refusals::numbers::{BROKEN, FULL};
+use refusals::numbers::{BROKEN, FULL, MEMORY};
 use sector_device::SectorDevice;
 use store_commits::{commit_snapshot, creations};
 
@@ -23,7 +24,7 @@ impl<D: SectorDevice> Store<D> {
     /// documents and the number of accepted changes stay. A copy that runs is dropped.
     ///
     /// `BROKEN` if the device failed before; else `FULL` if the frames of these creations are longer than a half;
-    /// `DEVICE` if the device failed in this call. `MEMORY` may come in place of any other, before the device is
+    /// `DEVICE` if the device failed in this call. `MEMORY` comes if no number of a commit is left, and may come in place of any other, before the device is
     /// called. All but `DEVICE` leave the device as it was, and all but `DEVICE` and `FULL`, which drop a copy that
     /// runs, everything else.
     pub fn snapshot(&mut self) -> Result<u64, Refusal>
@@ -47,15 +48,18 @@ impl<D: SectorDevice> Store<D> {
         ensures failed { IfErr result (λ refusal. refusal.number ≡ DEVICE
             → FailedCommit D.disk self.old.device self.new.device (to_snapshot self.old.account) self.new.account) }
         ensures moments { OnOk result ((D.disk self.old.device).honest → self.old.account.broken ≡ false
-            → LeavesOnly (D.disk self.old.device) (D.disk self.new.device) (StandsAfter self.old.account.state [])) }
+            → LeavesOnly (model self.old.account.rides (D.disk self.old.device)) (model self.old.account.rides (D.disk self.new.device)) (StandsAfter self.old.account.state [])) }
         ensures moments_err { IfErr result (λ refusal. refusal.number ≡ DEVICE → (D.disk self.old.device).honest → self.old.account.broken ≡ false
-            → LeavesOnly (D.disk self.old.device) (D.disk self.new.device) (StandsAfter self.old.account.state [])) }
+            → LeavesOnly (model self.old.account.rides (D.disk self.old.device)) (model self.old.account.rides (D.disk self.new.device)) (StandsAfter self.old.account.state [])) }
         ensures honest { (D.disk self.old.device).honest ↔ (D.disk self.new.device).honest }
         ensures uncalled { IfErr result (λ refusal. refusal.number ≢ DEVICE → self.new.device ≡ self.old.device) }
         ensures unchanged { IfErr result (λ refusal. refusal.number ≢ DEVICE → refusal.number ≢ FULL → self.new ≡ self.old) }
         ensures good { Good self.new.account.state }
     {
         let frames = self.frames()?;
+        if !self.journal.has_number() {
+            return Err(Refusal::plain(MEMORY));
+        }
         self.copy = None;
         if self.journal.capacity() < frames.len() as u64 {
             return Err(Refusal::plain(FULL));

@@ -7,7 +7,8 @@ ghost use Rattle.doc_changes.specs.State.{State};
 ghost use Rattle.refusals.specs.declared.numbers.TheConstants.{DEVICE, MEMORY, NO_ROOM};
 ghost use Rattle.doc_store.specs.Ending.{TimedIf, all_with_kept};
 ghost use Rattle.doc_store.specs.Opening.{MayLackRoom};
-ghost use Rattle.doc_store.specs.Lives.{AllStand, DiskStands, IsLives, AreRefused, failures_after, refusal_of_lives};
+ghost use Rattle.store_commits.specs.Images.{rides_for};
+ghost use Rattle.doc_store.specs.Lives.{AllStand, CrashesKeep, DiskStands, IsLives, AreRefused, failures_after, refusal_of_lives};
 ghost use Rattle.doc_store.specs.Opening.{IsOpenedFrom};
 ghost use Rattle.doc_store.specs.Promise.{LivesKeep};
 ghost use Rattle.doc_store.specs.Timed.{HasOneImage, Timed, left};
@@ -57,7 +58,8 @@ impl From<Refusal> for LivesFault {
 impl Store<MemDisk> {
     /// Lives of a disk, one after another: the part of each, and the store that opens at last. In each life the disk is
     /// opened through a fuse that passes a given number of calls and then fails each, the store is asked its events,
-    /// and the power goes: of each sector the crash keeps what the picks name. The last opening has no fuse.
+    /// and the power goes: of each sector the crash keeps what the picks name, and it tears those that the damage names,
+    /// which a store in format 3 withstands if none verifies. The last opening has no fuse.
     ///
     /// `MEMORY` if an opening, or the part of a life, was refused memory; `NO_ROOM` if an opening was refused as that,
     /// which only a disk in format 1 is; `DEVICE` if the disk failed at the last opening, also if its memory ran out.
@@ -66,14 +68,14 @@ impl Store<MemDisk> {
         disk: MemDisk,
         lives: Vec<Life>,
     ) -> Result<(Vec<Part>, Store<MemDisk>), Refusal>
-        ensures lives { (s : State) → AllStand (mem_disk disk) s → IfOk result (λ told. IsLives s lives.items told.0.items told.1.account.state) }
-        ensures promise { (s : State) → DiskStands disk s → IfOk result (λ told. LivesKeep s lives.items told.0.items told.1.account.state) }
-        ensures timed { (s : State) (settled : Bool) → AllStand (mem_disk disk) s → (settled ≡ true → HasOneImage (mem_disk disk)) → ((mem_disk disk).failures_saturated → ⊥)
+        ensures lives { (s : State) → AllStand (mem_disk disk) s → CrashesKeep s lives.items → IfOk result (λ told. IsLives s lives.items told.0.items told.1.account.state) }
+        ensures promise { (s : State) → DiskStands disk s → CrashesKeep s lives.items → IfOk result (λ told. LivesKeep s lives.items told.0.items told.1.account.state) }
+        ensures timed { (s : State) (settled : Bool) → AllStand (mem_disk disk) s → (settled ≡ true → HasOneImage (rides_for s.profile) (mem_disk disk)) → CrashesKeep s lives.items → ((mem_disk disk).failures_saturated → ⊥)
             → IfOk result (λ told. (image : Image) × (now : Bool) × IsOpenedFrom image told.1.account
             × Timed (left s (mem_disk disk).seen settled) lives.items told.0.items (left told.1.account.state image now)) }
         ensures works { IfOk result (λ told. (told.1.account.broken ≡ false) × (told.1.account.copy ≡ None)) }
-        ensures stands { (s : State) → AllStand (mem_disk disk) s → IfOk result (λ told. AllStand (mem_disk told.1.device) told.1.account.state) }
-        ensures err { (s : State) → AllStand (mem_disk disk) s → IfErr result (λ refusal. (refusal ≡ plain MEMORY) ⊎ (refusal ≡ plain DEVICE)
+        ensures stands { (s : State) → AllStand (mem_disk disk) s → CrashesKeep s lives.items → IfOk result (λ told. AllStand (mem_disk told.1.device) told.1.account.state) }
+        ensures err { (s : State) → AllStand (mem_disk disk) s → CrashesKeep s lives.items → IfErr result (λ refusal. (refusal ≡ plain MEMORY) ⊎ (refusal ≡ plain DEVICE)
             ⊎ ((refusal ≡ plain NO_ROOM) × MayLackRoom (mem_disk disk))) }
     {
         match Store::lives_or_disk(alloc, disk, lives) {
@@ -88,14 +90,14 @@ impl Store<MemDisk> {
         disk: MemDisk,
         lives: Vec<Life>,
     ) -> Result<(Vec<Part>, Store<MemDisk>), LivesFault>
-        ensures lives { (s : State) → AllStand (mem_disk disk) s → IfOk result (λ told. IsLives s lives.items told.0.items told.1.account.state) }
-        ensures promise { (s : State) → DiskStands disk s → IfOk result (λ told. LivesKeep s lives.items told.0.items told.1.account.state) }
-        ensures timed { (s : State) (settled : Bool) → AllStand (mem_disk disk) s → (settled ≡ true → HasOneImage (mem_disk disk)) → ((mem_disk disk).failures_saturated → ⊥)
+        ensures lives { (s : State) → AllStand (mem_disk disk) s → CrashesKeep s lives.items → IfOk result (λ told. IsLives s lives.items told.0.items told.1.account.state) }
+        ensures promise { (s : State) → DiskStands disk s → CrashesKeep s lives.items → IfOk result (λ told. LivesKeep s lives.items told.0.items told.1.account.state) }
+        ensures timed { (s : State) (settled : Bool) → AllStand (mem_disk disk) s → (settled ≡ true → HasOneImage (rides_for s.profile) (mem_disk disk)) → CrashesKeep s lives.items → ((mem_disk disk).failures_saturated → ⊥)
             → IfOk result (λ told. (image : Image) × (now : Bool) × IsOpenedFrom image told.1.account
             × Timed (left s (mem_disk disk).seen settled) lives.items told.0.items (left told.1.account.state image now)) }
         ensures works { IfOk result (λ told. (told.1.account.broken ≡ false) × (told.1.account.copy ≡ None)) }
-        ensures stands { (s : State) → AllStand (mem_disk disk) s → IfOk result (λ told. AllStand (mem_disk told.1.device) told.1.account.state) }
-        ensures err { (s : State) → AllStand (mem_disk disk) s → IfErr result (AreRefused s lives.items disk) }
+        ensures stands { (s : State) → AllStand (mem_disk disk) s → CrashesKeep s lives.items → IfOk result (λ told. AllStand (mem_disk told.1.device) told.1.account.state) }
+        ensures err { (s : State) → AllStand (mem_disk disk) s → CrashesKeep s lives.items → IfErr result (AreRefused s lives.items disk) }
     {
         let (mut parts, disk) = live_all(alloc, disk, lives)?;
         let store = match Store::open(alloc, disk) {
@@ -109,12 +111,12 @@ impl Store<MemDisk> {
 
 // All lives, one after another: their parts, which don't have yet what was kept, and the disk after the last crash.
 fn live_all(alloc: Global, disk: MemDisk, lives: Vec<Life>) -> Result<(Vec<Part>, MemDisk), Refusal>
-    ensures lived { (s : State) (settled : Bool) → AllStand (mem_disk disk) s → (settled ≡ true → HasOneImage (mem_disk disk)) → IfOk result (λ lived. (t : State) × (now : Bool)
+    ensures lived { (s : State) (settled : Bool) → AllStand (mem_disk disk) s → (settled ≡ true → HasOneImage (rides_for s.profile) (mem_disk disk)) → CrashesKeep s lives.items → IfOk result (λ lived. (t : State) × (now : Bool)
         × TimedIf ((mem_disk disk).failures_saturated → ⊥) (left s (mem_disk disk).seen settled) lives.items (all_with_kept lived.0.items t.seq) (left t (mem_disk lived.1).seen now)
         × AllStand (mem_disk lived.1) t) }
-    ensures rooms { IfOk result (λ lived. MayLackRoom (mem_disk lived.1) → MayLackRoom (mem_disk disk)) }
+    ensures rooms { (s : State) → AllStand (mem_disk disk) s → CrashesKeep s lives.items → IfOk result (λ lived. MayLackRoom (mem_disk lived.1) → MayLackRoom (mem_disk disk)) }
     ensures counts { IfOk result (λ lived. (mem_disk lived.1).failures ≡ failures_after lives.items (mem_disk disk).failures) }
-    ensures err { IfErr result (λ refusal. (refusal ≡ plain MEMORY) ⊎ ((refusal ≡ plain NO_ROOM) × MayLackRoom (mem_disk disk))) }
+    ensures err { (s : State) → AllStand (mem_disk disk) s → CrashesKeep s lives.items → IfErr result (λ refusal. (refusal ≡ plain MEMORY) ⊎ ((refusal ≡ plain NO_ROOM) × MayLackRoom (mem_disk disk))) }
 {
     let mut disk = disk;
     let mut parts = Vec::with_capacity(alloc, lives.len())?;

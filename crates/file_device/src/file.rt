@@ -1,5 +1,5 @@
 //! A file as a device of sectors.
-ghost use Rattle.std.specs.Prelude.{◌≡◌, ◌≤◌, ◌<◌, ◌+◌, ◌*◌, ◌/◌, ◌^◌, IfOk, IfErr, OnOk, OnErr, length, slice_set};
+ghost use Rattle.std.specs.Prelude.{◌≡◌, ◌≤◌, ◌<◌, ◌+◌, ◌*◌, ◌/◌, ◌^◌, Bool, List, Option, ℕ, IfOk, IfErr, OnOk, OnErr, length, slice_set};
 ghost use Rattle.sector_device.specs.Disk.{IsRaised};
 ghost use Rattle.std.specs.Path.{path_bytes};
 ghost use Rattle.sector_device.specs.declared.history.History.{Opened, Created};
@@ -158,7 +158,7 @@ impl FileDevice {
 
 impl FileDevice {
     ghost use Rattle.sector_device.specs.Disk.{Image};
-    ghost use Rattle.sector_device.specs.History.{seen_after, left_after};
+    ghost use Rattle.sector_device.specs.History.{seen_after, left_by};
     ghost use Rattle.file_device.specs.File.{IsSameDevice};
 
     // Hands what is gathered to the system. `Err`: it stays gathered.
@@ -214,7 +214,7 @@ impl FileDevice {
         ensures same { IsSameDevice self.old self.new }
         ensures done { OnOk result (self.new.gathered ≡ 0) }
         ensures forgets { OnOk result (self.new.fetched ≡ 0) }
-        ensures settled { OnOk result ((image : Image) → left_after self.new.system.told.value image → image ≡ seen_after self.new.history) }
+        ensures settled { OnOk result ((torn : Option (List ℕ → Bool)) (image : Image) → left_by torn self.new.system.told.value image → image ≡ seen_after self.new.history) }
     {
         self.hand_over()?;
         self.fetched = 0;
@@ -292,12 +292,14 @@ fn folder_of(path: &str) -> Path<'_>
 }
 
 impl SectorDevice for FileDevice {
-    ghost use Rattle.sector_device.specs.Disk.{Counts, Reads, StaysHonest, Writes, Syncs};
-    ghost use Rattle.file_device.specs.File.{file_disk, file_coherent};
+    ghost use Rattle.sector_device.specs.Disk.{Counts, Reads, StaysHonest, Writes, Syncs, Tears, tearing};
+    ghost use Rattle.file_device.specs.File.{file_disk, file_coherent, file_tearing};
 
     ghost disk = { file_disk };
 
     ghost coherent = { file_coherent };
+
+    ghost torn_coherent = { file_tearing };
 
     fn sectors(&self) -> u64 {
         self.sectors
@@ -310,6 +312,7 @@ impl SectorDevice for FileDevice {
         ensures counts { Counts (file_disk self.old) (file_disk self.new) result }
         ensures reads { (file_disk self.new).honest → Reads (file_disk self.old) (file_disk self.new) at into.new result }
         ensures stays { StaysHonest (file_disk self.old) (file_disk self.new) at into.new result }
+        ensures torn { (torn : List ℕ → Bool) → (file_disk self.new).honest → Reads (tearing torn (file_disk self.old)) (tearing torn (file_disk self.new)) at into.new result }
         ensures failed { OnErr result (IsRaised (file_disk self.old).failures (file_disk self.new).failures) }
     {
         match self.fetch(at) {
@@ -333,6 +336,7 @@ impl SectorDevice for FileDevice {
         requires { at < (file_disk self.old).sectors }
         ensures counts { Counts (file_disk self.old) (file_disk self.new) result }
         ensures writes { (file_disk self.old).honest → Writes (file_disk self.old) (file_disk self.new) at from.now result }
+        ensures torn { (torn : List ℕ → Bool) → (file_disk self.old).honest → Tears torn (file_disk self.old) (file_disk self.new) at from.now }
         ensures failed { OnErr result (IsRaised (file_disk self.old).failures (file_disk self.new).failures) }
     {
         match self.make_room(at) {
@@ -356,6 +360,7 @@ impl SectorDevice for FileDevice {
     fn sync(&mut self) -> Result<(), DeviceFault>
         ensures counts { Counts (file_disk self.old) (file_disk self.new) result }
         ensures syncs { (file_disk self.old).honest → Syncs (file_disk self.old) (file_disk self.new) result }
+        ensures torn { (torn : List ℕ → Bool) → (file_disk self.old).honest → Syncs (tearing torn (file_disk self.old)) (tearing torn (file_disk self.new)) result }
         ensures failed { OnErr result (IsRaised (file_disk self.old).failures (file_disk self.new).failures) }
     {
         match self.settle() {

@@ -1,7 +1,7 @@
 //! A file, and the calls that the system makes of it.
-ghost use Rattle.std.specs.Prelude.{◌≡◌, ◌≤◌, ◌<◌, ◌+◌, ◌*◌, ◌^◌, ℕ, [], OnOk, OnErr, length, slice_index_or};
+ghost use Rattle.std.specs.Prelude.{◌≡◌, ◌≤◌, ◌<◌, ◌+◌, ◌*◌, ◌^◌, Bool, List, Option, ℕ, [], OnOk, OnErr, length, slice_index_or};
 ghost use Rattle.sector_device.specs.Disk.{Image};
-ghost use Rattle.sector_device.specs.History.{seen_after, left_after, KeepsTo};
+ghost use Rattle.sector_device.specs.History.{seen_after, left_by, KeepsTo};
 ghost use Rattle.file_device.specs.Runs.{put_run, IsOverSome};
 
 use sector_device::{DeviceFault, History, SECTOR_BYTES};
@@ -47,7 +47,7 @@ impl SystemFile {
         requires places { 512 * (first + count) < 2 ^ 64 }
         ensures written { OnOk result (seen_after self.new.told.value ≡ put_run (seen_after self.old.told.value) first run.now count) }
         ensures failed { OnErr result (seen_after self.new.told.value ≡ seen_after self.old.told.value) }
-        ensures left { (image : Image) → left_after self.new.told.value image → IsOverSome (left_after self.old.told.value) first run.now count image }
+        ensures left { (torn : Option (List ℕ → Bool)) (image : Image) → left_by torn self.new.told.value image → IsOverSome torn (left_by torn self.old.told.value) first run.now count image }
         ensures honest { (n : ℕ) → KeepsTo n self.new.told.value → KeepsTo n self.old.told.value }
     {
         let told = self.take_told();
@@ -72,7 +72,7 @@ impl SystemFile {
         requires places { 512 * (first + most) < 2 ^ 64 }
         ensures most { result ≤ most }
         ensures seen { seen_after self.new.told.value ≡ seen_after self.old.told.value }
-        ensures left { (image : Image) → left_after self.new.told.value image → left_after self.old.told.value image }
+        ensures left { (torn : Option (List ℕ → Bool)) (image : Image) → left_by torn self.new.told.value image → left_by torn self.old.told.value image }
         ensures honest { (n : ℕ) → KeepsTo n self.new.told.value → KeepsTo n self.old.told.value }
         ensures gave { (n : ℕ) → KeepsTo n self.new.told.value → (j : ℕ) → j < result → slice_index_or run.new j [] ≡ slice_index_or (seen_after self.old.told.value) (first + j) [] }
     {
@@ -93,8 +93,8 @@ impl SystemFile {
     /// The system's sync of the file's contents (`fdatasync`).
     pub fn sync(&mut self) -> Result<(), DeviceFault>
         ensures seen { seen_after self.new.told.value ≡ seen_after self.old.told.value }
-        ensures settled { OnOk result ((image : Image) → left_after self.new.told.value image → image ≡ seen_after self.old.told.value) }
-        ensures left { (image : Image) → left_after self.new.told.value image → left_after self.old.told.value image }
+        ensures settled { OnOk result ((torn : Option (List ℕ → Bool)) (image : Image) → left_by torn self.new.told.value image → image ≡ seen_after self.old.told.value) }
+        ensures left { (torn : Option (List ℕ → Bool)) (image : Image) → left_by torn self.new.told.value image → left_by torn self.old.told.value image }
         ensures honest { (n : ℕ) → KeepsTo n self.new.told.value → KeepsTo n self.old.told.value }
     {
         match self.file.sync_data() {
@@ -128,7 +128,7 @@ fn note_written(
     requires count { count ≤ length run.now }
     requires places { 512 * (first + count) < 2 ^ 64 }
     ensures seen { seen_after result.value ≡ put_run (seen_after told.value) first run.now count }
-    ensures left { (image : Image) → left_after result.value image → IsOverSome (left_after told.value) first run.now count image }
+    ensures left { (torn : Option (List ℕ → Bool)) (image : Image) → left_by torn result.value image → IsOverSome torn (left_by torn told.value) first run.now count image }
     ensures honest { (n : ℕ) → KeepsTo n result.value → KeepsTo n told.value }
 {
     let mut noted = told;
@@ -153,7 +153,7 @@ fn note_failed(
     requires count { count ≤ length run.now }
     requires places { 512 * (first + count) < 2 ^ 64 }
     ensures seen { seen_after result.value ≡ seen_after told.value }
-    ensures left { (image : Image) → left_after result.value image → IsOverSome (left_after told.value) first run.now count image }
+    ensures left { (torn : Option (List ℕ → Bool)) (image : Image) → left_by torn result.value image → IsOverSome torn (left_by torn told.value) first run.now count image }
     ensures honest { (n : ℕ) → KeepsTo n result.value → KeepsTo n told.value }
 {
     let mut noted = told;
@@ -178,7 +178,7 @@ fn note_read(
     requires count { count ≤ length run.now }
     requires places { 512 * (first + count) < 2 ^ 64 }
     ensures seen { seen_after result.value ≡ seen_after told.value }
-    ensures left { (image : Image) → left_after result.value image → left_after told.value image }
+    ensures left { (torn : Option (List ℕ → Bool)) (image : Image) → left_by torn result.value image → left_by torn told.value image }
     ensures honest { (n : ℕ) → KeepsTo n result.value → KeepsTo n told.value }
     ensures gave { (n : ℕ) → KeepsTo n result.value → (j : ℕ) → j < count → slice_index_or run.now j [] ≡ slice_index_or (seen_after told.value) (first + j) [] }
 {

@@ -1,11 +1,11 @@
 -- A store copied into a file that was created for it.
-use Rattle.std.proofs.Common.{◌≡◌, ◌⊎◌, inl, ⊎_elim, ℕ, zero, suc, List, get_or, ap, subst, ◌∙◌, arith}
+use Rattle.std.proofs.Common.{◌≡◌, ◌⊎◌, inl, ⊎_elim, ℕ, zero, suc, List, None, get_or, ap, subst, ◌∙◌, arith}
 use Rattle.sector_device.specs.Disk.{Image}
-use Rattle.sector_device.specs.History.{left_after, left_since, moment_of, seen_after, zeros_of}
+use Rattle.sector_device.specs.History.{left_after, moment_of, seen_after, since_by, zeros_of}
 use Rattle.sector_device.specs.declared.history.History.{History, Created}
+use Rattle.half_journal.specs.Layout.{HasMagic}
 use Rattle.file_device.specs.declared.file.FileDevice.{FileDevice}
 use Rattle.file_device.specs.File.{file_disk}
-use Rattle.store_journal.specs.Opening.{HasMagic}
 use Rattle.store_commits.specs.Account.{Account}
 use Rattle.doc_store.specs.Opening.{IsCopyOf}
 use Rattle.jpstore.specs.Copies.{IsCopiedFile, IsFilled}
@@ -24,5 +24,5 @@ copied_file sectors a old new size created filled = record {
   size = filled.size ∙ size;
   copies = filled.copies;
   any_moment = λ honest image since. ⊎_elim (λ before. inl (λ magic. zeros_have_none sectors (subst HasMagic before magic))) (λ h. h.1)
-      (subst (λ (p : History). (image : Image) → left_since new.history (moment_of p) image → Leaves a p image) created (filled.any_moment honest).each image since);
+      (subst (λ (p : History). (image : Image) → since_by None new.history (moment_of p) image → Leaves a p image) created (filled.any_moment honest).each image since);
 }

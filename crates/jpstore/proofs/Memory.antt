@@ -1,7 +1,8 @@
 -- A disk in memory that was formatted and opened is a store in which nothing was ever made.
 use Rattle.std.proofs.Common.{◌≡◌, ◌∙◌, ℕ, Bool, false, [], Option, None, length, refl, ap, sym}
 use Rattle.sector_device.specs.Disk.{Disk, Image}
-use Rattle.store_journal.specs.Carries.{Carried, Carries, one_more}
+use Rattle.half_journal.specs.States.{one_more}
+use Rattle.store_journal.specs.Carries.{Carried, Carries}
 use Rattle.store_journal.specs.Opening.{nothing_in}
 use Rattle.doc_changes.specs.State.{State, empty}
 use Rattle.store_commits.specs.Account.{Account, Copy}

@@ -1,5 +1,5 @@
 -- The work of a program for a call, by what it kept.
-use Rattle.std.specs.Prelude.{◌≡◌, ℕ, List, Option, Result, Ok, Err, IfOk, MatchResult, false, pos, true, codes}
+use Rattle.std.specs.Prelude.{◌≡◌, ℕ, List, Option, Result, Ok, Err, IfOk, MatchResult, false, pos, true, codes, nat_eq}
 use Rattle.std.specs.declared.snapshot.Snapshot.{Snapshot}
 use Rattle.command_line.specs.Call.{Asked, format, serve, check, copy, upgrade, mem}
 use Rattle.store_journal.specs.Layout.{capacity_of}
@@ -73,7 +73,7 @@ IsRefused held unopened before after = IsUnopenedIn held unopened × (after ≡ 
 -- was written before to what was written then.
 abbrev pub Does : Snapshot Held → Asked → Kept → Option (List ℕ) → Option (List ℕ) → Option (List ℕ) → Option (List ℕ) → Type 0
 Does held (format file sectors version mode sparse) (Formatted made) left left_new before after =
-    IfOk made (IsFormattedFile sectors version) × Shows made (line_of (format_reply (capacity_of sectors) sectors)) before after × (left_new ≡ left)
+    IfOk made (IsFormattedFile sectors version) × Shows made (line_of (format_reply (capacity_of (nat_eq version 3) sectors) sectors)) before after × (left_new ≡ left)
 Does held (serve file batch pump) (Served served) left left_new before after =
     MatchResult served (λ closed. IsServing held batch pump closed left left_new before after) (λ unopened. IsRefused held unopened before after × (left_new ≡ left))
 Does held (check file) (Checked checked) left left_new before after =

@@ -1,10 +1,10 @@
 -- The result of `copy`: a new file with a copy of a store.
 use Rattle.std.specs.Prelude.{◌≡◌, ◌⊎◌, ℕ, length, false, None}
 use Rattle.sector_device.specs.Disk.{Disk, Image, LeavesOnly}
+use Rattle.half_journal.specs.Layout.{HasMagic}
 use Rattle.file_device.specs.declared.file.FileDevice.{FileDevice}
 use Rattle.file_device.specs.File.{file_disk}
 use Rattle.store_journal.specs.Filling.{NoneOrAll}
-use Rattle.store_journal.specs.Opening.{HasMagic}
 use Rattle.schema_rules.specs.declared.profile.Profile.TheVariants.{Two}
 use Rattle.doc_changes.specs.State.{in_profile}
 use Rattle.store_commits.specs.Account.{Account}
@@ -13,7 +13,7 @@ use Rattle.store_commits.specs.Snapshot.{snapshot_bytes}
 
 -- A file was created with `sectors` sectors, and the store copied into it: if all reads gave what the file held, each
 -- image that a crash may leave holds the same state, opened as often; and what a crash might have left at any moment
--- until now is that, or no store.
+-- until now is that, or doesn't begin as a store does.
 pub record IsCopiedFile (sectors : ℕ) (a : Account) (device : FileDevice) : Type 0 where
   pub size : (file_disk device).sectors ≡ sectors
   pub copies : (file_disk device).honest → (image : Image) → (file_disk device).left image → IsCopyOf a image

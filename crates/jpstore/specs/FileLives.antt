@@ -1,5 +1,5 @@
 -- The lives of a store in a file: processes that open it one after another.
-use Rattle.std.specs.Prelude.{◌≡◌, ◌⊎◌, List, ◌++◌}
+use Rattle.std.specs.Prelude.{◌≡◌, ◌⊎◌, Bool, List, ◌++◌}
 use Rattle.std.specs.declared.snapshot.Snapshot.{Snapshot}
 use Rattle.sector_device.specs.Disk.{Image}
 use Rattle.sector_device.specs.declared.history.Held.{Held}
@@ -7,6 +7,7 @@ use Rattle.sector_device.specs.declared.history.History.{Opened}
 use Rattle.file_device.specs.declared.file.FileDevice.{FileDevice}
 use Rattle.sector_device.specs.History.{left_after}
 use Rattle.file_device.specs.File.{file_disk}
+use Rattle.store_journal.specs.Models.{model}
 use Rattle.doc_machine.specs.Transaction.{Transaction}
 use Rattle.doc_changes.specs.State.{State}
 use Rattle.store_commits.specs.Account.{StoreView}
@@ -20,12 +21,12 @@ use Rattle.jpstore.specs.Files.{IsOpenedIn, RanIn}
 abbrev pub HeldStands : State → List Transaction → Snapshot Held → Type 0
 HeldStands state transactions held = (image : Image) → left_after (Opened held) image → StandsAfter state transactions image
 
--- The next process finds the file as this one left it at its end; or as a crash left it at some moment of this one, or at its end.
-abbrev pub FoundAtEnd : FileDevice → Snapshot Held → Type 0
-FoundAtEnd device later = (image : Image) → left_after (Opened later) image → (file_disk device).left image
+-- The next process finds the file as this one left it at its end; or as a crash left it at some moment of this one, or at its end: in the disk model of that format.
+abbrev pub FoundAtEnd : Bool → FileDevice → Snapshot Held → Type 0
+FoundAtEnd rides device later = (image : Image) → left_after (Opened later) image → (model rides (file_disk device)).left image
 
-abbrev pub FoundAtSomeMoment : FileDevice → Snapshot Held → Type 0
-FoundAtSomeMoment device later = (image : Image) → left_after (Opened later) image → (file_disk device).left_since 0 image
+abbrev pub FoundAtSomeMoment : Bool → FileDevice → Snapshot Held → Type 0
+FoundAtSomeMoment rides device later = (image : Image) → left_after (Opened later) image → (model rides (file_disk device)).left_since 0 image
 
 -- this is the state after some of the transactions, the first of them first
 pub record IsStateAfter (state : State) (transactions : List Transaction) (next : State) : Type 0 where
@@ -43,10 +44,10 @@ OpensToAState = (state : State) (transactions : List Transaction) (held : Snapsh
 -- state after some of those that the device's failure hit, the first of them first.
 abbrev pub LeavesItsState : Type 0
 LeavesItsState = (held later : Snapshot Held) (opened closed : StoreView FileDevice) (events : List Event) (replies : List Reply) → RanIn held opened closed events replies → (file_disk closed.device).honest
-    → FoundAtEnd closed.device later → HeldStands closed.account.state (hits_of events replies) later
+    → FoundAtEnd opened.account.rides closed.device later → HeldStands closed.account.state (hits_of events replies) later
 
 -- And if it is stopped at any moment, what it found, or the state that it opened and some of the transactions that it accepted, each whole, the first of them first.
 abbrev pub LeavesAState : Type 0
 LeavesAState = (state : State) (transactions : List Transaction) (held later : Snapshot Held) (opened closed : StoreView FileDevice) (events : List Event) (replies : List Reply) → HeldStands state transactions held
-    → RanIn held opened closed events replies → (file_disk closed.device).honest → FoundAtSomeMoment closed.device later
+    → RanIn held opened closed events replies → (file_disk closed.device).honest → FoundAtSomeMoment opened.account.rides closed.device later
     → (image : Image) → left_after (Opened later) image → StandsAfter state transactions image ⊎ StandsAfter opened.account.state (dones_of events replies ++ hits_of events replies) image

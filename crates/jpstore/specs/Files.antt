@@ -1,5 +1,5 @@
 -- The programs over a store in a file.
-use Rattle.std.specs.Prelude.{◌≡◌, ◌≢◌, ◌⊎◌, ℕ, List, ◌++◌, Option, Result, Ok, Err, false, nat_eq, if◌then◌else◌}
+use Rattle.std.specs.Prelude.{◌≡◌, ◌≢◌, ◌⊎◌, ℕ, Bool, List, ◌++◌, Option, Result, Ok, Err, false, nat_eq, if◌then◌else◌}
 use Rattle.std.specs.declared.snapshot.Snapshot.{Snapshot}
 use Rattle.std.specs.Io.KnownBytes.{Consumes, IsAtEnd}
 use Rattle.sector_device.specs.Disk.{Disk, Image}
@@ -9,10 +9,11 @@ use Rattle.file_device.specs.declared.file.FileDevice.{FileDevice}
 use Rattle.sector_device.specs.History.{left_after, disk_after}
 use Rattle.file_device.specs.File.{file_disk}
 use Rattle.store_journal.specs.Carries.{Carries}
+use Rattle.store_journal.specs.Models.{model}
 use Rattle.store_journal.specs.Opening.{nothing_in}
 use Rattle.store_journal.specs.declared.fault.OpenFault.{OpenFault}
 use Rattle.store_commits.specs.Account.{StoreView, IsStanding}
-use Rattle.doc_store.specs.Opening.{IsOpenedFrom, IsRefusedAs, LacksRoom, NotOpened, OldOrStands}
+use Rattle.doc_store.specs.Opening.{IsOfFormat, IsOpenedFrom, IsRefusedAs, LacksRoom, NotOpened, OldOrStands}
 use Rattle.store_commits.specs.Run.{Event, Ran, dones_of, hits_of}
 use Rattle.store_commits.specs.declared.event.Reply.{Reply}
 use Rattle.store_commits.specs.Images.{Stands}
@@ -45,24 +46,24 @@ WentToTheEnd ended = (ended ≡ Ok tt) ⊎ (ended ≡ Err (fault_of DEVICE))
 
 -- A store was opened in a file that held this. If all reads gave what the file held, it is the state of the file,
 -- opened one time more, for which a half had room if it was in format 1; and what a crash might have left at any moment
--- until now is an image from before or holds the same state.
+-- until now, in the disk model of the store's format, is an image from before or holds the same state.
 pub record IsOpenedIn (held : Snapshot Held) (store : StoreView FileDevice) : Type 0 where
   pub works : store.account.broken ≡ false
   pub found : (file_disk store.device).honest → IsOpenedFrom held.value.seen.items store.account
-  pub any_moment : (file_disk store.device).honest → (image : Image) → (file_disk store.device).left_since 0 image → OldOrStands (disk_after 0 (Opened held) 0) image
+  pub any_moment : (file_disk store.device).honest → (image : Image) → (model store.account.rides (file_disk store.device)).left_since 0 image → OldOrStands (disk_after 0 (Opened held) 0) image
   pub standing : IsStanding (file_disk store.device) store.account
 
 -- The store in a file that held this was refused, for what its device then was, of this many sectors and failures, or did. If all that was read was there: if that holds a state,
 -- the device failed or memory was refused, or it is in format 1 and a half has no room for it in format 2, which is said of nothing else; the file has as
--- many sectors; what a crash might have left at any moment until now is an image from before or holds that state; and but for the device's failure
--- it is an image from before.
+-- many sectors; what a crash might have left at any moment until now, in the disk model of that state's format, is an image from before or holds that
+-- state; and but for the device's failure it is, in either disk model, an image from before.
 pub record IsRefusedIn (held : Snapshot Held) (sectors failures : ℕ) (fault : OpenFault FileDevice) : Type 0 where
   pub why : NotOpened (disk_after sectors (Opened held) failures) (file_disk fault.device) fault.number
   pub exact : (state : State) → Stands state held.value.seen.items → (file_disk fault.device).honest → IsRefusedAs held.value.seen.items fault.number
   pub no_room : (file_disk fault.device).honest → fault.number ≡ NO_ROOM → LacksRoom held.value.seen.items
   pub size : (file_disk fault.device).honest → (file_disk fault.device).sectors ≡ sectors
-  pub any_moment : (file_disk fault.device).honest → (image : Image) → (file_disk fault.device).left_since 0 image → OldOrStands (disk_after 0 (Opened held) 0) image
-  pub untouched : (file_disk fault.device).honest → fault.number ≢ DEVICE → (image : Image) → (file_disk fault.device).left_since 0 image → left_after (Opened held) image
+  pub any_moment : (file_disk fault.device).honest → (rides : Bool) → IsOfFormat rides held.value.seen.items → (image : Image) → (model rides (file_disk fault.device)).left_since 0 image → OldOrStands (disk_after 0 (Opened held) 0) image
+  pub untouched : (file_disk fault.device).honest → fault.number ≢ DEVICE → (rides : Bool) → (image : Image) → (model rides (file_disk fault.device)).left_since 0 image → left_after (Opened held) image
 
 -- No store was opened on a device of this many sectors and failures that held this.
 abbrev pub IsUnopenedOn : Snapshot Held → ℕ → ℕ → Unopened → Type 0
@@ -78,13 +79,13 @@ IsUnopenedIn held (NoStore fault) = (sectors : ℕ) × IsRefusedIn held sectors 
 pub record RanIn (held : Snapshot Held) (opened closed : StoreView FileDevice) (events : List Event) (replies : List Reply) : Type 0 where
   pub is_opened : IsOpenedIn held opened
   pub ran : Ran file_disk opened closed events replies
-  -- If all reads gave what the file held: what a crash might have left at any moment is an image from before, or holds
-  -- the state that was opened, or that after some of the accepted changes, the first of them first.
-  pub any_moment : (file_disk closed.device).honest → (image : Image) → (file_disk closed.device).left_since 0 image
+  -- If all reads gave what the file held: what a crash might have left at any moment, in the disk model of the store's
+  -- format, is an image from before, or holds the state that was opened, or that after some of the accepted changes, the first of them first.
+  pub any_moment : (file_disk closed.device).honest → (image : Image) → (model opened.account.rides (file_disk closed.device)).left_since 0 image
       → OldOrStands (disk_after 0 (Opened held) 0) image ⊎ StandsAfter opened.account.state (dones_of events replies ++ hits_of events replies) image
   -- At the end it holds the state after all that were answered as done, with or without those that the device's failure
   -- hit.
-  pub last : (file_disk closed.device).honest → (image : Image) → (file_disk closed.device).left image → StandsAfter closed.account.state (hits_of events replies) image
+  pub last : (file_disk closed.device).honest → (image : Image) → (model opened.account.rides (file_disk closed.device)).left image → StandsAfter closed.account.state (hits_of events replies) image
   pub standing : IsStanding (file_disk closed.device) closed.account
 
 -- the options of a session that ends by its input alone, with batches of at most `batch` changes and steps of at most
@@ -111,7 +112,8 @@ pub record IsClosedIn (held : Snapshot Held) (closed : StoreView FileDevice) : T
   pub went : RanIn held opened closed events replies
 
 -- A file was created with `sectors` sectors, and an empty store in it, in format 2 or 3: if all reads gave what the
--- file held, each image that a crash may leave carries no bytes in that format, seq 0 and opens 0.
+-- file held, each image that a crash may leave, in that format's disk model, carries no bytes in that format, seq 0 and
+-- opens 0.
 pub record IsFormattedFile (sectors version : ℕ) (device : FileDevice) : Type 0 where
   pub size : (file_disk device).sectors ≡ sectors
-  pub empty : (file_disk device).honest → (image : Image) → (file_disk device).left image → Carries (nothing_in (nat_eq version 3)) image
+  pub empty : (file_disk device).honest → (image : Image) → (model (nat_eq version 3) (file_disk device)).left image → Carries (nothing_in (nat_eq version 3)) image

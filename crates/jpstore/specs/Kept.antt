@@ -8,6 +8,7 @@ use Rattle.sector_device.specs.declared.history.History.{Opened}
 use Rattle.sector_device.specs.History.{disk_after}
 use Rattle.file_device.specs.declared.file.FileDevice.{FileDevice}
 use Rattle.file_device.specs.File.{file_disk}
+use Rattle.store_journal.specs.Models.{model}
 use Rattle.store_commits.specs.Account.{StoreView}
 use Rattle.doc_store.specs.Opening.{OldOrStands}
 use Rattle.doc_store.specs.Promise.{IsLeftOf}
@@ -27,7 +28,7 @@ pub record IsKeptIn (held : Snapshot Held) (ended : Result (Unit {0}) Fault) (le
   -- At the end of the input no line is without a reply; and unless the writer failed the lines of the replies are all that was written.
   pub whole : WentToTheEnd ended → (kept.later ≡ []) × IsAtEnd left_new
   pub wrote : (ended ≡ Err (Session Writer) → ⊥) → Appends before after (reply_lines kept.replies)
-  -- If all that was read was there: what a crash might have left at any moment is an image from before, or holds the state that was opened, or one of the ledger; and at the end all that were answered as done last.
-  pub any_moment : (file_disk closed.device).honest → (image : Image) → (file_disk closed.device).left_since 0 image
+  -- If all that was read was there: what a crash might have left at any moment, in the disk model of the store's format, is an image from before, or holds the state that was opened, or one of the ledger; and at the end all that were answered as done last.
+  pub any_moment : (file_disk closed.device).honest → (image : Image) → (model opened.account.rides (file_disk closed.device)).left_since 0 image
       → OldOrStands (disk_after 0 (Opened held) 0) image ⊎ IsLeftOf (record kept.promise.ledger { lasting = 0 }) image
-  pub at_end : (file_disk closed.device).honest → (image : Image) → (file_disk closed.device).left image → IsLeftOf kept.promise.ledger image
+  pub at_end : (file_disk closed.device).honest → (image : Image) → (model opened.account.rides (file_disk closed.device)).left image → IsLeftOf kept.promise.ledger image

@@ -8,6 +8,7 @@ use Rattle.sector_device.specs.History.{disk_after}
 use Rattle.file_device.specs.declared.file.FileDevice.{FileDevice}
 use Rattle.file_device.specs.File.{file_disk}
 use Rattle.doc_tree.specs.Doc.{Doc, boolean, int, object, member, no_members}
+use Rattle.store_journal.specs.Models.{model}
 use Rattle.store_commits.specs.Account.{IsStanding, StoreView}
 use Rattle.doc_store.specs.Formats.{InEither, IsImageOf, account_in}
 use Rattle.doc_store.specs.Opening.{OldOrStands}
@@ -20,12 +21,12 @@ abbrev pub format_numbered : ℕ → Format
 format_numbered number = if nat_eq number 3 then Three else Two
 
 -- A store was opened in a file that held this, and went as far to a format as its device let it. If all reads gave what
--- the file held, what a crash might have left at any moment is an image from before, or holds what was opened, in its
+-- the file held, what a crash might have left at any moment, in its format's disk model, is an image from before, or holds what was opened, in its
 -- format or in that one.
 pub record WentTo (held : Snapshot Held) (format : Format) (opened closed : StoreView FileDevice) : Type 0 where
   pub is_opened : IsOpenedIn held opened
   pub honest : (file_disk closed.device).honest → (file_disk opened.device).honest
-  pub any_moment : (file_disk closed.device).honest → (image : Image) → (file_disk closed.device).left_since 0 image
+  pub any_moment : (file_disk closed.device).honest → (image : Image) → (model opened.account.rides (file_disk closed.device)).left_since 0 image
       → OldOrStands (disk_after 0 (Opened held) 0) image ⊎ InEither opened.account format image
   pub standing : IsStanding (file_disk closed.device) closed.account
 
@@ -33,7 +34,7 @@ pub record WentTo (held : Snapshot Held) (format : Format) (opened closed : Stor
 -- format.
 pub record IsUpgraded (format : Format) (opened closed : StoreView FileDevice) : Type 0 where
   pub account_is : closed.account ≡ account_in format opened.account
-  pub images : (file_disk closed.device).honest → (image : Image) → (file_disk closed.device).left image → IsImageOf closed.account image
+  pub images : (file_disk closed.device).honest → (image : Image) → (model closed.account.rides (file_disk closed.device)).left image → IsImageOf closed.account image
 
 -- the reply: the format it is in, and the one it was in when it was opened
 abbrev pub upgrade_reply : ℕ → ℕ → Doc

@@ -1,18 +1,25 @@
 //! Lives of a formatted disk of 16 sectors: which call stops them, and what the crash keeps.
 //!
-//! The first opening makes 4 calls, the creation of `d` 4 more, and that of `e`, over two sectors, 5.
+//! The first opening makes 4 calls, the creation of `d` 4 more, and that of `e`, over two sectors, 5. In format 3, on 160
+//! sectors, the first opening makes 134, and the creation of `d` writes sectors 64 and 96, and syncs.
 use doc_store::{Command, Event, Life, Part, Store, Transaction, command_of};
 use doc_tree::Tree;
-use sector_device::MemDisk;
+use sector_device::{Damage, MemDisk};
 use std::alloc::Global;
 use std::process::Abort;
-use store_journal::format;
+use store_journal::{format, format_in};
 
 const CREATE_D: &str = r#"{"cmd":"create","doc":{"a":1},"name":"d","schema":true}"#;
 
 fn formatted(rt: &impl Abort, alloc: Global) -> MemDisk {
     let mut disk = MemDisk::new(alloc, 16).expect(rt, "a disk");
     format(&mut disk).expect(rt, "formatted");
+    disk.crash(&[])
+}
+
+fn formatted_in_3(rt: &impl Abort, alloc: Global) -> MemDisk {
+    let mut disk = MemDisk::new(alloc, 160).expect(rt, "a disk");
+    format_in(&mut disk, true).expect(rt, "formatted");
     disk.crash(&[])
 }
 
@@ -47,12 +54,22 @@ fn idle(rt: &impl Abort, alloc: Global, stop: u64, picks: &[u64]) -> Life {
     Life {
         stop,
         picks: Vec::from_slice(alloc, picks).expect(rt, "room"),
+        damage: Vec::new(alloc),
         events: Vec::new(alloc),
     }
 }
 
 fn lived(rt: &impl Abort, alloc: Global, all: Vec<Life>) -> (Vec<Part>, Store<MemDisk>) {
-    match Store::lives(alloc, formatted(rt, alloc), all) {
+    lived_on(rt, alloc, formatted(rt, alloc), all)
+}
+
+fn lived_on(
+    rt: &impl Abort,
+    alloc: Global,
+    disk: MemDisk,
+    all: Vec<Life>,
+) -> (Vec<Part>, Store<MemDisk>) {
+    match Store::lives(alloc, disk, all) {
         Ok(told) => told,
         Err(_) => panic!(rt; "an opening was refused"),
     }
@@ -175,4 +192,39 @@ fn reopened(rt: &impl Abort, alloc: Global, picks: u64, opens: u64) {
 fn a_reopening_is_stopped_too(rt: HostRuntime) {
     reopened(&rt, rt.alloc(), 0, 2);
     reopened(&rt, rt.alloc(), 1, 3);
+}
+
+// A creating life in format 3 that is stopped before the sync of its first change. The crash keeps what was written to the
+// sectors with a pick, and tears one of them.
+fn torn(rt: &impl Abort, alloc: Global, keeps: &[u64], tears: u64) -> Vec<Life> {
+    let mut life = creating(rt, alloc, 136, &[]);
+    for at in 0..160u64 {
+        let pick = if keeps.contains(&at) { 1 } else { 0 };
+        life.picks.push(pick).expect(rt, "room");
+    }
+    life.damage
+        .push(Damage {
+            at: tears,
+            content: [0xd5; 512],
+        })
+        .expect(rt, "room");
+    let mut all = Vec::new(alloc);
+    all.push(life).expect(rt, "room");
+    all
+}
+
+// Asserts how many changes it keeps.
+fn keeps(rt: &impl Abort, alloc: Global, all: Vec<Life>, kept: u64) {
+    let (parts, store) = lived_on(rt, alloc, formatted_in_3(rt, alloc), all);
+    tells(rt, &parts, 0, (true, 2, 1, 0, kept, 0));
+    stands_at(rt, &store, kept);
+}
+
+#[test]
+fn one_slot_in_a_torn_block(rt: HostRuntime) {
+    let alloc = rt.alloc();
+    keeps(&rt, alloc, torn(&rt, alloc, &[], 64), 0);
+    keeps(&rt, alloc, torn(&rt, alloc, &[64, 96], 64), 1);
+    keeps(&rt, alloc, torn(&rt, alloc, &[64], 96), 1);
+    keeps(&rt, alloc, torn(&rt, alloc, &[96], 96), 0);
 }

@@ -91,9 +91,10 @@ fn long(rt: &impl Abort, alloc: Global, bytes: usize) -> String {
     text
 }
 
-// A schema with that many patterns.
-fn many(rt: &impl Abort, alloc: Global, count: usize) -> String {
-    let mut text = String::from_str(alloc, r#"{"allOf":[{}"#).expect(rt, "room");
+// A schema with that many patterns beside those of the first.
+fn many(rt: &impl Abort, alloc: Global, first: &str, count: usize) -> String {
+    let mut text = String::from_str(alloc, r#"{"allOf":["#).expect(rt, "room");
+    text.push_str(first).expect(rt, "room");
     for _ in 0..count {
         text.push_str(r#",{"pattern":"a"}"#).expect(rt, "room");
     }
@@ -108,9 +109,14 @@ fn patterns_have_limits(rt: HostRuntime) {
     is_refused(&rt, alloc, most.as_str(), SCHEMA_KEYWORD, 0);
     let more = long(&rt, alloc, MOST_PATTERN_BYTES + 1);
     is_refused(&rt, alloc, more.as_str(), SCHEMA_KEYWORD, SCHEMA_SIZE);
-    let most = many(&rt, alloc, MOST_PATTERNS);
+    let most = many(&rt, alloc, "{}", MOST_PATTERNS);
     is_refused(&rt, alloc, most.as_str(), SCHEMA_KEYWORD, 0);
-    let more = many(&rt, alloc, MOST_PATTERNS + 1);
+    let more = many(&rt, alloc, "{}", MOST_PATTERNS + 1);
+    is_refused(&rt, alloc, more.as_str(), SCHEMA_KEYWORD, SCHEMA_SIZE);
+    let two = r#"{"patternProperties":{"a":{},"b":{}}}"#;
+    let most = many(&rt, alloc, two, MOST_PATTERNS - 2);
+    is_refused(&rt, alloc, most.as_str(), SCHEMA_KEYWORD, 0);
+    let more = many(&rt, alloc, two, MOST_PATTERNS - 1);
     is_refused(&rt, alloc, more.as_str(), SCHEMA_KEYWORD, SCHEMA_SIZE);
     let large = r#"{"pattern":"((a{100}){100}){100}"}"#;
     is_refused(&rt, alloc, large, SCHEMA_KEYWORD, MEMORY);

@@ -1,5 +1,6 @@
 pub mod Built
 pub mod Charges
+pub mod Chosen
 mod FailedOnce
 mod Filled
 pub mod Moments
@@ -8,4 +9,7 @@ mod Picks
 mod Reading
 mod Refused
 mod Runs
+mod Tearing
+mod Torn
+mod TornPicks
 mod Writes

@@ -1,12 +1,12 @@
 -- Sectors that are picked one by one make an image.
-use Rattle.std.proofs.Common.{◌≡◌, ◌≢◌, ◌⊎◌, inl, inr, ⊎_elim, ℕ, ◌≤◌, ◌<◌, List, [], ◌∷◌, length, set, get_or, refl, ap, subst, sym, ◌∙◌, arith, length-set, Bool, true, false, nat_eq, if◌then◌else◌, ◌++◌, ◌-◌, min, length-append, All, Any}
+use Rattle.std.proofs.Common.{◌≡◌, ◌≢◌, ◌⊎◌, inl, inr, ⊎_elim, ℕ, ◌≤◌, ◌<◌, List, [], ◌∷◌, length, set, get_or, refl, ap, subst, sym, ◌∙◌, arith, length-set, Bool, true, false, nat_eq, if◌then◌else◌, ◌++◌, ◌-◌, min, length-append, All, Any, None}
 use Rattle.std.proofs.lemmas.Bool.{cases_eq, cases_lt, eqb-true}
 use Rattle.std.proofs.lemmas.List.{get_or-set_same, get_or-set_other, get_or_append_left, get_or-append_right, set-set, set-get_or, ext_get_or}
 use Rattle.std.proofs.lemmas.List.Elements.{All-nil}
 use Rattle.std.specs.declared.snapshot.Snapshot.{Snapshot}
 use Rattle.sector_device.specs.Disk.{Image, OrReplaced, HasShape}
 use Rattle.sector_device.specs.History.{zeros_of, seen_after, left_after}
-use Rattle.sector_device.specs.Kept.{IsKept, contents_after, put_all, written_to}
+use Rattle.sector_device.specs.Kept.{IsKept, contents_after, put_all, written_near, written_to}
 use Rattle.sector_device.specs.Pick.{picked_of}
 use Rattle.sector_device.specs.declared.call.DeviceCall.{DeviceCall}
 use Rattle.sector_device.specs.declared.history.Held.{Held}
@@ -14,7 +14,7 @@ use Rattle.sector_device.specs.declared.history.History.{History, Opened, Create
 use Rattle.sector_device.specs.declared.unsettled.Unsettled.{Unsettled}
 
 -- what a sector may hold after a crash, by its number
-abbrev Holds : History → ℕ → List ℕ → Type 0
+abbrev pub Holds : History → ℕ → List ℕ → Type 0
 Holds (Opened held) i c = c ≡ get_or held.value.seen.items i []
 Holds (Created sectors) i c = c ≡ get_or (zeros_of sectors) i []
 Holds (Read' p earlier at content) i c = Holds earlier i c
@@ -22,7 +22,7 @@ Holds (Written' p earlier at content) i c = Holds earlier i c ⊎ ((i ≡ at) ×
 Holds (WriteFailed' p earlier at content) i c = Holds earlier i c ⊎ ((i ≡ at) × (c ≡ content.value))
 Holds (Synced' p earlier) i c = c ≡ get_or (seen_after earlier) i []
 
-seen_held : (history : History) (i : ℕ) → i < length (seen_after history) → Holds history i (get_or (seen_after history) i [])
+pub seen_held : (history : History) (i : ℕ) → i < length (seen_after history) → Holds history i (get_or (seen_after history) i [])
 seen_held (Opened held) i lt = refl
 seen_held (Created sectors) i lt = refl
 seen_held (Read' p earlier at content) i lt = seen_held earlier i lt
@@ -104,11 +104,14 @@ image_left (Written' p earlier at content) image size each =
     let same = length-set (seen_after earlier) at content.value in
     replaced (left_after earlier) (Holds earlier) (seen_after earlier) at content.value (seen_held earlier) (image_left earlier) image (size ∙ same) (λ k lt. each k (omega (arith, lt, same)))
 
+pub picked_held : (history : History) (picks : List ℕ) (k : ℕ) → Holds history k (picked_of (get_or picks k 0) (contents_after history k))
+picked_held history picks k = let least = some history k in contents_held history k (min (get_or picks k 0) (length (contents_after history k) - 1)) (omega (arith, least))
+
 pub picked_left : (history : History) (picks : List ℕ) (image : Image) → length image ≡ length (seen_after history)
     → ((i : ℕ) → i < length (seen_after history) → get_or image i [] ≡ picked_of (get_or picks i 0) (contents_after history i)) → left_after history image
 picked_left history picks image size each =
     image_left history image size
-    (λ k lt. subst (Holds history k) (sym (each k lt)) (let least = some history k in contents_held history k (min (get_or picks k 0) (length (contents_after history k) - 1)) (omega (arith, least))))
+    (λ k lt. subst (Holds history k) (sym (each k lt)) (picked_held history picks k))
 
 module _ (history : History) (calls : List DeviceCall) (settled current : Image) (unsettled : List Unsettled) (kept : IsKept history calls settled unsettled current) (picks : List ℕ) (image : Image) (same : length image ≡ length settled)
     (each : (i : ℕ) → i < length settled → get_or image i [] ≡ picked_of (get_or picks i 0) (get_or settled i [] ∷ written_to i unsettled)) where
@@ -122,11 +125,12 @@ module _ (history : History) (calls : List DeviceCall) (settled current : Image)
   crash_kept of none writes now is_held no_others no_calls no_writes is_now = record {
     recorded = no_calls;
     seen = is_now ∙ sym is_held;
-    shape = λ other left. subst (HasShape (length now)) (sym (alone left ∙ is_held)) (subst (λ (n : ℕ). HasShape n image) (sym (ap length is_now ∙ same ∙ kept.size)) (kept.shape image crash_left));
+    shape = λ torn other left. subst (HasShape (length now)) (sym (alone left ∙ is_held)) (subst (λ (n : ℕ). HasShape n image) (sym (ap length is_now ∙ same ∙ kept.size)) (kept.shape None image crash_left));
     size = ap length (sym is_now);
     placed = subst (All (λ w. w.at < length image)) (sym no_writes) (All-nil (λ w. w.at < length image));
     put = ap (put_all image) no_writes ∙ sym is_now;
     contents = λ i lt. ap (λ (b : Image). get_or b i [] ∷ []) is_held ∙ ap (λ (l : List Unsettled). get_or image i [] ∷ written_to i l) (sym no_writes);
+    risks = λ i. ap (written_near i) (sym no_writes);
   }
     where
       alone : {other : Image} → left_after (Opened of) other → other ≡ of.value.seen.items

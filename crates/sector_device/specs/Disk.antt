@@ -1,5 +1,5 @@
 -- The model of a device of sectors: what is known of it, what its calls do, and what a crash may leave.
-use Rattle.std.specs.Prelude.{◌≡◌, ◌⊎◌, ◌↔◌, ℕ, ◌<◌, ◌≤◌, ◌+◌, ◌-◌, ◌^◌, List, [], length, slice_set, slice_index_or, Option, Some, None, Result, OnOk, OnErr}
+use Rattle.std.specs.Prelude.{◌≡◌, ◌⊎◌, ◌↔◌, ℕ, ◌<◌, ◌≤◌, ◌+◌, ◌-◌, ◌/◌, ◌^◌, List, [], length, slice_set, slice_index_or, Bool, IsTrue, Option, Some, None, Result, OnOk, OnErr}
 
 -- the contents of all sectors, in order, each a list of bytes
 abbrev pub Image : Type 0
@@ -12,12 +12,15 @@ pub record Disk : Type 1 where
   pub honest : Type 0
   -- what reads give
   pub seen : Image
-  -- what a crash now may leave
+  -- what a crash now may leave, if no sector tears
   pub left : Image → Type 0
   -- a clock that no call moves back
   pub moment : ℕ
-  -- what a crash at some moment since that one might have left
+  -- what a crash at some moment since that one might have left, if no sector tears
   pub left_since : ℕ → Image → Type 0
+  -- the same, if sectors tear: a torn one holds any 512 bytes of which the test is true
+  pub torn_left : (List ℕ → Bool) → Image → Type 0
+  pub torn_since : (List ℕ → Bool) → ℕ → Image → Type 0
   -- the calls that failed
   pub failures : ℕ
   -- those of them that the limit of calls did not make
@@ -26,6 +29,10 @@ pub record Disk : Type 1 where
   pub failures_saturated : Type 0
   -- the calls that still pass, or no limit
   pub calls_left : Option ℕ
+
+-- the device, if its sectors tear: so all that is said of images is said of these too
+abbrev pub tearing : (List ℕ → Bool) → Disk → Disk
+tearing torn disk = record disk { left = disk.torn_left torn; left_since = disk.torn_since torn }
 
 -- one call less
 abbrev pub less_one : Option ℕ → Option ℕ
@@ -75,6 +82,12 @@ pub record IsCoherent (disk : Disk) : Type 0 where
   pub now : (moment : ℕ) (image : Image) → moment ≤ disk.moment → disk.left image → disk.left_since moment image
   pub only_now : (image : Image) → disk.left_since disk.moment image → disk.left image
 
+-- the same holds if its sectors tear, and tearing only adds images
+pub record IsTearing (torn : List ℕ → Bool) (disk : Disk) : Type 0 where
+  pub coherent : IsCoherent (tearing torn disk)
+  pub adds : (image : Image) → disk.left image → disk.torn_left torn image
+  pub adds_since : (moment : ℕ) (image : Image) → disk.left_since moment image → disk.torn_since torn moment image
+
 -- a crash since a moment might have left what it might have left before, or what it may leave now
 pub record Elapses (old new : Disk) : Type 0 where
   pub later : old.moment ≤ new.moment
@@ -85,6 +98,19 @@ pub record Elapses (old new : Disk) : Type 0 where
 abbrev pub OrReplaced : (Image → Type 0) → ℕ → List ℕ → Image → Type 0
 OrReplaced old at content image = old image ⊎ ((before : Image) × old before × (image ≡ slice_set before at content))
 
+-- the bytes of a torn sector
+abbrev pub IsDamage : (List ℕ → Bool) → List ℕ → Type 0
+IsDamage torn sector = (length sector ≡ 512) × IsTrue (torn sector)
+
+-- image is before, but for that sector, which may be replaced, and for torn sectors of its block of 8, which may be itself
+pub record IsTornFrom (torn : List ℕ → Bool) (at : ℕ) (content : List ℕ) (before image : Image) : Type 0 where
+  pub size : length image ≡ length before
+  pub each : (k : ℕ) → (slice_index_or image k [] ≡ slice_index_or before k []) ⊎ ((k ≡ at) × (slice_index_or image k [] ≡ content)) ⊎ ((k / 8 ≡ at / 8) × IsDamage torn (slice_index_or image k []))
+
+-- an image of old, or such a one
+abbrev pub OrTorn : (List ℕ → Bool) → (Image → Type 0) → ℕ → List ℕ → Image → Type 0
+OrTorn torn old at content image = (before : Image) × old before × IsTornFrom torn at content before image
+
 -- a write of an honest device
 pub record Writes {T E : Type 0} (old new : Disk) (at : ℕ) (content : List ℕ) (result : Result T E) : Type 0 where
   -- it stays honest
@@ -94,6 +120,11 @@ pub record Writes {T E : Type 0} (old new : Disk) (at : ℕ) (content : List ℕ
   pub seen : OnOk result (new.seen ≡ slice_set old.seen at content)
   pub all : OnOk result ((image : Image) → OrReplaced old.left at content image → new.left image)
   pub failed : OnErr result ((new.seen ≡ old.seen) ⊎ (new.seen ≡ slice_set old.seen at content))
+
+-- a write of an honest device whose sectors tear
+pub record Tears (torn : List ℕ → Bool) (old new : Disk) (at : ℕ) (content : List ℕ) : Type 0 where
+  pub time : Elapses (tearing torn old) (tearing torn new)
+  pub adds : (image : Image) → new.torn_left torn image → OrTorn torn (old.torn_left torn) at content image
 
 -- a sync of an honest device
 pub record Syncs {T E : Type 0} (old new : Disk) (result : Result T E) : Type 0 where

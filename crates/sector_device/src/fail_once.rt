@@ -1,6 +1,6 @@
 //! A device of which one call fails, passed on or not, and no other.
-ghost use Rattle.std.specs.Prelude.{◌≡◌, ◌≢◌, ◌-◌, ◌<◌, None, true, false, ◌↔◌};
-ghost use Rattle.sector_device.specs.Disk.{Counts, Reads, StaysHonest, Writes, Syncs};
+ghost use Rattle.std.specs.Prelude.{◌≡◌, ◌≢◌, ◌-◌, ◌<◌, Bool, List, ℕ, None, true, false, ◌↔◌};
+ghost use Rattle.sector_device.specs.Disk.{Counts, Reads, StaysHonest, Writes, Syncs, Tears, tearing};
 
 use crate::{DeviceFault, SectorDevice};
 
@@ -56,6 +56,8 @@ impl<D: SectorDevice> SectorDevice for FailOnce<D> {
 
     ghost coherent = { λ device honest. let inner = D.coherent device.device honest in record { seen = inner.seen; shape = inner.shape; now = inner.now; only_now = inner.only_now } };
 
+    ghost torn_coherent = { λ device honest torn. let inner = D.torn_coherent device.device honest torn in record { coherent = record { seen = inner.coherent.seen; shape = inner.coherent.shape; now = inner.coherent.now; only_now = inner.coherent.only_now }; adds = inner.adds; adds_since = inner.adds_since } };
+
     fn sectors(&self) -> u64 {
         self.device.sectors()
     }
@@ -65,6 +67,7 @@ impl<D: SectorDevice> SectorDevice for FailOnce<D> {
         ensures counts { Counts (fail_once_disk self.old) (fail_once_disk self.new) result }
         ensures reads { (D.disk self.new.device).honest → Reads (fail_once_disk self.old) (fail_once_disk self.new) at into.new result }
         ensures stays { StaysHonest (fail_once_disk self.old) (fail_once_disk self.new) at into.new result }
+        ensures torn { (torn : List ℕ → Bool) → (D.disk self.new.device).honest → Reads (tearing torn (fail_once_disk self.old)) (tearing torn (fail_once_disk self.new)) at into.new result }
         // It is as honest as before, if the device below is.
         ensures honest { ((D.disk self.old.device).honest → (D.disk self.new.device).honest)
             → ((fail_once_disk self.old).honest ↔ (fail_once_disk self.new).honest) }
@@ -84,6 +87,7 @@ impl<D: SectorDevice> SectorDevice for FailOnce<D> {
         requires { at < (D.disk self.old.device).sectors }
         ensures counts { Counts (fail_once_disk self.old) (fail_once_disk self.new) result }
         ensures writes { (D.disk self.old.device).honest → Writes (fail_once_disk self.old) (fail_once_disk self.new) at from.now result }
+        ensures torn { (torn : List ℕ → Bool) → (D.disk self.old.device).honest → Tears torn (fail_once_disk self.old) (fail_once_disk self.new) at from.now }
         ensures fails { FailsOnce self.old self.new result }
         ensures passed { IsPassedOn self.old self.new (λ answer. (D.disk self.old.device).honest → Writes (D.disk self.old.device) (D.disk self.new.device) at from.now answer) }
     {
@@ -99,6 +103,7 @@ impl<D: SectorDevice> SectorDevice for FailOnce<D> {
     fn sync(&mut self) -> Result<(), DeviceFault>
         ensures counts { Counts (fail_once_disk self.old) (fail_once_disk self.new) result }
         ensures syncs { (D.disk self.old.device).honest → Syncs (fail_once_disk self.old) (fail_once_disk self.new) result }
+        ensures torn { (torn : List ℕ → Bool) → (D.disk self.old.device).honest → Syncs (tearing torn (fail_once_disk self.old)) (tearing torn (fail_once_disk self.new)) result }
         ensures fails { FailsOnce self.old self.new result }
         ensures passed { IsPassedOn self.old self.new (λ answer. (D.disk self.old.device).honest → Syncs (D.disk self.old.device) (D.disk self.new.device) answer) }
     {

@@ -1,7 +1,7 @@
 //! A device that passes a given number of calls, and then fails each without touching the device below, as one whose
 //! power fails.
-ghost use Rattle.std.specs.Prelude.{◌≡◌, ◌+◌, ◌<◌, ℕ, ◌↔◌, true, false, Some, IsErr};
-ghost use Rattle.sector_device.specs.Disk.{Counts, IsRaised, Reads, StaysHonest, Writes, Syncs};
+ghost use Rattle.std.specs.Prelude.{◌≡◌, ◌+◌, ◌<◌, Bool, List, ℕ, ◌↔◌, true, false, Some, IsErr};
+ghost use Rattle.sector_device.specs.Disk.{Counts, IsRaised, Reads, StaysHonest, Writes, Syncs, Tears, tearing};
 
 use crate::{DeviceFault, SectorDevice};
 
@@ -50,6 +50,8 @@ impl<D: SectorDevice> SectorDevice for Fuse<D> {
 
     ghost coherent = { λ fuse honest. let inner = D.coherent fuse.device honest in record { seen = inner.seen; shape = inner.shape; now = inner.now; only_now = inner.only_now } };
 
+    ghost torn_coherent = { λ fuse honest torn. let inner = D.torn_coherent fuse.device honest torn in record { coherent = record { seen = inner.coherent.seen; shape = inner.coherent.shape; now = inner.coherent.now; only_now = inner.coherent.only_now }; adds = inner.adds; adds_since = inner.adds_since } };
+
     fn sectors(&self) -> u64 {
         self.device.sectors()
     }
@@ -59,6 +61,7 @@ impl<D: SectorDevice> SectorDevice for Fuse<D> {
         ensures counts { Counts (fuse_disk D.disk self.old) (fuse_disk D.disk self.new) result }
         ensures reads { (D.disk self.new.device).honest → Reads (fuse_disk D.disk self.old) (fuse_disk D.disk self.new) at into.new result }
         ensures stays { StaysHonest (fuse_disk D.disk self.old) (fuse_disk D.disk self.new) at into.new result }
+        ensures torn { (torn : List ℕ → Bool) → (D.disk self.new.device).honest → Reads (tearing torn (fuse_disk D.disk self.old)) (tearing torn (fuse_disk D.disk self.new)) at into.new result }
         // It is as honest as before, if the device below is.
         ensures honest { ((D.disk self.old.device).honest → (D.disk self.new.device).honest)
             → ((fuse_disk D.disk self.old).honest ↔ (fuse_disk D.disk self.new).honest) }
@@ -74,6 +77,7 @@ impl<D: SectorDevice> SectorDevice for Fuse<D> {
         requires { at < (D.disk self.old.device).sectors }
         ensures counts { Counts (fuse_disk D.disk self.old) (fuse_disk D.disk self.new) result }
         ensures writes { (D.disk self.old.device).honest → Writes (fuse_disk D.disk self.old) (fuse_disk D.disk self.new) at from.now result }
+        ensures torn { (torn : List ℕ → Bool) → (D.disk self.old.device).honest → Tears torn (fuse_disk D.disk self.old) (fuse_disk D.disk self.new) at from.now }
         ensures spent { self.old.calls ≡ 0 → IsErr result × (self.new.device ≡ self.old.device) }
     {
         if !takes_call(&mut self.calls, &mut self.failures) {
@@ -85,6 +89,7 @@ impl<D: SectorDevice> SectorDevice for Fuse<D> {
     fn sync(&mut self) -> Result<(), DeviceFault>
         ensures counts { Counts (fuse_disk D.disk self.old) (fuse_disk D.disk self.new) result }
         ensures syncs { (D.disk self.old.device).honest → Syncs (fuse_disk D.disk self.old) (fuse_disk D.disk self.new) result }
+        ensures torn { (torn : List ℕ → Bool) → (D.disk self.old.device).honest → Syncs (tearing torn (fuse_disk D.disk self.old)) (tearing torn (fuse_disk D.disk self.new)) result }
         ensures spent { self.old.calls ≡ 0 → IsErr result × (self.new.device ≡ self.old.device) }
     {
         if !takes_call(&mut self.calls, &mut self.failures) {

@@ -11,6 +11,7 @@
 #![tactic(auto)]
 
 mod call;
+mod damage;
 mod device;
 mod fail_once;
 mod fuse;
@@ -21,6 +22,7 @@ mod run;
 mod unsettled;
 
 pub use call::DeviceCall;
+pub use damage::Damage;
 pub use device::{DeviceFault, SECTOR_BYTES, SectorDevice};
 pub use fail_once::FailOnce;
 pub use fuse::Fuse;

@@ -1,10 +1,11 @@
 //! A disk in memory, with a record of all its calls and the contents that a crash needs.
-ghost use Rattle.std.specs.Prelude.{◌≡◌, ◌<◌, ◌++◌, ◌∷◌, ◌↔◌, [], All, ℕ, IfOk, OnOk, OnErr, replicate, slice_index, slice_index_or, length};
-ghost use Rattle.sector_device.specs.Disk.{Image, IsRaised};
-ghost use Rattle.sector_device.specs.Kept.{IsKept, put_all, written_to};
-ghost use Rattle.sector_device.specs.Pick.{picked_of};
+ghost use Rattle.std.specs.Prelude.{◌≡◌, ◌<◌, ◌++◌, ◌∷◌, ◌↔◌, [], All, Bool, List, ℕ, IfOk, OnOk, OnErr, replicate, slice_index, slice_index_or, length};
+ghost use Rattle.sector_device.specs.Disk.{HasShape, Image, IsDamage, IsRaised, Tears, tearing};
+ghost use Rattle.sector_device.specs.Kept.{IsKept, put_all, written_near, written_to};
+ghost use Rattle.sector_device.specs.Pick.{picked_of, torn_of};
 
 use crate::call::DeviceCall;
+use crate::damage::Damage;
 use crate::history::{Held, History};
 use crate::unsettled::Unsettled;
 use crate::{DeviceFault, SectorDevice};
@@ -25,13 +26,14 @@ pub struct MemDisk {
 }
 
 impl MemDisk {
-    ghost use Rattle.sector_device.specs.Memory.{mem_disk, calls_of, contents_of};
+    ghost use Rattle.sector_device.specs.Memory.{mem_disk, calls_of, contents_of, is_at_risk};
 
     /// `sectors` sectors of zeros. `Err`: there is no memory for them.
     pub fn new(alloc: Global, sectors: u64) -> Result<MemDisk, AllocError>
         ensures sectors { IfOk result (λ disk. (mem_disk disk).sectors ≡ sectors) }
         ensures seen { IfOk result (λ disk. (mem_disk disk).seen ≡ replicate sectors (replicate 512 0)) }
         ensures left { IfOk result (λ disk. (image : Image) → (mem_disk disk).left image → image ≡ (mem_disk disk).seen) }
+        ensures torn { IfOk result (λ disk. (torn : List ℕ → Bool) (image : Image) → (tearing torn (mem_disk disk)).left image → image ≡ (mem_disk disk).seen) }
         ensures calls { IfOk result (λ disk. calls_of disk ≡ []) }
         ensures failures { IfOk result (λ disk. (mem_disk disk).failures ≡ 0) }
     {
@@ -74,13 +76,56 @@ impl MemDisk {
     {
         let MemDisk {
             mut settled,
-            mut current,
-            mut calls,
-            mut unsettled,
+            current,
+            calls,
+            unsettled,
             failures: _,
             history: _,
         } = self;
         keep_picked(&mut settled, picks, &unsettled);
+        MemDisk::restarted(settled, current, calls, unsettled)
+    }
+
+    /// The disk after a crash that tears sectors. It is that after `crash`, but each sector of `damage` holds what that
+    /// says, the last of it: if it is at risk, for something was written to its block of 8 since the last sync.
+    pub fn crash_torn(self, picks: &[u64], damage: &[Damage]) -> MemDisk
+        ensures one { (torn : List ℕ → Bool) → All (λ d. IsDamage torn d.content) damage.now → (tearing torn (mem_disk self)).left (mem_disk result).seen }
+        ensures alone { (torn : List ℕ → Bool) (image : Image) → (tearing torn (mem_disk result)).left image → image ≡ (mem_disk result).seen }
+        ensures picks { (i : ℕ) → i < (mem_disk self).sectors → slice_index_or (mem_disk result).seen i []
+            ≡ torn_of (is_at_risk self i) i damage.now (picked_of (slice_index picks.now i) (contents_of self i)) }
+        ensures size { (mem_disk result).sectors ≡ (mem_disk self).sectors }
+        ensures calls { calls_of result ≡ [] }
+        ensures failures { (mem_disk result).failures ≡ 0 }
+    {
+        let MemDisk {
+            mut settled,
+            current,
+            calls,
+            unsettled,
+            failures: _,
+            history: _,
+        } = self;
+        keep_picked(&mut settled, picks, &unsettled);
+        tear(&mut settled, damage, &unsettled);
+        MemDisk::restarted(settled, current, calls, unsettled)
+    }
+
+    // A disk that a crash left so.
+    fn restarted(
+        settled: Vec<[u8; 512]>,
+        mut current: Vec<[u8; 512]>,
+        mut calls: Vec<DeviceCall>,
+        mut unsettled: Vec<Unsettled>,
+    ) -> MemDisk
+        requires size { length settled.items ≡ length current.items }
+        requires shape { HasShape (length settled.items) settled.items }
+        ensures seen { (mem_disk result).seen ≡ settled.items }
+        ensures size { (mem_disk result).sectors ≡ length settled.items }
+        ensures alone { (image : Image) → (mem_disk result).left image → image ≡ (mem_disk result).seen }
+        ensures torn { (torn : List ℕ → Bool) (image : Image) → (tearing torn (mem_disk result)).left image → image ≡ (mem_disk result).seen }
+        ensures calls { calls_of result ≡ [] }
+        ensures failures { (mem_disk result).failures ≡ 0 }
+    {
         copy(&settled, &mut current);
         calls.clear();
         unsettled.clear();
@@ -98,6 +143,49 @@ impl MemDisk {
             history: History::Opened { held },
         }
     }
+}
+
+// Puts the damage in each sector that is at risk.
+fn tear(settled: &mut Vec<[u8; 512]>, damage: &[Damage], unsettled: &[Unsettled])
+    ensures size { length settled.new.items ≡ length settled.old.items }
+    ensures torn { (i : ℕ) → i < length settled.old.items → slice_index_or settled.new.items i [] ≡ torn_of (written_near i unsettled.now) i damage.now (slice_index_or settled.old.items i []) }
+    ensures shape { HasShape (length settled.old.items) settled.old.items → HasShape (length settled.old.items) settled.new.items }
+{
+    for torn in damage {
+        tear_one(settled, torn, unsettled);
+    }
+}
+
+fn tear_one(settled: &mut Vec<[u8; 512]>, damage: &Damage, unsettled: &[Unsettled])
+    ensures size { length settled.new.items ≡ length settled.old.items }
+    ensures torn { (i : ℕ) → i < length settled.old.items → slice_index_or settled.new.items i [] ≡ torn_of (written_near i unsettled.now) i (damage.now ∷ []) (slice_index_or settled.old.items i []) }
+    ensures shape { HasShape (length settled.old.items) settled.old.items → HasShape (length settled.old.items) settled.new.items }
+{
+    if damage.at >= settled.len() as u64 {
+        return;
+    }
+    if !may_tear(damage.at, unsettled) {
+        return;
+    }
+    settled[damage.at as usize] = content_of(damage);
+}
+
+fn content_of(damage: &Damage) -> [u8; 512]
+    ensures { result ≡ damage.now.content }
+{
+    damage.content
+}
+
+// Whether a crash may tear sector `at`.
+fn may_tear(at: u64, unsettled: &[Unsettled]) -> bool
+    ensures { result ≡ written_near at unsettled.now }
+{
+    for write in unsettled {
+        if write.at / 8 == at / 8 {
+            return true;
+        }
+    }
+    false
 }
 
 // Puts in each sector what a crash keeps of it.
@@ -149,11 +237,13 @@ fn settle(settled: &mut Vec<[u8; 512]>, unsettled: &[Unsettled])
 
 impl SectorDevice for MemDisk {
     ghost use Rattle.sector_device.specs.Disk.{Counts, Reads, StaysHonest, Writes, Syncs};
-    ghost use Rattle.sector_device.specs.Memory.{mem_disk, mem_coherent, calls_of, IsRefused};
+    ghost use Rattle.sector_device.specs.Memory.{mem_disk, mem_coherent, mem_tearing, calls_of, IsRefused};
 
     ghost disk = { mem_disk };
 
     ghost coherent = { mem_coherent };
+
+    ghost torn_coherent = { mem_tearing };
 
     fn sectors(&self) -> u64 {
         self.current.len() as u64
@@ -164,6 +254,7 @@ impl SectorDevice for MemDisk {
         ensures counts { Counts (mem_disk self.old) (mem_disk self.new) result }
         ensures reads { (mem_disk self.new).honest → Reads (mem_disk self.old) (mem_disk self.new) at into.new result }
         ensures stays { StaysHonest (mem_disk self.old) (mem_disk self.new) at into.new result }
+        ensures torn { (torn : List ℕ → Bool) → (mem_disk self.new).honest → Reads (tearing torn (mem_disk self.old)) (tearing torn (mem_disk self.new)) at into.new result }
         ensures honest { (mem_disk self.old).honest ↔ (mem_disk self.new).honest }
         ensures recorded { OnOk result (calls_of self.new ≡ calls_of self.old ++ DeviceCall.Read at ∷ []) }
         ensures refused { OnErr result (IsRefused self.old self.new) }
@@ -187,6 +278,7 @@ impl SectorDevice for MemDisk {
         requires { at < (mem_disk self.old).sectors }
         ensures counts { Counts (mem_disk self.old) (mem_disk self.new) result }
         ensures writes { (mem_disk self.old).honest → Writes (mem_disk self.old) (mem_disk self.new) at from.now result }
+        ensures torn { (torn : List ℕ → Bool) → (mem_disk self.old).honest → Tears torn (mem_disk self.old) (mem_disk self.new) at from.now }
         ensures recorded { OnOk result (calls_of self.new ≡ calls_of self.old ++ DeviceCall.Write at ∷ []) }
         ensures refused { OnErr result (IsRefused self.old self.new) }
     {
@@ -208,6 +300,7 @@ impl SectorDevice for MemDisk {
     fn sync(&mut self) -> Result<(), DeviceFault>
         ensures counts { Counts (mem_disk self.old) (mem_disk self.new) result }
         ensures syncs { (mem_disk self.old).honest → Syncs (mem_disk self.old) (mem_disk self.new) result }
+        ensures torn { (torn : List ℕ → Bool) → (mem_disk self.old).honest → Syncs (tearing torn (mem_disk self.old)) (tearing torn (mem_disk self.new)) result }
         ensures recorded { OnOk result (calls_of self.new ≡ calls_of self.old ++ DeviceCall.Sync ∷ []) }
         ensures refused { OnErr result (IsRefused self.old self.new) }
     {

@@ -1,7 +1,7 @@
 -- Changes of one batch: what they were replied, and what followed them.
 use Rattle.std.proofs.Common.{◌≡◌, inl, inr, refl, ap, sym, ◌∙◌, subst, List, [], ◌∷◌, ◌++◌, length, map, replicate, arith, length-append}
 use Rattle.std.proofs.lemmas.List.{append-nil}
-use Rattle.sector_device.specs.Disk.{Disk, IsCoherent}
+use Rattle.sector_device.specs.Disk.{Disk}
 use Rattle.doc_tree.specs.Doc.{Doc}
 use Rattle.doc_machine.specs.Transaction.{Transaction}
 use Rattle.doc_changes.specs.Refusals.{plain}
@@ -13,6 +13,7 @@ use Rattle.store_commits.specs.Run as store
 use Rattle.store_commits.specs.declared.event.Reply.{Reply as StoreReply}
 use Rattle.store_commits.specs.Run.{Batched, Ran, reply_of}
 use Rattle.store_commits.specs.declared.event.Reply.TheVariants.{Done, Snapped, Pumped, Refused}
+use Rattle.store_commits.proofs.Modelled.{AreCoherent}
 use Rattle.store_commits.proofs.Running.{batch_paired, ran_joined}
 use Rattle.protocol.specs.Reply.{refusal_reply}
 use Rattle.protocol.specs.declared.reply.Reply.{Reply}
@@ -102,7 +103,7 @@ module _ {D : Type 0} (disk : D → Disk) (options : Options) where
         (subst (λ (rs : List StoreReply). Ran disk old mid (changes cs) rs) (sym (append-nil said)) made.ran)))
 
     -- some change was done, and a step of a copy follows where one is wanted
-    batch_done : (coherent : (device : D) → (disk device).honest → IsCoherent (disk device)) (new : StoreView D) → HasDone said → MakesCopyStep disk options mid new → BatchIsAnswered disk options old cs docs new
+    batch_done : (coherent : AreCoherent disk) (new : StoreView D) → HasDone said → MakesCopyStep disk options mid new → BatchIsAnswered disk options old cs docs new
     batch_done coherent new done h = elim h [
       | inl step ↦
           batch_with new (store.pump options.pump ∷ []) (reply_of Pumped step.1.0 ∷ []) (inl ((done, step.0), (step.1.0, step.1.1, refl, refl)))
@@ -111,7 +112,7 @@ module _ {D : Type 0} (disk : D → Disk) (options : Options) where
     ]
 
     -- either
-    pub batch_behind : (coherent : (device : D) → (disk device).honest → IsCoherent (disk device)) (new : StoreView D) → FollowsBatch disk options said mid new → BatchIsAnswered disk options old cs docs new
+    pub batch_behind : (coherent : AreCoherent disk) (new : StoreView D) → FollowsBatch disk options said mid new → BatchIsAnswered disk options old cs docs new
     batch_behind coherent new h = elim h [
       | inl done ↦ batch_done coherent new done.0 done.1
       | inr none ↦ subst (λ (v : StoreView D). BatchIsAnswered disk options old cs docs v) (sym none.1) (batch_quiet (λ due. none.0 due.0))

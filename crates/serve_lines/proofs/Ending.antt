@@ -6,11 +6,12 @@ use Rattle.std.proofs.lemmas.List.Elements.{filter-append}
 use Rattle.std.proofs.lemmas.Grind.{flat_map-append}
 use Rattle.std.proofs.lemmas.Bool.{ne_eqb}
 use Rattle.std.specs.Io.KnownBytes.{IsAtEnd}
-use Rattle.sector_device.specs.Disk.{Disk, IsCoherent}
+use Rattle.sector_device.specs.Disk.{Disk}
 use Rattle.doc_tree.specs.Doc.{Doc}
 use Rattle.store_commits.specs.Account.{StoreView, IsStanding}
 use Rattle.store_commits.specs.Run.{Event, Ran}
 use Rattle.store_commits.specs.declared.event.Reply.{Reply}
+use Rattle.store_commits.proofs.Modelled.{AreCoherent}
 use Rattle.store_commits.proofs.Running.{ran_joined, ran_nothing}
 use Rattle.doc_machine.specs.Transaction.{Transaction}
 use Rattle.protocol.specs.Request.{Asks, change}
@@ -152,7 +153,7 @@ pub record Sat {D : Type 0} (disk : D → Disk) (options : Options) (start : Sto
   pub session : IsSession disk options start lines replies new
   pub whole_is : session.whole ≡ whole
 
-module _ {D : Type 0} (disk : D → Disk) (options : Options) (coherent : (device : D) → (disk device).honest → IsCoherent (disk device)) where
+module _ {D : Type 0} (disk : D → Disk) (options : Options) (coherent : AreCoherent disk) where
   -- a run goes on by what lines led to
   ran_led : (start old new : StoreView D) (events more : List Event) (said answers : List Reply) → Ran disk start old events said → IsRunFrom disk old more answers new → Ran disk start new (events ++ more) (said ++ answers)
   ran_led start old new events more said answers first led = elim led [

@@ -1,11 +1,13 @@
 -- What is known of a session over pieces: its start, its lines so far, and what a crash leaves.
 use Rattle.std.proofs.Common.{◌≡◌, ℕ, List, [], ◌∷◌, ◌++◌, refl, false, sym, ap, ◌∙◌, subst, map, append_assoc}
 use Rattle.std.proofs.lemmas.List.{append-nil}
-use Rattle.sector_device.specs.Disk.{Disk, Image, IsCoherent}
+use Rattle.sector_device.specs.Disk.{Disk, Image}
 use Rattle.doc_tree.specs.Doc.{Doc}
 use Rattle.doc_machine.specs.Transaction.{Transaction, transaction_of}
 use Rattle.doc_machine.specs.declared.transaction.Transaction.{Transaction as Held}
+use Rattle.store_journal.specs.Models.{model}
 use Rattle.store_commits.specs.Account.{StoreView, IsStanding}
+use Rattle.store_commits.proofs.Modelled.{AreCoherent}
 use Rattle.store_commits.specs.Folds.{StandsAfter}
 use Rattle.store_commits.specs.Run.{hits_of}
 use Rattle.protocol.specs.Lines.{answered, ended}
@@ -43,7 +45,7 @@ module _ {D : Type 0} (disk : D → Disk) (options : Options) where
 
   -- what a crash leaves now: each image stands for the store's state, and where the store works for nothing else
   pub stands_heard : (start : StoreView D) (read : List ℕ) (now : StoreView D) (session : Session) (replies : List Doc) → HasRead disk options start read now session replies
-      → (disk start.device).honest → start.account.broken ≡ false → (image : Image) → (disk now.device).left image
+      → (disk start.device).honest → start.account.broken ≡ false → (image : Image) → (model start.account.rides (disk now.device)).left image
       → (hits : List Transaction) × StandsAfter now.account.state hits image × (now.account.broken ≡ false → hits ≡ [])
   stands_heard start read now is replies s honest working image left =
       let session = s.reached.settles.session in
@@ -96,7 +98,7 @@ module _ {D : Type 0} (disk : D → Disk) (options : Options) where
   ended_all start lines now session replies none s =
       subst (λ (rs : List Doc). IsSession disk options start lines rs now) (ap (λ (l : List Doc). replies ++ l) (says_none s.ready (subst (λ (l : List Reply). AllSay l s.ready) none s.says)) ∙ append-nil replies) s.session
 
-module _ {D : Type 0} (disk : D → Disk) (options : Options) (coherent : (device : D) → (disk device).honest → IsCoherent (disk device)) where
+module _ {D : Type 0} (disk : D → Disk) (options : Options) (coherent : AreCoherent disk) where
   -- A session for which nothing waits may begin anew at any store: what it holds is all that it has read.
   pub hears_start : (start : StoreView D) (session : Session) (so_far : List ℕ) → IsStanding (disk start.device) start.account → session.options ≡ options → session.waiting.items ≡ [] → session.ready.items ≡ []
       → Holds session.line so_far → HasRead disk options start so_far start session []

@@ -1,7 +1,7 @@
 -- Batches in runs, and what was done of a batch so far.
 use Rattle.std.proofs.Common.{◌≡◌, List, [], ◌∷◌, ◌++◌, length-append, map, refl, sym, ◌∙◌, subst, true, ◌+◌}
 use Rattle.std.proofs.lemmas.List.{append_assoc, append-nil}
-use Rattle.sector_device.specs.Disk.{Disk, IsCoherent}
+use Rattle.sector_device.specs.Disk.{Disk}
 use Rattle.doc_machine.specs.Transaction.{Transaction}
 use Rattle.refusals.specs.declared.numbers.TheConstants.{BROKEN}
 use Rattle.doc_changes.specs.Refusals.{plain}
@@ -10,6 +10,7 @@ use Rattle.store_commits.specs.Batch.{BatchIsMade, Commit, IsBatch, no_more, sta
 use Rattle.store_commits.specs.Run.{Batched, Event, Lasts, Reply, Refused, a_batch, dones_of, hits_of}
 use Rattle.store_commits.specs.Inside.{RanPrefix}
 use Rattle.store_commits.proofs.Running.{changes_append, changes_length, lasts_behind, lasts_nothing, made_append, one_done}
+use Rattle.store_commits.proofs.Modelled.{AreCoherent}
 
 -- ---- so far
 
@@ -29,7 +30,7 @@ module _ {D : Type 0} (disk : D → Disk) where
         ran = record { commits = is.commits; run = one_done x.account y.account (changes cs) rs is.commits (a_batch x.account y.account cs rs is.commits is.batch); made = is.made; lasts = went.lasts };
       }
 
-module _ {D : Type 0} (disk : D → Disk) (coherent : (device : D) → (disk device).honest → IsCoherent (disk device)) where
+module _ {D : Type 0} (disk : D → Disk) (coherent : AreCoherent disk) where
   -- nothing yet
   pub went_nowhere : (x : StoreView D) (left : List Transaction) → IsStanding (disk x.device) x.account → RanPrefix disk x x [] [] left
   went_nowhere x left standing = record { commits = []; goes = λ rs more end rest. rest; made = refl; paired = refl; lasts = lasts_nothing disk coherent x standing }

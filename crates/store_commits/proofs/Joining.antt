@@ -1,7 +1,7 @@
 -- Segments one after another, and the whole batch.
 use Rattle.std.proofs.Common.{◌≡◌, ℕ, ◌+◌, List, [], ◌∷◌, ◌++◌, length, map, refl, sym, ◌∙◌, ap, subst, true, false, Option}
 use Rattle.std.proofs.lemmas.List.{append_assoc, append-nil}
-use Rattle.sector_device.specs.Disk.{Disk, IsCoherent}
+use Rattle.sector_device.specs.Disk.{Disk}
 use Rattle.store_journal.specs.JournalView.{JournalView}
 use Rattle.doc_machine.specs.Transaction.{Transaction, transaction_of}
 use Rattle.doc_machine.specs.declared.transaction.Transaction.{Transaction as Held}
@@ -20,8 +20,9 @@ use Rattle.store_commits.proofs.Batches.{all_broken, batched, went_both, went_no
 use Rattle.store_commits.proofs.Changes.{after_append, seq_counts, state_before}
 use Rattle.store_commits.proofs.Slots.{asked_append, both_committed, waiting_append}
 use Rattle.store_commits.proofs.Standing.{standing}
+use Rattle.store_commits.proofs.Modelled.{AreCoherent}
 
-module _ {D : Type 0} (disk : D → Disk) (coherent : (device : D) → (disk device).honest → IsCoherent (disk device)) where
+module _ {D : Type 0} (disk : D → Disk) (coherent : AreCoherent disk) where
   -- nothing is committed yet
   pub come_nowhere : (start : JournalView D) (s : State) (copy : Option Target) (slots : List Slot) (end : Account) (segments : List Segment) → IsStored (disk start.device) start s copy
       → ArePlanned (with_copy (account_of start s) (copy_of copy)) segments slots end → HasCome disk start s copy slots end start copy segments []

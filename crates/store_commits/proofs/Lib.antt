@@ -9,6 +9,7 @@ pub mod Changes
 pub mod Extents
 pub mod Joining
 pub mod Parts
+pub mod Modelled
 mod Moves
 mod Plans
 pub mod Running
@@ -16,7 +17,7 @@ pub mod Slots
 pub mod SnapshotOutcomes
 pub mod Standing
 mod Stepped
-mod Switches
+pub mod Switches
 mod Waiting
 pub mod Went
 pub mod Raised

@@ -1,12 +1,14 @@
 -- Segments of a batch: what becomes of the account, however their commits end.
 use Rattle.std.proofs.Common.{◌≡◌, ◌⊎◌, inl, inr, ⊎_elim, ℕ, ◌+◌, ◌<◌, ◌≤◌, ◌^◌, List, [], ◌∷◌, length, length-append, map, refl, sym, ◌∙◌, ap, subst, arith, Bool, true, false, Option, None, Some, Vec, Global}
-use Rattle.sector_device.specs.Disk.{Disk, IsCoherent}
+use Rattle.sector_device.specs.Disk.{Disk}
 use Rattle.sector_device.proofs.Moments.{leaves_weaker}
 use Rattle.sector_device.specs.Sectors.{sectors_of}
 use Rattle.store_journal.specs.Layout.{capacity_of}
 use Rattle.store_journal.specs.Calls.{Broke, Switched, Takes}
 use Rattle.store_journal.specs.Carries.{switched}
 use Rattle.store_journal.specs.JournalView.{JournalView, carried_of}
+use Rattle.store_journal.specs.Models.{model}
+use Rattle.store_journal.specs.Writes.{switch_calls}
 use Rattle.doc_machine.specs.Transaction.{AreFramed, AreGood, Transaction, after_in, changes_of, refusal_in}
 use Rattle.refusals.specs.declared.numbers.TheConstants.{BROKEN, DEVICE, FULL}
 use Rattle.doc_changes.proofs.Framed.{framed_storable}
@@ -16,7 +18,7 @@ use Rattle.store_commits.specs.Account.{Account, account_broken, with_copy, exte
 use Rattle.store_commits.specs.Batch.{GoesBehind, IsBatch, behind_in_doubt, failed, is_full, passed, room_in_doubt, room_made, to_append, to_snapshot, Slot, AreCommitted, AreInDoubt, AreJudged, waits, said, asked, waiting, size_of, sizes_of, account_committed, replies_done, replies_in_doubt}
 use Rattle.store_commits.specs.Copying.{Target, copy_of, target_with}
 use Rattle.store_commits.specs.Folds.{all_changes, frames_at, StandsAfter}
-use Rattle.store_commits.specs.Inside.{IsStored, account_of, store_view, ArePlanned, IsAppended, IsAppendedBehind, IsPart, IsSegment, IsTried, AnswersPart, answered, behind, bytes_in, fate_of, full, none_planned, one_planned, replies_in, together}
+use Rattle.store_commits.specs.Inside.{IsStored, LeavesNumbers, account_of, store_view, ArePlanned, IsAppended, IsAppendedBehind, IsPart, IsSegment, IsTried, AnswersPart, answered, behind, bytes_in, fate_of, full, none_planned, one_planned, replies_in, together}
 use Rattle.store_commits.specs.Snapshot.{NeedsSnapshot, RemakesAll, snapshot_bytes, account_with_snapshot}
 use Rattle.store_commits.specs.Run.{Refused}
 use Rattle.store_commits.specs.declared.event.Reply.{Reply}
@@ -32,7 +34,8 @@ use Rattle.store_commits.proofs.Slots.{asked_append, length_replies, slots_done,
 use Rattle.store_commits.proofs.SnapshotOutcomes.{held_snapped, snapped_is, snapshot_moments}
 use Rattle.store_commits.proofs.Snapshots.{remakes_all}
 use Rattle.store_commits.proofs.Standing.{broke_is, held_broke, not_both, standing}
-use Rattle.store_commits.proofs.Waiting.{account_then, moved_done, moved_in_doubt, none_in, some_in, takes, was_in_doubt, was_made, was_nothing}
+use Rattle.store_commits.proofs.Waiting.{next_most, account_then, moved_done, moved_in_doubt, none_in, some_in, takes, was_in_doubt, was_made, was_nothing}
+use Rattle.store_commits.proofs.Modelled.{AreCoherent}
 
 -- ---- replies
 
@@ -83,7 +86,7 @@ planned_bytes _ _ _ _ (one_planned a b end segment segments slots more part rest
 
 -- ---- a transaction behind a snapshot
 
-module _ {D : Type 0} (disk : D → Disk) (coherent : (device : D) → (disk device).honest → IsCoherent (disk device)) (before : JournalView D) (state : State) (copy : Option Target) (works : before.broken ≡ false) (stored : IsStored (disk before.device) before state copy) where
+module _ {D : Type 0} (disk : D → Disk) (coherent : AreCoherent disk) (before : JournalView D) (state : State) (copy : Option Target) (works : before.broken ≡ false) (stored : IsStored (disk before.device) before state copy) (numbers : LeavesNumbers before 3) where
   abbrev d : Account
   d = with_copy (account_of before state) (copy_of copy)
 
@@ -98,37 +101,39 @@ module _ {D : Type 0} (disk : D → Disk) (coherent : (device : D) → (disk dev
   remakes = remakes_all framed_storable state stored.held.good
 
   -- it was made
-  snapshot_made : (mid : JournalView D) → Tried mid (Switched (disk before.device) (disk mid.device) before mid snapshot (sectors_of (length snapshot) + 3)) → Moved disk before state mid None [] [] (passed (to_snapshot d) ∷ [])
+  snapshot_made : (mid : JournalView D) → Tried mid (Switched (disk before.device) (disk mid.device) before mid snapshot (sectors_of (length snapshot) + switch_calls before.rides (length snapshot))) → Moved disk before state mid None [] [] (passed (to_snapshot d) ∷ [])
   snapshot_made mid is =
       let held = held_snapped (disk before.device) (disk mid.device) before mid state remakes stored.held is.honest is.kept is.outcome in
       let then = snapped_is (disk before.device) (disk mid.device) before mid state remakes stored.held is.honest is.kept (copy_of copy) works is.outcome in
       record {
         stored = record { held = held; copied = tt };
         honest = is.honest;
+        rides = is.outcome.rides;
         any_moment = λ honest. snapshot_moments (disk before.device) (disk mid.device) before mid state remakes stored.held is.honest is.kept honest (is.any_moment honest);
         made = (
           mid.device,
           record {
             passed = is.outcome.made;
-            leaves = ending_as (disk mid.device) mid state (coherent mid.device) held is.outcome.works [] snapshot (λ honest. is.outcome.bytes (is.honest.1 honest)) (account_with_snapshot d) (ap extent_of then);
+            leaves = ending_as (disk mid.device) mid state (coherent mid.rides mid.device) held is.outcome.works [] snapshot (λ honest. is.outcome.bytes (is.honest.1 honest)) (account_with_snapshot d) (ap extent_of then);
           },
           refl,
         );
       }
 
   -- or the device failed in it
-  snapshot_missed : (now : JournalView D) → Tried now (Broke (disk before.device) (disk now.device) (sectors_of (length snapshot) + 3) before now) → (in_doubt : List Transaction) → Moved disk before state now None [] in_doubt (failed (to_snapshot d) (account_of now state) ∷ [])
+  snapshot_missed : (now : JournalView D) → Tried now (Broke (disk before.device) (disk now.device) (sectors_of (length snapshot) + switch_calls before.rides (length snapshot)) before now) → (in_doubt : List Transaction) → Moved disk before state now None [] in_doubt (failed (to_snapshot d) (account_of now state) ∷ [])
   snapshot_missed now is in_doubt = record {
     stored = record { held = held_broke (disk before.device) (disk now.device) before now state _ is.outcome stored.held is.honest is.kept; copied = tt };
     honest = is.honest;
-    any_moment = λ honest. leaves_weaker (disk before.device) (disk now.device) (StandsAfter state []) (StandsAfter state in_doubt) (widened state [] in_doubt)
+    rides = is.outcome.stays.rides;
+    any_moment = λ honest. leaves_weaker (model before.rides (disk before.device)) (model before.rides (disk now.device)) (StandsAfter state []) (StandsAfter state in_doubt) (widened state [] in_doubt)
         (snapshot_moments (disk before.device) (disk now.device) before now state remakes stored.held is.honest is.kept honest (is.any_moment honest));
     made = (
       now.device,
       record {
         failed = is.outcome.failed;
         leaves = λ honest image left. ⊎_elim (λ old. inl (broken_as d (account_of now state) image (broke_is (disk before.device) (disk now.device) before now state _ is.outcome) old)) (λ new. inr new)
-            (switched_as disk coherent before now state stored.held is.honest is.kept is.outcome.stays.sectors snapshot (snapshot_holds state state.seq refl remakes) is.any_moment honest image left);
+            (switched_as disk coherent before now state stored.held is.honest is.kept is.outcome.stays.sectors snapshot (snapshot_holds state state.seq refl remakes) is.any_moment honest image (subst (λ (r : Bool). (model r (disk now.device)).left image) is.outcome.stays.rides left));
       },
       refl,
     );
@@ -153,12 +158,15 @@ module _ {D : Type 0} (disk : D → Disk) (coherent : (device : D) → (disk dev
 
     -- the snapshot was made, and left the journal as mid
 
-    module _ (mid : JournalView D) (turned_over : Tried mid (Switched (disk before.device) (disk mid.device) before mid snapshot (sectors_of (length snapshot) + 3))) where
+    module _ (mid : JournalView D) (turned_over : Tried mid (Switched (disk before.device) (disk mid.device) before mid snapshot (sectors_of (length snapshot) + switch_calls before.rides (length snapshot)))) where
       first : Moved disk before state mid None [] [] (passed (to_snapshot d) ∷ [])
       first = snapshot_made mid turned_over
 
       mid_is : account_of mid state ≡ snapped
       mid_is = snapped_is (disk before.device) (disk mid.device) before mid state remakes stored.held turned_over.honest turned_over.kept (copy_of copy) works turned_over.outcome
+
+      numbers_there : LeavesNumbers mid 2
+      numbers_there = let left = numbers in let is = turned_over.outcome.next in let most = next_most before.rides before.next in omega (arith, left, is, most)
 
       judged_there : AreJudged (account_of mid state) slots
       judged_there = subst (λ (x : Account). AreJudged x slots) (sym mid_is) judged
@@ -167,11 +175,11 @@ module _ {D : Type 0} (disk : D → Disk) (coherent : (device : D) → (disk dev
           → AnswersPart disk before state copy slots left end now None (replies_by fine state.seq slots)
       turned now true appended =
           let ok = appended.outcome.0 refl in
-          let then = account_then disk coherent mid state None slots turned_over.outcome.works judged_there framed good first.stored c [] refl now true appended ok ∙ ap (λ (x : Account). account_committed x slots) mid_is in
+          let then = account_then disk coherent mid state None slots turned_over.outcome.works judged_there framed good first.stored numbers_there c [] refl now true appended ok ∙ ap (λ (x : Account). account_committed x slots) mid_is in
           let are : AreCommitted snapped slots (account_of now (after_in state c)) = record { works = works; judged = judged; new_is = then } in
           let moved = subst (λ (x : Account). Moved disk before state now None (c ∷ []) [] (passed (to_snapshot d) ∷ passed (to_append x slots) ∷ [])) mid_is
           (moved_both disk coherent before state mid now None None (c ∷ []) [] (passed (to_snapshot d) ∷ []) (passed (to_append (account_of mid state) slots) ∷ []) first
-          (moved_done disk coherent mid state None slots turned_over.outcome.works judged_there framed good first.stored c [] refl now true appended ok)) in
+          (moved_done disk coherent mid state None slots turned_over.outcome.works judged_there framed good first.stored numbers_there c [] refl now true appended ok)) in
           done_answered disk coherent before state copy works now slots (passed (to_snapshot d) ∷ passed (to_append snapped slots) ∷ []) left end None moved ok.works then (slots_done snapped state.seq slots judged)
           (λ qs rest last batch. room_made d (account_of now (after_in state c)) last c left qs rest goes are batch)
       turned now false appended =
@@ -180,12 +188,12 @@ module _ {D : Type 0} (disk : D → Disk) (coherent : (device : D) → (disk dev
           let are : AreInDoubt snapped slots (account_of now state) = record { works = works; judged = judged; some = λ none. absurd (cc none); new_is = then } in
           let moved = subst (λ (x : Account). Moved disk before state now None [] (c ∷ []) (passed (to_snapshot d) ∷ failed (to_append x slots) (account_of now state) ∷ [])) mid_is
           (moved_both disk coherent before state mid now None None [] (c ∷ []) (passed (to_snapshot d) ∷ []) (failed (to_append (account_of mid state) slots) (account_of now state) ∷ []) first
-          (moved_in_doubt disk coherent mid state None slots turned_over.outcome.works judged_there framed good first.stored c [] refl now false appended broke)) in
+          (moved_in_doubt disk coherent mid state None slots turned_over.outcome.works judged_there framed good first.stored numbers_there c [] refl now false appended broke)) in
           in_doubt_answered disk coherent before state copy works now slots (passed (to_snapshot d) ∷ failed (to_append snapped slots) (account_of now state) ∷ []) left end moved broke.broken c [] refl (slots_in_doubt snapped slots judged)
           (λ qs rest last batch. behind_in_doubt d (account_of now state) last c left qs rest goes are batch)
 
     -- or a fault hit it
-    missed : (now : JournalView D) → Tried now (Broke (disk before.device) (disk now.device) (sectors_of (length snapshot) + 3) before now) → AnswersPart disk before state copy slots left end now None (replies_in_doubt slots)
+    missed : (now : JournalView D) → Tried now (Broke (disk before.device) (disk now.device) (sectors_of (length snapshot) + switch_calls before.rides (length snapshot)) before now) → AnswersPart disk before state copy slots left end now None (replies_in_doubt slots)
     missed now is =
         let then : account_of now state ≡ account_broken d = broke_is (disk before.device) (disk now.device) before now state _ is.outcome in
         in_doubt_answered disk coherent before state copy works now slots (failed (to_snapshot d) (account_broken d) ∷ []) left end
@@ -199,10 +207,13 @@ module _ {D : Type 0} (disk : D → Disk) (coherent : (device : D) → (disk dev
 
   -- ---- whatever the segment is
 
+  few_left : LeavesNumbers before 2
+  few_left = let left = numbers in omega (arith, left)
+
   -- nothing waits
   nothing_by : (left : List Transaction) (slots : List Slot) (b : Account) → IsSegment d left None slots b → AreFramed (all_changes (waiting slots)) → AreGood state (all_changes (waiting slots)) → length (all_changes (waiting slots)) ≡ 0
       → AnswersPart disk before state copy slots left b before copy (replies_done state.seq slots)
-  nothing_by left _ _ (together slots judged forced) framed good few = was_nothing disk coherent before state copy slots works judged framed good stored (none_in d slots judged few) left forced
+  nothing_by left _ _ (together slots judged forced) framed good few = was_nothing disk coherent before state copy slots works judged framed good stored few_left (none_in d slots judged few) left forced
   nothing_by left _ _ (full c accepted no_room) framed good few =
       done_answered disk coherent before state copy works before (said c (plain FULL) ∷ []) [] left d copy (moved_nowhere disk coherent before state copy stored works) works refl
       (record { paired = refl; dones_are = refl; hits_are = refl }) (λ qs rest end batch. is_full d end c left qs rest works accepted no_room batch)
@@ -215,16 +226,16 @@ module _ {D : Type 0} (disk : D → Disk) (coherent : (device : D) → (disk dev
   some_by left _ _ (together slots judged forced) framed good some now true appended copied grown dropped =
       let first = some_in (waiting slots) some in
       subst (λ (t : Option Target). AnswersPart disk before state copy slots left (account_committed d slots) now t (replies_done state.seq slots)) (sym (grown refl))
-      (was_made disk coherent before state copy slots works judged framed good stored first.0 first.1 first.2 now true appended (appended.outcome.0 refl) left forced)
+      (was_made disk coherent before state copy slots works judged framed good stored few_left first.0 first.1 first.2 now true appended (appended.outcome.0 refl) left forced)
   some_by left _ _ (together slots judged forced) framed good some now false appended copied grown dropped =
       let first = some_in (waiting slots) some in
       subst (λ (t : Option Target). AnswersPart disk before state copy slots left (account_committed d slots) now t (replies_in_doubt slots)) (sym (dropped refl))
-      (was_in_doubt disk coherent before state copy slots works judged framed good stored first.0 first.1 first.2 now false appended (appended.outcome.1 refl) left forced)
+      (was_in_doubt disk coherent before state copy slots works judged framed good stored few_left first.0 first.1 first.2 now false appended (appended.outcome.1 refl) left forced)
   some_by left _ _ (full c accepted no_room) framed good some now fine appended copied grown dropped = absurd (some refl)
 
   takes_by : (left : List Transaction) (slots : List Slot) (b : Account) → IsSegment d left None slots b → AreFramed (all_changes (waiting slots)) → AreGood state (all_changes (waiting slots)) → (length (all_changes (waiting slots)) ≡ 0 → ⊥)
       → Takes before (length (frames_at state.seq (all_changes (waiting slots)))) (length (all_changes (waiting slots)))
-  takes_by left _ _ (together slots judged forced) framed good some = takes disk coherent before state copy slots works judged framed good stored
+  takes_by left _ _ (together slots judged forced) framed good some = takes disk coherent before state copy slots works judged framed good stored few_left
   takes_by left _ _ (full c accepted no_room) framed good some = absurd (some refl)
 
   -- one waits behind a snapshot
@@ -236,7 +247,7 @@ module _ {D : Type 0} (disk : D → Disk) (coherent : (device : D) → (disk dev
       (subst (λ (l : List ℕ). IsAppendedBehind disk before now l (frames_at state.seq (all_changes (c ∷ []))) (length (all_changes (c ∷ []))) fine) bytes appended)
 
   fits_by : (left : List Transaction) (v : Vec ℕ Global) (slots : List Slot) (b : Account) → IsSegment d left (Some v) slots b → AreGood state (all_changes (waiting slots))
-      → (length v.items + length (frames_at state.seq (all_changes (waiting slots))) ≤ capacity_of before.sectors) × (before.seq + length (all_changes (waiting slots)) < 2 ^ 64)
+      → (length v.items + length (frames_at state.seq (all_changes (waiting slots))) ≤ capacity_of before.rides before.sectors) × (before.seq + length (all_changes (waiting slots)) < 2 ^ 64)
   fits_by left _ _ _ (behind c v bytes accepted needs) good =
       let long = ap length bytes in
       let size = frames_size state.seq (all_changes (c ∷ [])) ∙ sym (sizes_all (c ∷ [])) in
@@ -279,13 +290,13 @@ module _ {D : Type 0} (disk : D → Disk) (coherent : (device : D) → (disk dev
     part_takes none some = subst (λ (q : List ℕ × ℕ). Takes before (length q.0) q.1) (λ i. (sym part.has.frames i, sym part.has.adds i))
         (takes_by left slots b (as_one None none) part.has.framed part.has.good (λ few. some (part.has.adds ∙ few)))
 
-    pub part_fits : (v : Vec ℕ Global) → segment.snapshot ≡ Some v → (length v.items + length segment.frames.items ≤ capacity_of before.sectors) × (before.seq + segment.adds < 2 ^ 64)
-    part_fits v is = subst (λ (q : List ℕ × ℕ). (length v.items + length q.0 ≤ capacity_of before.sectors) × (before.seq + q.1 < 2 ^ 64)) (λ i. (sym part.has.frames i, sym part.has.adds i))
+    pub part_fits : (v : Vec ℕ Global) → segment.snapshot ≡ Some v → (length v.items + length segment.frames.items ≤ capacity_of before.rides before.sectors) × (before.seq + segment.adds < 2 ^ 64)
+    part_fits v is = subst (λ (q : List ℕ × ℕ). (length v.items + length q.0 ≤ capacity_of before.rides before.sectors) × (before.seq + q.1 < 2 ^ 64)) (λ i. (sym part.has.frames i, sym part.has.adds i))
         (fits_by left v slots b (as_one (Some v) is) part.has.good)
 
 -- ---- the device failed before
 
-pub not_begun : {D : Type 0} (disk : D → Disk) (coherent : (device : D) → (disk device).honest → IsCoherent (disk device)) (before : JournalView D) (state : State) (copy : Option Target) → IsStored (disk before.device) before state copy → before.broken ≡ true
+pub not_begun : {D : Type 0} (disk : D → Disk) (coherent : AreCoherent disk) (before : JournalView D) (state : State) (copy : Option Target) → IsStored (disk before.device) before state copy → before.broken ≡ true
     → (a : Account) (left : List Transaction) (segment : Segment) (slots : List Slot) (b : Account) → IsPart a left segment slots b
     → AnswersPart disk before state copy slots left b before copy (map (answered NotBegun) segment.replies.items)
 not_begun disk coherent before state copy stored broken a left segment slots b part = subst (AnswersPart disk before state copy slots left b before copy) (sym (all_not_begun segment.replies.items (asked slots) (part_replies a left segment slots b part))) (record {

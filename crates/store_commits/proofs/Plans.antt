@@ -52,6 +52,9 @@ module _ (a : Account) (slots : List Slot) (p : Planning) (t : TrialView) (is : 
   sectors_then : b.sectors ≡ mid.sectors
   sectors_then = ap (λ (x : Account). x.sectors) (committed_is mid since)
 
+  capacity_then : capacity_of b.rides b.sectors ≡ capacity_of mid.rides mid.sectors
+  capacity_then = ap (λ (x : Account). capacity_of x.rides x.sectors) (committed_is mid since)
+
   -- the open segment has what waits since the last commit
   last_part : (left : List Transaction) → IsForced b left → IsPart mid left p.last since b
   last_part left forced = record { is = subst (λ (o : Option (Vec ℕ Global)). IsSegment mid left o since b) (sym is.no_snapshot) (together since is.judged forced); has = is.has; replies = is.replies }
@@ -131,7 +134,7 @@ module _ (a : Account) (slots : List Slot) (p : Planning) (t : TrialView) (is : 
             let sum = ap sizes_of (waiting_waits since) ∙ sizes_append ts (c ∷ []) in
             let room = is.room in
             let used = used_then in
-            let sectors = ap capacity_of sectors_then in
+            let sectors = capacity_then in
             let was = is.has.adds in (
               waits c,
               refl,
@@ -163,14 +166,14 @@ module _ (a : Account) (slots : List Slot) (p : Planning) (t : TrialView) (is : 
 
       module _ (over : p.left < size_of c) (good_all : AreGood t.state (changes_of c)) (last : Segment) (empty : IsEmpty last) (other : Segment) (segments : Vec Segment Global) (segments_are : segments.items ≡ (p.segments.items ++ p.last ∷ []) ++ other ∷ []) where
         is_over : IsOver b (size_of c)
-        is_over = let used = used_then in let sectors = ap capacity_of sectors_then in let room = is.room in omega (arith, over, used, sectors, room)
+        is_over = let used = used_then in let sectors = capacity_then in let room = is.room in omega (arith, over, used, sectors, room)
 
         good_here : AreGood b.state (changes_of c)
         good_here = subst (λ (s : State). AreGood s (changes_of c)) (sym state_then) good_all
 
         -- those that wait, then this one, and then whatever comes
         forced : (slot : Slot) (e : Account) → ((xs : List Slot) → IsForced b (asked (slot ∷ xs))) → ((xs : List Slot) → IsPart b (asked xs) other (slot ∷ []) e) → Good e.state
-            → (u : TrialView) → u.state ≡ e.state → u ≡ tried_from a.state (waiting (slots ++ slot ∷ [])) → (left bytes : ℕ) → e.used + left ≡ capacity_of e.sectors → bytes ≡ sizes_of (waiting (slots ++ slot ∷ [])) → e.sectors ≡ b.sectors
+            → (u : TrialView) → u.state ≡ e.state → u ≡ tried_from a.state (waiting (slots ++ slot ∷ [])) → (left bytes : ℕ) → e.used + left ≡ capacity_of e.rides e.sectors → bytes ≡ sizes_of (waiting (slots ++ slot ∷ [])) → capacity_of e.rides e.sectors ≡ capacity_of b.rides b.sectors
             → IsPlanning a (slots ++ slot ∷ []) (record p { left = left; bytes = bytes; segments = segments; last = last }) u
         forced slot e comes part good u state tried left bytes room bytes_are sectors = record {
           mid = e;
@@ -188,7 +191,7 @@ module _ (a : Account) (slots : List Slot) (p : Planning) (t : TrialView) (is : 
           no_snapshot = empty.snapshot;
           replies = empty.replies;
           room = omega (arith, room);
-          capacity = is.capacity ∙ ap capacity_of (sym (sectors ∙ sectors_then));
+          capacity = is.capacity ∙ sym (sectors ∙ capacity_then);
           state = state;
           tried = tried;
           bytes = bytes_are;
@@ -201,7 +204,7 @@ module _ (a : Account) (slots : List Slot) (p : Planning) (t : TrialView) (is : 
         further_full snapshot snapshot_is wide no_snapshot no_frames no_adds says u same =
             let size : length snapshot ≡ length (snapshot_bytes b.state.documents) = ap length snapshot_is ∙ ap (λ (s : State). length (snapshot_bytes s.documents)) (sym state_then) in
             let half = is.capacity in
-            let sectors = ap capacity_of sectors_then in
+            let sectors = capacity_then in
             let room = is.room in
             let used = used_then in
             let slot = said c (plain FULL) in
@@ -227,7 +230,7 @@ module _ (a : Account) (slots : List Slot) (p : Planning) (t : TrialView) (is : 
             let documents = ap (λ (s : State). snapshot_bytes s.documents) (sym state_then) in
             let size = ap length snapshot_is ∙ ap length documents in
             let half = is.capacity in
-            let sectors = ap capacity_of sectors_then in
+            let sectors = capacity_then in
             let then : u.state ≡ after_in b.state c = made.state ∙ ap (λ (s : State). after_in s c) (sym state_then) in
             let number : u.state.seq ≡ b.state.seq + length (changes_of c) = ap (λ (s : State). s.seq) then ∙ seq_after b.state c in
             let one = append-nil (changes_of c) in
@@ -251,7 +254,7 @@ module _ (a : Account) (slots : List Slot) (p : Planning) (t : TrialView) (is : 
 
 -- ---- nothing is planned yet
 
-pub planning_begins : (a : Account) (t : TrialView) (p : Planning) → Good t.state → t.state ≡ a.state → t.past ≡ [] → p.segments.items ≡ [] → a.used + p.left ≡ capacity_of a.sectors → p.capacity ≡ capacity_of a.sectors → p.bytes ≡ 0
+pub planning_begins : (a : Account) (t : TrialView) (p : Planning) → Good t.state → t.state ≡ a.state → t.past ≡ [] → p.segments.items ≡ [] → a.used + p.left ≡ capacity_of a.rides a.sectors → p.capacity ≡ capacity_of a.rides a.sectors → p.bytes ≡ 0
     → IsEmpty p.last → IsPlanning a [] p t
 planning_begins a t p good state past none room capacity bytes empty = record {
   mid = a;

@@ -1,8 +1,9 @@
 -- What lasts of transactions one after another, and runs that go on.
 use Rattle.std.proofs.Common.{◌≡◌, ◌⊎◌, inl, inr, ℕ, List, [], ◌∷◌, ◌++◌, length, length-append, suc, ◌+◌, refl, sym, ◌∙◌, ap, subst, true, false, Bool, ◌↔◌, arith}
 use Rattle.std.proofs.lemmas.List.{append_assoc, append-nil}
-use Rattle.sector_device.specs.Disk.{Disk, Image, IsCoherent, LeavesOnly}
+use Rattle.sector_device.specs.Disk.{Disk, Image, LeavesOnly}
 use Rattle.sector_device.proofs.Moments.{joined, leaves_weaker, left_now}
+use Rattle.store_journal.specs.Models.{model}
 use Rattle.doc_machine.specs.Transaction.{Transaction, changes_of}
 use Rattle.doc_changes.specs.State.{State}
 use Rattle.store_commits.specs.Folds.{after_each, StandsAfter}
@@ -16,6 +17,7 @@ use Rattle.store_commits.specs.Run.{IsDone, IsRun, Lasts, Ran, a_batch, a_snapsh
 use Rattle.store_commits.proofs.Changes.{after_append}
 use Rattle.store_commits.proofs.Slots.{swap}
 use Rattle.store_commits.proofs.Standing.{not_both, stays}
+use Rattle.store_commits.proofs.Modelled.{AreCoherent}
 
 -- ---- lists
 
@@ -79,22 +81,23 @@ pumped_works a b most p (inr (inr is)) = is.can.works
 
 -- ---- what lasts
 
-module _ {D : Type 0} (disk : D → Disk) (coherent : (device : D) → (disk device).honest → IsCoherent (disk device)) where
+module _ {D : Type 0} (disk : D → Disk) (coherent : AreCoherent disk) where
   -- no transaction is done, and none is in doubt
-  pub lasts_unchanged : (old new : StoreView D) → (disk old.device).honest ↔ (disk new.device).honest → (old.account.broken ≡ true → new ≡ old) → new.account.state ≡ old.account.state
-      → ((disk old.device).honest → old.account.broken ≡ false → LeavesOnly (disk old.device) (disk new.device) (StandsAfter old.account.state [])) → Lasts disk old new [] []
-  lasts_unchanged old new same still state leaves = record {
+  pub lasts_unchanged : (old new : StoreView D) → (disk old.device).honest ↔ (disk new.device).honest → (old.account.broken ≡ true → new ≡ old) → new.account.state ≡ old.account.state → new.account.rides ≡ old.account.rides
+      → ((disk old.device).honest → old.account.broken ≡ false → LeavesOnly (model old.account.rides (disk old.device)) (model old.account.rides (disk new.device)) (StandsAfter old.account.state [])) → Lasts disk old new [] []
+  lasts_unchanged old new same still state rides leaves = record {
     state_is = state;
     none_in_doubt = λ works. refl;
+    rides_is = rides;
     honest = same;
     any_moment = leaves;
     at_end = λ honest works image left. subst (λ (s : State). StandsAfter s [] image) (sym state)
-        (left_now (disk old.device) (disk new.device) (StandsAfter old.account.state []) (coherent new.device (same.0 honest)) (leaves honest works) image left);
+        (left_now (model old.account.rides (disk old.device)) (model old.account.rides (disk new.device)) (StandsAfter old.account.state []) (coherent old.account.rides new.device (same.0 honest)) (leaves honest works) image left);
     still = λ broken. (still broken, refl);
   }
 
   pub lasts_nothing : (x : StoreView D) → IsStanding (disk x.device) x.account → Lasts disk x x [] []
-  lasts_nothing x standing = lasts_unchanged x x (λ h. h, λ h. h) (λ broken. refl) refl (stays (disk x.device) x.account [] (coherent x.device) standing)
+  lasts_nothing x standing = lasts_unchanged x x (λ h. h, λ h. h) (λ broken. refl) refl refl (stays (disk x.device) x.account [] (coherent x.account.rides x.device) standing)
 
   -- these and those
   module _ (x y z : StoreView D) (dones more_dones in_doubt more_in_doubt : List Transaction) (first : Lasts disk x y dones in_doubt) (second : Lasts disk y z more_dones more_in_doubt) where
@@ -110,31 +113,34 @@ module _ {D : Type 0} (disk : D → Disk) (coherent : (device : D) → (disk dev
     apart true is = inr (no_more_dones is)
     apart false is = inl (first.none_in_doubt is)
 
+    abbrev rides : Bool
+    rides = x.account.rides
+
     abbrev each : List Transaction
     each = (dones ++ in_doubt) ++ (more_dones ++ more_in_doubt)
 
-    front : (disk x.device).honest → x.account.broken ≡ false → LeavesOnly (disk x.device) (disk y.device) (StandsAfter x.account.state each)
-    front honest works = leaves_weaker (disk x.device) (disk y.device) (StandsAfter x.account.state (dones ++ in_doubt)) (StandsAfter x.account.state each)
+    front : (disk x.device).honest → x.account.broken ≡ false → LeavesOnly (model rides (disk x.device)) (model rides (disk y.device)) (StandsAfter x.account.state each)
+    front honest works = leaves_weaker (model rides (disk x.device)) (model rides (disk y.device)) (StandsAfter x.account.state (dones ++ in_doubt)) (StandsAfter x.account.state each)
         (widened x.account.state (dones ++ in_doubt) (more_dones ++ more_in_doubt)) (first.any_moment honest works)
 
-    moments_by : (b : Bool) → y.account.broken ≡ b → (disk x.device).honest → x.account.broken ≡ false → LeavesOnly (disk x.device) (disk z.device) (StandsAfter x.account.state each)
-    moments_by true is honest works = subst (λ (v : StoreView D). LeavesOnly (disk x.device) (disk v.device) (StandsAfter x.account.state each)) (sym (second.still is).0) (front honest works)
+    moments_by : (b : Bool) → y.account.broken ≡ b → (disk x.device).honest → x.account.broken ≡ false → LeavesOnly (model rides (disk x.device)) (model rides (disk z.device)) (StandsAfter x.account.state each)
+    moments_by true is honest works = subst (λ (v : StoreView D). LeavesOnly (model rides (disk x.device)) (model rides (disk v.device)) (StandsAfter x.account.state each)) (sym (second.still is).0) (front honest works)
     moments_by false is honest works =
         let none : dones ≡ dones ++ in_doubt = sym (append-nil dones) ∙ ap (λ (l : List Transaction). dones ++ l) (sym (first.none_in_doubt is)) in
-        joined (disk x.device) (disk y.device) (disk z.device) (StandsAfter x.account.state each) (front honest works)
-        (leaves_weaker (disk y.device) (disk z.device) (StandsAfter y.account.state (more_dones ++ more_in_doubt)) (StandsAfter x.account.state each)
+        joined (model rides (disk x.device)) (model rides (disk y.device)) (model rides (disk z.device)) (StandsAfter x.account.state each) (front honest works)
+        (leaves_weaker (model rides (disk y.device)) (model rides (disk z.device)) (StandsAfter y.account.state (more_dones ++ more_in_doubt)) (StandsAfter x.account.state each)
         (λ image stands. subst (λ (l : List Transaction). StandsAfter x.account.state (l ++ (more_dones ++ more_in_doubt)) image) none
         (shifted x.account.state y.account.state dones (more_dones ++ more_in_doubt) image first.state_is stands))
-        (second.any_moment (first.honest.0 honest) is))
+        (subst (λ (r : Bool). LeavesOnly (model r (disk y.device)) (model r (disk z.device)) (StandsAfter y.account.state (more_dones ++ more_in_doubt))) first.rides_is (second.any_moment (first.honest.0 honest) is)))
 
-    end_by : (b : Bool) → y.account.broken ≡ b → (disk x.device).honest → x.account.broken ≡ false → (image : Image) → (disk z.device).left image → StandsAfter z.account.state (in_doubt ++ more_in_doubt) image
+    end_by : (b : Bool) → y.account.broken ≡ b → (disk x.device).honest → x.account.broken ≡ false → (image : Image) → (model rides (disk z.device)).left image → StandsAfter z.account.state (in_doubt ++ more_in_doubt) image
     end_by true is honest works image left =
         let all : in_doubt ≡ in_doubt ++ more_in_doubt = sym (append-nil in_doubt) ∙ ap (λ (l : List Transaction). in_doubt ++ l) (sym (no_more_hits is)) in
         let same = (second.still is).0 in
         subst (λ (v : StoreView D). StandsAfter v.account.state (in_doubt ++ more_in_doubt) image) (sym same)
-        (subst (λ (l : List Transaction). StandsAfter y.account.state l image) all (first.at_end honest works image (subst (λ (v : StoreView D). (disk v.device).left image) same left)))
+        (subst (λ (l : List Transaction). StandsAfter y.account.state l image) all (first.at_end honest works image (subst (λ (v : StoreView D). (model rides (disk v.device)).left image) same left)))
     end_by false is honest works image left =
-        subst (λ (l : List Transaction). StandsAfter z.account.state (l ++ more_in_doubt) image) (sym (first.none_in_doubt is)) (second.at_end (first.honest.0 honest) is image left)
+        subst (λ (l : List Transaction). StandsAfter z.account.state (l ++ more_in_doubt) image) (sym (first.none_in_doubt is)) (second.at_end (first.honest.0 honest) is image (subst (λ (r : Bool). (model r (disk z.device)).left image) (sym first.rides_is) left))
 
     none_by : (b : Bool) → y.account.broken ≡ b → z.account.broken ≡ false → in_doubt ++ more_in_doubt ≡ []
     none_by true is works = not_both z.account.broken works (ap (λ (v : StoreView D). v.account.broken) (second.still is).0 ∙ is)
@@ -152,8 +158,9 @@ module _ {D : Type 0} (disk : D → Disk) (coherent : (device : D) → (disk dev
     lasts_both = record {
       state_is = second.state_is ∙ ap (λ (s : State). after_each s more_dones) first.state_is ∙ sym (after_append x.account.state dones more_dones);
       none_in_doubt = none_by y.account.broken refl;
+      rides_is = second.rides_is ∙ first.rides_is;
       honest = (λ h. second.honest.0 (first.honest.0 h), λ h. first.honest.1 (second.honest.1 h));
-      any_moment = λ honest works. subst (λ (l : List Transaction). LeavesOnly (disk x.device) (disk z.device) (StandsAfter x.account.state l))
+      any_moment = λ honest works. subst (λ (l : List Transaction). LeavesOnly (model rides (disk x.device)) (model rides (disk z.device)) (StandsAfter x.account.state l))
           (sym (swap dones in_doubt more_dones more_in_doubt (apart y.account.broken refl))) (moments_by y.account.broken refl honest works);
       at_end = end_by y.account.broken refl;
       still = still_both;
@@ -223,7 +230,7 @@ made_append {D} disk x y z [] ls first second = subst (λ (d : D). AreMade disk 
 made_append disk x y z (passed k ∷ ks) ls first second = (first.0, first.1, made_append disk first.0 y z ks ls first.2 second)
 made_append disk x y z (failed k kept ∷ ks) ls first second = (first.0, first.1, made_append disk first.0 y z ks ls first.2 second)
 
-module _ {D : Type 0} (disk : D → Disk) (coherent : (device : D) → (disk device).honest → IsCoherent (disk device)) where
+module _ {D : Type 0} (disk : D → Disk) (coherent : AreCoherent disk) where
   pub ran_nothing : (x : StoreView D) → IsStanding (disk x.device) x.account → Ran disk x x [] []
   ran_nothing x standing = record { commits = []; run = nothing x.account; made = refl; lasts = lasts_nothing disk coherent x standing }
 

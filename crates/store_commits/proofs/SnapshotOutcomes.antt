@@ -1,11 +1,13 @@
 -- A snapshot that was written and switched to, or given up.
 use Rattle.std.proofs.Common.{◌≡◌, inl, inr, ℕ, ◌+◌, List, [], length, Result, Ok, Err, IfOk, IfErr, refl, sym, ◌∙◌, ap, subst, None, Option, false, ◌↔◌}
-use Rattle.sector_device.specs.Disk.{Disk, Image, IsCoherent, LeavesOnly}
+use Rattle.sector_device.specs.Disk.{Disk, Image, LeavesOnly}
 use Rattle.sector_device.proofs.Moments.{leaves_weaker}
 use Rattle.sector_device.specs.Sectors.{sectors_of}
 use Rattle.store_journal.specs.Calls.{Broke, Switched}
 use Rattle.store_journal.specs.Carries.{EitherCarried, switched}
 use Rattle.store_journal.specs.JournalView.{JournalView, IsKept, carried_of}
+use Rattle.store_journal.specs.Models.{model}
+use Rattle.store_journal.specs.Writes.{switch_calls}
 use Rattle.doc_changes.proofs.Framed.{framed_storable}
 use Rattle.doc_changes.specs.Refusals.{plain}
 use Rattle.doc_changes.specs.State.{State}
@@ -19,6 +21,7 @@ use Rattle.store_commits.proofs.Migrating.{snapshot_holds}
 use Rattle.store_commits.proofs.Snapshots.{remakes_all}
 use Rattle.store_commits.specs.Folds.{StandsAfter}
 use Rattle.store_commits.proofs.Standing.{held_broke, stands_by, stands_now}
+use Rattle.store_commits.proofs.Modelled.{AreCoherent}
 
 module _ {D : Type 0} (old new : Disk) (before now : JournalView D) (state : State) (remakes : RemakesAll state) (held : IsHeld old before state) (same : old.honest ↔ new.honest) (kept : IsKept new now) where
   abbrev target : List ℕ
@@ -31,10 +34,10 @@ module _ {D : Type 0} (old new : Disk) (before now : JournalView D) (state : Sta
   either_stands honest image (inl carries) = stands_now state [] image (stands_by state (carried_of before) held.version held.seq held.profile (held.held honest) image carries)
   either_stands honest image (inr carries) = stands_now state [] image (stands_by state (switched (carried_of before) target) held.version held.seq held.profile holds image carries)
 
-  pub snapshot_moments : old.honest → LeavesOnly old new (EitherCarried (carried_of before) (switched (carried_of before) target)) → LeavesOnly old new (StandsAfter state [])
-  snapshot_moments honest leaves = leaves_weaker old new (EitherCarried (carried_of before) (switched (carried_of before) target)) (StandsAfter state []) (either_stands honest) leaves
+  pub snapshot_moments : old.honest → LeavesOnly (model before.rides old) (model before.rides new) (EitherCarried (carried_of before) (switched (carried_of before) target)) → LeavesOnly (model before.rides old) (model before.rides new) (StandsAfter state [])
+  snapshot_moments honest leaves = leaves_weaker (model before.rides old) (model before.rides new) (EitherCarried (carried_of before) (switched (carried_of before) target)) (StandsAfter state []) (either_stands honest) leaves
 
-  pub held_snapped : Switched old new before now target (sectors_of (length target) + 3) → IsHeld new now state
+  pub held_snapped : Switched old new before now target (sectors_of (length target) + switch_calls before.rides (length target)) → IsHeld new now state
   held_snapped counts = record {
     kept = kept;
     version = counts.version ∙ held.version;
@@ -46,22 +49,22 @@ module _ {D : Type 0} (old new : Disk) (before now : JournalView D) (state : Sta
   }
 
   -- the account of the journal then
-  pub snapped_is : (k : Option Copy) → before.broken ≡ false → Switched old new before now target (sectors_of (length target) + 3) → account_of now state ≡ account_with_snapshot (with_copy (account_of before state) k)
+  pub snapped_is : (k : Option Copy) → before.broken ≡ false → Switched old new before now target (sectors_of (length target) + switch_calls before.rides (length target)) → account_of now state ≡ account_with_snapshot (with_copy (account_of before state) k)
   snapped_is k works counts = λ i. record { state = state; used = counts.used i; half = counts.half i; rides = counts.rides i; opens = counts.opens i; sectors = counts.sectors i; broken = (counts.works ∙ sym works) i; copy = None }
 
 -- ---- either way
 
 -- what a commit of a snapshot answers: the target counts, or the device failed
 abbrev pub WasCommitted : {D : Type 0} → (D → Disk) → JournalView D → JournalView D → List ℕ → Result ℕ Refusal → Type 0
-WasCommitted disk before now target r = IfOk r (λ used. Switched (disk before.device) (disk now.device) before now target (sectors_of (length target) + 3) × (used ≡ length target))
+WasCommitted disk before now target r = IfOk r (λ used. Switched (disk before.device) (disk now.device) before now target (sectors_of (length target) + switch_calls before.rides (length target)) × (used ≡ length target))
 
 abbrev pub WasNotCommitted : {D : Type 0} → (D → Disk) → JournalView D → JournalView D → List ℕ → Result ℕ Refusal → Type 0
-WasNotCommitted disk before now target r = IfErr r (λ refusal. (refusal ≡ plain DEVICE) × Broke (disk before.device) (disk now.device) (sectors_of (length target) + 3) before now)
+WasNotCommitted disk before now target r = IfErr r (λ refusal. (refusal ≡ plain DEVICE) × Broke (disk before.device) (disk now.device) (sectors_of (length target) + switch_calls before.rides (length target)) before now)
 
-module _ {D : Type 0} (disk : D → Disk) (coherent : (device : D) → (disk device).honest → IsCoherent (disk device)) (before now : JournalView D) (state : State)
+module _ {D : Type 0} (disk : D → Disk) (coherent : AreCoherent disk) (before now : JournalView D) (state : State)
     (held : IsHeld (disk before.device) before state) (can : CanHold (account_of before state) (length (snapshot_bytes state.documents))) (kept : IsKept (disk now.device) now) (same : (disk before.device).honest ↔ (disk now.device).honest) where
   abbrev calls : ℕ
-  calls = sectors_of (length (snapshot_bytes state.documents)) + 3
+  calls = sectors_of (length (snapshot_bytes state.documents)) + switch_calls before.rides (length (snapshot_bytes state.documents))
 
   remakes : RemakesAll state
   remakes = remakes_all framed_storable state held.good

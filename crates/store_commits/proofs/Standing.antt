@@ -5,6 +5,7 @@ use Rattle.sector_device.proofs.Moments.{started}
 use Rattle.store_journal.specs.Calls.{Broke}
 use Rattle.store_journal.specs.Carries.{Carried, Carries}
 use Rattle.store_journal.specs.JournalView.{JournalView, IsKept, carried_of}
+use Rattle.store_journal.specs.Models.{model}
 use Rattle.doc_machine.specs.Transaction.{Transaction}
 use Rattle.doc_changes.specs.State.{State}
 use Rattle.store_commits.specs.Account.{Account, IsStanding, account_broken}
@@ -31,8 +32,9 @@ pub stands_now : (s : State) (cs : List Transaction) (image : Image) → Stands 
 stands_now s cs image stands = record { kept = []; rest = cs; parts = refl; stands = stands }
 
 -- nothing was done to the device
-pub stays : (disk : Disk) (account : Account) (cs : List Transaction) → (disk.honest → IsCoherent disk) → IsStanding disk account → disk.honest → account.broken ≡ false → LeavesOnly disk disk (StandsAfter account.state cs)
-stays disk account cs coherent stand honest works = started disk (StandsAfter account.state cs) (coherent honest) (λ image left. stands_now account.state cs image (stand honest works image left))
+pub stays : (disk : Disk) (account : Account) (cs : List Transaction) → (disk.honest → IsCoherent (model account.rides disk)) → IsStanding disk account → disk.honest → account.broken ≡ false
+    → LeavesOnly (model account.rides disk) (model account.rides disk) (StandsAfter account.state cs)
+stays disk account cs coherent stand honest works = started (model account.rides disk) (StandsAfter account.state cs) (coherent honest) (λ image left. stands_now account.state cs image (stand honest works image left))
 
 -- a journal that the device broke
 module _ {D : Type 0} (old new : Disk) (before now : JournalView D) (state : State) (calls : ℕ) (broke : Broke old new calls before now) where

@@ -1,13 +1,14 @@
 -- Transactions that are committed together: what the images stand for meanwhile, and what becomes of the account.
-use Rattle.std.proofs.Common.{Bool, ◌≡◌, inl, inr, ⊎_elim, ℕ, ◌+◌, ◌≤◌, List, [], ◌∷◌, ◌++◌, length, length-append, refl, sym, ◌∙◌, ap, subst, take, arith, false, Option, None, Some}
+use Rattle.std.proofs.Common.{Bool, ◌≡◌, inl, inr, ⊎_elim, ℕ, ◌+◌, ◌≤◌, List, [], ◌∷◌, ◌++◌, length, length-append, refl, sym, ◌∙◌, ap, subst, take, arith, false, true, if◌then◌else◌, Option, None, Some}
 use Rattle.std.proofs.lemmas.List.{append-nil, take-append-le}
-use Rattle.sector_device.specs.Disk.{Disk, Image, IsCoherent, LeavesOnly}
+use Rattle.sector_device.specs.Disk.{Disk, Image, LeavesOnly}
 use Rattle.sector_device.proofs.Moments.{leaves_weaker}
 use Rattle.sector_device.specs.Charges.{Made, Failed}
 use Rattle.store_journal.specs.Layout.{capacity_of}
 use Rattle.store_journal.specs.Calls.{Appended, BeginsWith, Broke, Takes}
 use Rattle.store_journal.specs.Carries.{EitherCarried, appended}
 use Rattle.store_journal.specs.JournalView.{JournalView, carried_of}
+use Rattle.store_journal.specs.Models.{model}
 use Rattle.store_journal.specs.Writes.{append_calls}
 use Rattle.doc_machine.specs.Transaction.{AreAccepted, AreFramed, AreGood, Transaction, after_in, changes_of}
 use Rattle.doc_changes.specs.State.{State, Good}
@@ -15,13 +16,14 @@ use Rattle.store_commits.specs.Account.{Account, Copy, account_broken, with_copy
 use Rattle.store_commits.specs.Batch.{Commit, IsBatch, IsForced, commit_for, commit_in_doubt, commit_made, failed, passed, to_append, Slot, waits, said, asked, waiting, copy_with, size_of, sizes_of, account_behind, account_committed, AreJudged, AreCommitted, AreInDoubt, calls_for, replies_done, replies_in_doubt}
 use Rattle.store_commits.specs.Copying.{IsCopied, Target, copy_of, target_with}
 use Rattle.store_commits.specs.Folds.{after_each, all_changes, frames_at, StandsAfter}
-use Rattle.store_commits.specs.Inside.{IsHeld, IsStored, account_of, IsAppended, AnswersPart}
+use Rattle.store_commits.specs.Inside.{IsHeld, IsStored, LeavesNumbers, account_of, IsAppended, AnswersPart}
 use Rattle.store_commits.specs.Images.{Holds, profile_in}
 use Rattle.store_commits.proofs.Changes.{accepted_append, accepted_in, each_is_all, frames_size, good_last, holds_all, profile_all, seq_counts, sizes_all, some_accepted}
 use Rattle.store_commits.proofs.Extents.{broken_as, either_as, ending_as}
 use Rattle.store_commits.proofs.Moves.{Moved, done_answered, in_doubt_answered, moved_nowhere}
 use Rattle.store_commits.proofs.Slots.{slots_done, slots_in_doubt}
 use Rattle.store_commits.proofs.Standing.{broke_is, held_broke, stands_by, stands_now}
+use Rattle.store_commits.proofs.Modelled.{AreCoherent}
 
 -- ---- over lists
 
@@ -31,7 +33,7 @@ accepted_all a (waits c ∷ slots) judged = accepted_append a.state (changes_of 
 accepted_all a (said c r ∷ slots) judged = accepted_all a slots judged.1
 
 -- all that wait fit
-pub room_all : (a : Account) (slots : List Slot) → AreJudged a slots → a.used ≤ capacity_of a.sectors → a.used + sizes_of (waiting slots) ≤ capacity_of a.sectors
+pub room_all : (a : Account) (slots : List Slot) → AreJudged a slots → a.used ≤ capacity_of a.rides a.sectors → a.used + sizes_of (waiting slots) ≤ capacity_of a.rides a.sectors
 room_all a [] judged fits = omega (arith, fits)
 room_all a (waits c ∷ slots) judged fits = let rest = room_all (account_behind a c) slots judged.2 judged.1 in omega (arith, rest)
 room_all a (said c r ∷ slots) judged fits = room_all a slots judged.1 fits
@@ -75,10 +77,15 @@ committed_none a [] none = refl
 committed_none a (waits c ∷ slots) none = absurd (cc none)
 committed_none a (said c r ∷ slots) none = committed_none a slots none
 
+-- the number of the next commit, after one
+pub next_most : (rides : Bool) (n : ℕ) → (if rides then n + 1 else 0) ≤ n + 1
+next_most true n = omega arith
+next_most false n = omega arith
+
 -- ---- one append, behind the bytes of a journal that works
 
-module _ {D : Type 0} (disk : D → Disk) (coherent : (device : D) → (disk device).honest → IsCoherent (disk device)) (before : JournalView D) (state : State) (copy : Option Target) (slots : List Slot) (works : before.broken ≡ false)
-    (judged : AreJudged (with_copy (account_of before state) (copy_of copy)) slots) (framed : AreFramed (all_changes (waiting slots))) (good : AreGood state (all_changes (waiting slots))) (stored : IsStored (disk before.device) before state copy) where
+module _ {D : Type 0} (disk : D → Disk) (coherent : AreCoherent disk) (before : JournalView D) (state : State) (copy : Option Target) (slots : List Slot) (works : before.broken ≡ false)
+    (judged : AreJudged (with_copy (account_of before state) (copy_of copy)) slots) (framed : AreFramed (all_changes (waiting slots))) (good : AreGood state (all_changes (waiting slots))) (stored : IsStored (disk before.device) before state copy) (numbers : LeavesNumbers before 2) where
   abbrev a : Account
   a = with_copy (account_of before state) (copy_of copy)
 
@@ -97,12 +104,12 @@ module _ {D : Type 0} (disk : D → Disk) (coherent : (device : D) → (disk dev
   good_then : Good (after_each state cs)
   good_then = subst Good (sym (each_is_all state cs)) (good_last state (all_changes cs) good)
 
-  room : length before.bytes + length frames ≤ capacity_of before.sectors
+  room : length before.bytes + length frames ≤ capacity_of before.rides before.sectors
   room = let all = room_all a slots judged stored.held.kept.used_fits in let sizes = size in omega (arith, all, sizes)
 
   -- the journal takes them
   pub takes : Takes before (length frames) adds
-  takes = record { works = works; fits = room; seq_fits = (let counted = good_then.counted in let sum = seq_counts state cs in let is = stored.held.seq in omega (arith, counted, sum, is)) }
+  takes = record { works = works; fits = room; next_fits = (let left = numbers in omega (arith, left)); seq_fits = (let counted = good_then.counted in let sum = seq_counts state cs in let is = stored.held.seq in omega (arith, counted, sum, is)) }
 
   holds_behind : (bytes : List ℕ) → Holds state.profile 2 state.seq bytes state.documents → Holds (after_each state cs).profile 2 (after_each state cs).seq (bytes ++ frames) (after_each state cs).documents
   holds_behind bytes holds = subst (λ (s : State). Holds s.profile 2 s.seq (bytes ++ frames) s.documents) (sym (each_is_all state cs)) (holds_all bytes state (all_changes cs) holds (accepted_all a slots judged) framed good)
@@ -128,8 +135,8 @@ module _ {D : Type 0} (disk : D → Disk) (coherent : (device : D) → (disk dev
   -- ---- it ended
 
   module _ (first : Transaction) (others : List Transaction) (some : waiting slots ≡ first ∷ others) (now : JournalView D) (fine : Bool) (is : IsAppended disk before now frames adds fine) where
-    moments : (disk before.device).honest → LeavesOnly (disk before.device) (disk now.device) (StandsAfter state cs)
-    moments honest = leaves_weaker (disk before.device) (disk now.device) (EitherCarried (carried_of before) (appended (carried_of before) frames adds)) (StandsAfter state cs) (either_stands honest) (is.any_moment honest)
+    moments : (disk before.device).honest → LeavesOnly (model before.rides (disk before.device)) (model before.rides (disk now.device)) (StandsAfter state cs)
+    moments honest = leaves_weaker (model before.rides (disk before.device)) (model before.rides (disk now.device)) (EitherCarried (carried_of before) (appended (carried_of before) frames adds)) (StandsAfter state cs) (either_stands honest) (is.any_moment honest)
 
     -- the calls of the commit
     calls_are : append_calls before.rides (length before.bytes) (length frames) ≡ calls_for a.rides a.used (waiting slots)
@@ -158,6 +165,7 @@ module _ {D : Type 0} (disk : D → Disk) (coherent : (device : D) → (disk dev
         copied = λ honest fine. (let h = is.honest.1 honest in
             subst (BeginsWith (take t.standing (t.bytes ++ frames))) (sym (is.outcome.2 h))
             (subst (λ (l : List ℕ). BeginsWith l before.copied) (sym (take-append-le t.standing t.bytes frames copied.within)) (copied.copied h works)));
+        numbered = (let left = numbers in let is = ok.next in let most = next_most before.rides before.next in omega (arith, left, is, most));
       }
 
       copy_then : (t : Option Target) → copy_of (target_with frames t) ≡ copy_with (copy_of t) (length frames)
@@ -182,12 +190,13 @@ module _ {D : Type 0} (disk : D → Disk) (coherent : (device : D) → (disk dev
       moved_done = record {
         stored = record { held = held_then; copied = copied_then copy stored.copied };
         honest = is.honest;
-        any_moment = λ honest. subst (λ (l : List Transaction). LeavesOnly (disk before.device) (disk now.device) (StandsAfter state l)) (sym (append-nil cs)) (moments honest);
+        rides = ok.rides;
+        any_moment = λ honest. subst (λ (l : List Transaction). LeavesOnly (model before.rides (disk before.device)) (model before.rides (disk now.device)) (StandsAfter state l)) (sym (append-nil cs)) (moments honest);
         made = (
           now.device,
           record {
             passed = subst (Made (disk before.device) (disk now.device)) calls_are ok.made;
-            leaves = ending_as (disk now.device) now (after_each state cs) (coherent now.device) held_then ok.works before.bytes frames (λ honest. ok.bytes (is.honest.1 honest)) (account_committed a slots) (ap extent_of account_then);
+            leaves = ending_as (disk now.device) now (after_each state cs) (coherent now.rides now.device) held_then ok.works before.bytes frames (λ honest. ok.bytes (is.honest.1 honest)) (account_committed a slots) (ap extent_of account_then);
           },
           refl,
         );
@@ -222,13 +231,14 @@ module _ {D : Type 0} (disk : D → Disk) (coherent : (device : D) → (disk dev
       moved_in_doubt = record {
         stored = record { held = held_broke (disk before.device) (disk now.device) before now state (append_calls before.rides (length before.bytes) (length frames)) broke stored.held is.honest is.kept; copied = tt };
         honest = is.honest;
+        rides = broke.stays.rides;
         any_moment = moments;
         made = (
           now.device,
           record {
             failed = subst (Failed (disk before.device) (disk now.device)) calls_are broke.failed;
             leaves = λ honest image left. ⊎_elim (λ old. inl (broken_as a (account_of now state) image new_is old)) (λ new. inr (subst (λ (l : Extent). EndsWith frames l image) made_is new))
-                (either_as disk coherent before now state stored.held is.honest is.kept broke.stays.sectors (appended (carried_of before) frames adds) made_as more refl refl refl seq_then profile_then refl refl before.bytes frames refl is.any_moment honest image left);
+                (either_as disk coherent before now state stored.held is.honest is.kept broke.stays.sectors (appended (carried_of before) frames adds) made_as more refl refl refl seq_then profile_then refl refl before.bytes frames refl is.any_moment honest image (subst (λ (r : Bool). (model r (disk now.device)).left image) broke.stays.rides left));
           },
           refl,
         );
@@ -247,12 +257,12 @@ module _ {D : Type 0} (disk : D → Disk) (coherent : (device : D) → (disk dev
   pub was_nothing : waiting slots ≡ [] → (left : List Transaction) → IsForced (account_committed a slots) left → AnswersPart disk before state copy slots left (account_committed a slots) before copy (replies_done state.seq slots)
   was_nothing none left forced =
       let b = with_copy (account_of before (after_each state (waiting slots))) (copy_of copy) in
-      let then : b ≡ account_committed a slots = ap (λ (ts : List Transaction). with_copy (account_of before (after_each state ts)) (copy_of copy)) none ∙ sym (committed_none a slots none) in
-      let are : AreCommitted a slots b = record { works = works; judged = judged; new_is = then } in
+      let after : b ≡ account_committed a slots = ap (λ (ts : List Transaction). with_copy (account_of before (after_each state ts)) (copy_of copy)) none ∙ sym (committed_none a slots none) in
+      let are : AreCommitted a slots b = record { works = works; judged = judged; new_is = after } in
       let moved = subst (λ (ts : List Transaction). Moved disk before state before copy ts [] []) (sym none) (moved_nowhere disk coherent before state copy stored works) in
-      done_answered disk coherent before state copy works before slots [] left (account_committed a slots) copy moved works then (slots_done a state.seq slots judged)
+      done_answered disk coherent before state copy works before slots [] left (account_committed a slots) copy moved works after (slots_done a state.seq slots judged)
       (λ qs rest end batch. subst (λ (ts : List Transaction). IsBatch a (asked slots ++ left) (replies_done state.seq slots ++ qs) (commit_for ts (passed (to_append a slots)) ++ rest) end) none
-      (commit_made a b end slots left qs rest are (subst (λ (x : Account). IsForced x left) (sym then) forced) batch))
+      (commit_made a b end slots left qs rest are (subst (λ (x : Account). IsForced x left) (sym after) forced) batch))
 
 -- ---- some wait
 

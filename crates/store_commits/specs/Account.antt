@@ -4,6 +4,7 @@ use Rattle.sector_device.specs.Disk.{Disk, Image}
 use Rattle.doc_changes.specs.State.{State}
 use Rattle.store_commits.specs.Images.{Stands, Holds, profile_in}
 use Rattle.store_journal.specs.Carries.{Carries}
+use Rattle.store_journal.specs.Models.{model}
 
 -- a copy that runs: the length of its target, and how many of these bytes the other half holds
 pub record Copy : Type 0 where
@@ -16,7 +17,7 @@ pub record Account : Type 0 where
   -- the bytes of the half that counts
   pub used : ℕ
   pub half : ℕ
-  -- small commits ride in the commit sector, so that one sync makes them durable: format 3, the one of profile 3
+  -- the last bytes ride in slots, so that one sync makes small commits durable: format 3, the one of profile 3
   pub rides : Bool
   pub opens : ℕ
   pub sectors : ℕ
@@ -37,11 +38,11 @@ pub record StoreView (D : Type 0) : Type 0 where
   pub device : D
   pub account : Account
 
--- of a working store on an honest device, each image that a crash may leave holds its state
+-- of a working store on an honest device, each image that a crash may leave, in the disk model of its format, holds its state
 abbrev pub IsStanding : Disk → Account → Type 0
-IsStanding disk account = disk.honest → account.broken ≡ false → (image : Image) → disk.left image → Stands account.state image
+IsStanding disk account = disk.honest → account.broken ≡ false → (image : Image) → (model account.rides disk).left image → Stands account.state image
 
--- a state, how many bytes hold it in which half, whether small commits ride, and the sectors of the device
+-- a state, how many bytes hold it in which half, whether the last of them ride in slots, and the sectors of the device
 pub record Extent : Type 0 where
   pub state : State
   pub used : ℕ
@@ -64,7 +65,7 @@ pub record StandsAs (l : Extent) (image : Image) : Type 0 where
 
 -- of a working store on an honest device, every image that a crash may leave is as its account
 abbrev pub IsStandingAs : Disk → Account → Type 0
-IsStandingAs disk account = disk.honest → account.broken ≡ false → (image : Image) → disk.left image → StandsAs (extent_of account) image
+IsStandingAs disk account = disk.honest → account.broken ≡ false → (image : Image) → (model account.rides disk).left image → StandsAs (extent_of account) image
 
 -- so does this one, and its bytes end with these
 pub record EndsWith (ending : List ℕ) (l : Extent) (image : Image) : Type 0 where
@@ -74,4 +75,4 @@ pub record EndsWith (ending : List ℕ) (l : Extent) (image : Image) : Type 0 wh
 
 -- of an honest device, every image that a crash may leave is as the account, and its bytes end with these
 abbrev pub IsEndingWith : List ℕ → Disk → Account → Type 0
-IsEndingWith ending disk account = disk.honest → (image : Image) → disk.left image → EndsWith ending (extent_of account) image
+IsEndingWith ending disk account = disk.honest → (image : Image) → (model account.rides disk).left image → EndsWith ending (extent_of account) image

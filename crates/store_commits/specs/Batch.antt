@@ -1,5 +1,6 @@
 -- Batches: transactions judged one after another and committed together, with as few commits as their frames' room allows.
 use Rattle.std.specs.Prelude.{Bool, ◌≡◌, ◌≢◌, ℕ, ◌+◌, List, [], ◌∷◌, length, map, false, ⊤, Option, None, Some, option_map, ◌⊎◌, ◌++◌, true}
+use Rattle.store_journal.specs.Models.{model}
 use Rattle.store_journal.specs.Writes.{append_calls}
 use Rattle.record_text.specs.Change.{Change}
 use Rattle.record_text.specs.Frame.{body_of}
@@ -81,8 +82,7 @@ replies_in_doubt [] = []
 replies_in_doubt (waits t ∷ slots) = Refused (plain DEVICE) ∷ replies_in_doubt slots
 replies_in_doubt (said t r ∷ slots) = Refused r ∷ replies_in_doubt slots
 
--- the calls of the device that the commit makes: one for each sector that the frames touch, and 3 more, or 2 more for
--- at most 456 bytes in format 3; none if nothing waits
+-- the calls of the device that the commit makes: those of an append of all frames, or none if nothing waits
 abbrev pub calls_for : Bool → ℕ → List Transaction → ℕ
 calls_for rides used [] = 0
 calls_for rides used (t ∷ ts) = append_calls rides used (sizes_of (t ∷ ts))
@@ -172,7 +172,7 @@ pub record PassedCommit {D : Type 0} (disk : D → Disk) (old new : D) (k : Inte
 -- one of at most `calls` calls failed, and each image that a crash may leave then is one of the old account or of the new one
 pub record FailedCommit {D : Type 0} (disk : D → Disk) (old new : D) (k : Intent) (kept : Account) : Type 0 where
   pub failed : Failed (disk old) (disk new) k.calls
-  pub leaves : (disk new).honest → (image : Image) → (disk new).left image → StandsAs (extent_of kept) image ⊎ EndsWith k.ending (extent_of k.made) image
+  pub leaves : (disk new).honest → (image : Image) → (model kept.rides (disk new)).left image → StandsAs (extent_of kept) image ⊎ EndsWith k.ending (extent_of k.made) image
 
 -- the commits one after another, from a device to a device: nothing else is asked of it
 abbrev pub AreMade : {D : Type 0} → (D → Disk) → D → List Commit → D → Type 0

@@ -1,5 +1,5 @@
 -- A copy that runs: as the store keeps it and as the account counts it, the answer to a step of it, and the effect of that on a journal.
-use Rattle.std.specs.Prelude.{◌≡◌, ◌≤◌, ◌+◌, ℕ, List, ◌++◌, length, take, false, Option, None, Some, option_map, unwrap_or, ⊤, ◌⊎◌, ◌<◌, max, ◌-◌, ◌*◌, ◌/◌, min, Result, Ok, Err, if◌then◌else◌, nat_le, nat_eq}
+use Rattle.std.specs.Prelude.{Bool, ◌≡◌, ◌≤◌, ◌+◌, ℕ, List, ◌++◌, length, take, false, Option, None, Some, option_map, unwrap_or, ⊤, ◌⊎◌, ◌<◌, max, ◌-◌, ◌*◌, ◌/◌, min, Result, Ok, Err, if◌then◌else◌, nat_le, nat_eq}
 use Rattle.std.specs.Vec.{vec_len, vec_capacity}
 use Rattle.sector_device.specs.Disk.{Disk}
 use Rattle.store_journal.specs.Calls.{BeginsWith}
@@ -13,7 +13,8 @@ use Rattle.store_journal.specs.Calls as journal
 use Rattle.store_commits.specs.declared.pump.Pump.{Pump}
 use Rattle.store_commits.specs.declared.pump.CopyState.TheVariants.{Running, Switched, Dropped}
 use Rattle.store_journal.specs.Layout.{capacity_of}
-use Rattle.store_journal.specs.Writes.{step_count}
+use Rattle.store_journal.specs.Writes.{step_count, switch_calls}
+use Rattle.slot_commits.specs.Loads.{number_end}
 use Rattle.doc_changes.specs.Refusals.{plain}
 use Rattle.refusals.specs.declared.numbers.TheConstants.{DEVICE}
 use Rattle.doc_changes.specs.declared.refusal.Refusal.{Refusal}
@@ -41,6 +42,8 @@ pub record IsCopying {D : Type 0} (disk : Disk) (journal : JournalView D) (state
   pub holds : Holds state.profile 2 state.seq t.bytes state.documents
   pub within : t.standing ≤ length t.bytes
   pub copied : disk.honest → journal.broken ≡ false → BeginsWith (take t.standing t.bytes) journal.copied
+  -- a number is left for the switch
+  pub numbered : journal.next < number_end
 
 -- this of a copy that runs
 abbrev pub IsCopied : {D : Type 0} → Disk → JournalView D → State → Option Target → Type 0
@@ -95,14 +98,14 @@ abbrev pub PumpAnswers : Account → ℕ → Result Pump Refusal → Account →
 PumpAnswers old most (Ok p) new = IsPumped old most p new
 PumpAnswers old most (Err r) new = ((r ≡ plain DEVICE) × IsCopyInDoubt old (copy_at old).target new) ⊎ (StopsBefore old r × (new ≡ old))
 
--- the calls that it makes of the device: one for each sector that it writes, and 3 more if they are the last
-abbrev pub calls_of_step : Copy → ℕ → ℕ
-calls_of_step k most = written_of k most + (if nat_eq (standing_after k most) k.target then 3 else 0)
+-- the calls that it makes of the device: one for each sector that it writes, and those of a switch if they are the last
+abbrev pub calls_of_step : Bool → Copy → ℕ → ℕ
+calls_of_step rides k most = written_of k most + (if nat_eq (standing_after k most) k.target then switch_calls rides k.target else 0)
 
 -- the account after the step
 abbrev pub account_stepped : Account → ℕ → Account
 account_stepped a most =
-    if nat_le (copy_at a).target (capacity_of a.sectors)
+    if nat_le (copy_at a).target (capacity_of a.rides a.sectors)
     then (if nat_eq (standing_after (copy_at a) most) (copy_at a).target
     then record a { used = (copy_at a).target; half = 1 - a.half; copy = None }
     else record a { copy = Some (record (copy_at a) { standing = standing_after (copy_at a) most }) })
@@ -110,7 +113,7 @@ account_stepped a most =
 
 -- none if it drops the copy
 abbrev pub calls_of_pump : Account → ℕ → ℕ
-calls_of_pump a most = if nat_le (copy_at a).target (capacity_of a.sectors) then calls_of_step (copy_at a) most else 0
+calls_of_pump a most = if nat_le (copy_at a).target (capacity_of a.rides a.sectors) then calls_of_step a.rides (copy_at a) most else 0
 
 -- sectors were written, and more are left: the committed bytes stay, and more of the target is written
 pub record WentOn {D : Type 0} (disk new_disk : Disk) (old new : JournalView D) (t : Target) (most : ℕ) (p : Pump) (left : Option Target) : Type 0 where
@@ -124,7 +127,7 @@ pub record WentOver {D : Type 0} (disk new_disk : Disk) (old new : JournalView D
   pub whole : standing_after (count_of t) most ≡ length t.bytes
   pub pump_is : p ≡ record { written = written_of (count_of t) most; copy = Switched }
   pub left_is : left ≡ None
-  pub counts : journal.Switched disk new_disk old new t.bytes (calls_of_step (count_of t) most)
+  pub counts : journal.Switched disk new_disk old new t.bytes (calls_of_step old.rides (count_of t) most)
 
 -- one or the other
 abbrev pub HasStepped : {D : Type 0} → Disk → Disk → JournalView D → JournalView D → Target → ℕ → Pump → Option Target → Type 0

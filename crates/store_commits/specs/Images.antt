@@ -8,10 +8,15 @@ use Rattle.schema_rules.specs.declared.profile.Profile.{Profile}
 use Rattle.schema_rules.specs.declared.profile.Profile.TheVariants.{Three, Two}
 use Rattle.doc_changes.specs.State.{Document, State, empty_in}
 
--- the profile of schemas in a store: 3 in format 3, in which small commits ride
+-- the profile of schemas in a store: 3 in format 3, in which the last bytes ride in slots
 abbrev pub profile_in : Bool → Profile
 profile_in true = Three
 profile_in false = Two
+
+-- and whether the last bytes ride in slots in a store of the profile
+abbrev pub rides_for : Profile → Bool
+rides_for Three = true
+rides_for Two = false
 
 -- The bytes are the frames of entries that, each taken by a journal of that seq, make these documents from none, with schemas of the profile. Format 1 has no seq in a frame: each entry has the journal's.
 pub record Holds (profile : Profile) (version seq : ℕ) (bytes : List ℕ) (documents : List Document) : Type 0 where

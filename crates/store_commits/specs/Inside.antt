@@ -1,5 +1,5 @@
 -- The view of a journal and a machine as a store; and a batch that is being made, how its commits are planned and what is done of it already.
-use Rattle.std.specs.Prelude.{◌≡◌, length, true, None, Option, ◌⊎◌, ◌↔◌, ℕ, ◌+◌, List, [], ◌∷◌, ◌++◌, Bool, false, Some, Vec}
+use Rattle.std.specs.Prelude.{◌≡◌, ◌≤◌, length, true, None, Option, ◌⊎◌, ◌↔◌, ℕ, ◌+◌, List, [], ◌∷◌, ◌++◌, Bool, false, Some, Vec}
 use Rattle.sector_device.specs.Disk.{Disk, LeavesOnly}
 use Rattle.store_journal.specs.JournalView.{JournalView, IsKept, carried_of}
 use Rattle.doc_changes.specs.State.{State, Good}
@@ -11,7 +11,9 @@ use Rattle.sector_device.specs.Sectors.{sectors_of}
 use Rattle.store_journal.specs.Layout.{capacity_of}
 use Rattle.store_journal.specs.Calls.{Appended, Broke, Switched}
 use Rattle.store_journal.specs.Carries.{Carried, EitherCarried, appended, switched}
-use Rattle.store_journal.specs.Writes.{append_calls}
+use Rattle.store_journal.specs.Models.{model}
+use Rattle.store_journal.specs.Writes.{append_calls, switch_calls}
+use Rattle.slot_commits.specs.Loads.{number_end}
 use Rattle.doc_changes.specs.Refusals.{plain}
 use Rattle.doc_machine.specs.Trial.{TrialView}
 use Rattle.refusals.specs.declared.numbers.TheConstants.{BROKEN, DEVICE, FULL}
@@ -56,6 +58,10 @@ pub record IsHeld {D : Type 0} (disk : Disk) (journal : JournalView D) (state : 
 pub record IsStored {D : Type 0} (disk : Disk) (journal : JournalView D) (state : State) (copy : Option Target) : Type 0 where
   pub held : IsHeld disk journal state
   pub copied : IsCopied disk journal state copy
+
+-- numbers are left for that many commits
+abbrev pub LeavesNumbers : {D : Type 0} → JournalView D → ℕ → Type 0
+LeavesNumbers journal commits = journal.next + commits ≤ number_end
 
 -- ---- one commit
 
@@ -126,7 +132,7 @@ fate_of false = InDoubt
 -- a commit that was to make this of a journal ended so; each image meanwhile carries the old bytes or the new
 pub record IsTried {D : Type 0} (disk : D → Disk) (old new : JournalView D) (c : Carried) (Outcome : Type 0) : Type 0 where
   pub outcome : Outcome
-  pub any_moment : (disk old.device).honest → LeavesOnly (disk old.device) (disk new.device) (EitherCarried (carried_of old) c)
+  pub any_moment : (disk old.device).honest → LeavesOnly (model old.rides (disk old.device)) (model old.rides (disk new.device)) (EitherCarried (carried_of old) c)
   pub kept : IsKept (disk new.device) new
   pub honest : (disk old.device).honest ↔ (disk new.device).honest
 
@@ -140,9 +146,9 @@ IsAppended disk old new frames adds fine = IsTried disk old new (appended (carri
 -- the target was made to count, and then the frames were appended to it, or the device failed there; or it failed before
 abbrev pub IsAppendedBehind : {D : Type 0} → (D → Disk) → JournalView D → JournalView D → List ℕ → List ℕ → ℕ → Bool → Type 0
 IsAppendedBehind {D} disk old new target frames adds fine =
-    ((mid : JournalView D) × IsTried disk old mid (switched (carried_of old) target) (Switched (disk old.device) (disk mid.device) old mid target (sectors_of (length target) + 3))
+    ((mid : JournalView D) × IsTried disk old mid (switched (carried_of old) target) (Switched (disk old.device) (disk mid.device) old mid target (sectors_of (length target) + switch_calls old.rides (length target)))
     × IsAppended disk mid new frames adds fine)
-    ⊎ ((fine ≡ false) × IsTried disk old new (switched (carried_of old) target) (Broke (disk old.device) (disk new.device) (sectors_of (length target) + 3) old new))
+    ⊎ ((fine ≡ false) × IsTried disk old new (switched (carried_of old) target) (Broke (disk old.device) (disk new.device) (sectors_of (length target) + switch_calls old.rides (length target)) old new))
 
 -- ---- the part that is done
 
@@ -201,8 +207,8 @@ pub record IsPlanning (a : Account) (slots : List Slot) (p : Planning) (t : Tria
   pub has : HasFrames mid.state (waiting since) p.last
   pub no_snapshot : p.last.snapshot ≡ None
   pub replies : p.last.replies.items ≡ replies_done mid.state.seq since
-  pub room : mid.used + sizes_of (waiting since) + p.left ≡ capacity_of mid.sectors
-  pub capacity : p.capacity ≡ capacity_of mid.sectors
+  pub room : mid.used + sizes_of (waiting since) + p.left ≡ capacity_of mid.rides mid.sectors
+  pub capacity : p.capacity ≡ capacity_of mid.rides mid.sectors
   pub state : t.state ≡ after_each mid.state (waiting since)
   pub tried : t ≡ tried_from a.state (waiting slots)
   pub bytes : p.bytes ≡ sizes_of (waiting slots)

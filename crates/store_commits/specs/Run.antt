@@ -1,6 +1,7 @@
 -- Runs: the events of a store, its answers and commits, what becomes of it, and what a crash may leave of its device.
 use Rattle.std.specs.Prelude.{◌≡◌, ◌↔◌, ◌⊎◌, List, [], ◌∷◌, ◌++◌, true, false, ℕ, Result, Ok, Err, if◌then◌else◌, nat_eq}
 use Rattle.sector_device.specs.Disk.{Disk, Image, LeavesOnly}
+use Rattle.store_journal.specs.Models.{model}
 use Rattle.refusals.specs.declared.numbers.TheConstants.{DEVICE, MEMORY}
 use Rattle.doc_changes.specs.Refusals.{plain}
 use Rattle.doc_changes.specs.declared.refusal.Refusal.{Refusal}
@@ -36,16 +37,18 @@ pub data IsRun : Account → List Event → List Reply → List Commit → Accou
       → IsRun a events replies commits b → IsDone b more_events more_replies more_commits d
       → IsRun a (events ++ more_events) (replies ++ more_replies) (commits ++ more_commits) d
 
--- Transactions were done, and others were accepted, but a fault hit them: this is what a crash may leave meanwhile, and at the end.
+-- Transactions were done, and others were accepted, but a fault hit them: this is what a crash may leave meanwhile, and at the end, in the disk model of the store's format.
 pub record Lasts {D : Type 0} (disk : D → Disk) (old new : StoreView D) (dones in_doubt : List Transaction) : Type 0 where
   -- the state is the one after those that were done, and while the store works no other was accepted
   pub state_is : new.account.state ≡ after_each old.account.state dones
   pub none_in_doubt : new.account.broken ≡ false → in_doubt ≡ []
+  -- the format stays
+  pub rides_is : new.account.rides ≡ old.account.rides
   pub honest : (disk old.device).honest ↔ (disk new.device).honest
   -- at each moment each image holds the state after some of the accepted transactions, each whole, the first of them first
-  pub any_moment : (disk old.device).honest → old.account.broken ≡ false → LeavesOnly (disk old.device) (disk new.device) (StandsAfter old.account.state (dones ++ in_doubt))
+  pub any_moment : (disk old.device).honest → old.account.broken ≡ false → LeavesOnly (model old.account.rides (disk old.device)) (model old.account.rides (disk new.device)) (StandsAfter old.account.state (dones ++ in_doubt))
   -- at the end for the one after all that were done, with or without those that were hit
-  pub at_end : (disk old.device).honest → old.account.broken ≡ false → (image : Image) → (disk new.device).left image → StandsAfter new.account.state in_doubt image
+  pub at_end : (disk old.device).honest → old.account.broken ≡ false → (image : Image) → (model old.account.rides (disk new.device)).left image → StandsAfter new.account.state in_doubt image
   -- of a broken store nothing changes
   pub still : old.account.broken ≡ true → (new ≡ old) × (dones ++ in_doubt ≡ [])
 

@@ -6,6 +6,7 @@ use Rattle.doc_machine.specs.Entries.{AreTaken, with_all}
 use Rattle.doc_changes.specs.State.{Document, State, empty_in}
 use Rattle.refusals.specs.declared.numbers.TheConstants.{MEMORY, FULL, DEVICE, BROKEN}
 use Rattle.store_journal.specs.Layout.{capacity_of}
+use Rattle.store_journal.specs.Writes.{switch_calls}
 use Rattle.sector_device.specs.Sectors.{sectors_of}
 use Rattle.doc_changes.specs.Refusals.{plain}
 use Rattle.doc_changes.specs.declared.refusal.Refusal.{Refusal}
@@ -37,7 +38,7 @@ snapshot_size a = length (snapshot_bytes a.state.documents)
 -- the store works, and a half has room for `size` bytes
 pub record CanHold (a : Account) (size : ℕ) : Type 0 where
   pub works : a.broken ≡ false
-  pub fits : size ≤ capacity_of a.sectors
+  pub fits : size ≤ capacity_of a.rides a.sectors
 
 -- the account once the snapshot is in the other half and this one counts: no copy runs
 abbrev pub account_with_snapshot : Account → Account
@@ -62,7 +63,7 @@ StopsBefore a r = ((r ≡ plain BROKEN) × (a.broken ≡ true)) ⊎ (r ≡ plain
 -- a half has no room for `size` bytes: a copy that runs is dropped, and nothing else has changed
 pub record IsOverlong (old : Account) (size : ℕ) (new : Account) : Type 0 where
   pub works : old.broken ≡ false
-  pub over : capacity_of old.sectors < size
+  pub over : capacity_of old.rides old.sectors < size
   pub new_is : new ≡ record old { copy = None }
 
 -- the other refusals, and what they leave: all as it was, or, if a half has no room, no copy
@@ -74,17 +75,17 @@ abbrev pub SnapshotAnswers : Account → Result ℕ Refusal → Account → Type
 SnapshotAnswers old (Ok used) new = IsSnapshotDone old used new
 SnapshotAnswers old (Err r) new = ((r ≡ plain DEVICE) × IsCopyInDoubt old (snapshot_size old) new) ⊎ IsSnapshotRefused old r new
 
--- the calls that it makes of the device: one for each sector of its bytes, and 3 more
+-- the calls that it makes of the device: one for each sector of its bytes, and those of a switch
 abbrev pub calls_of_snapshot : Account → ℕ
-calls_of_snapshot a = sectors_of (snapshot_size a) + 3
+calls_of_snapshot a = sectors_of (snapshot_size a) + switch_calls a.rides (snapshot_size a)
 
 -- `n` bytes fit after the used ones
 abbrev pub Fits : Account → ℕ → Type 0
-Fits a n = a.used + n ≤ capacity_of a.sectors
+Fits a n = a.used + n ≤ capacity_of a.rides a.sectors
 
 -- they don't
 abbrev pub IsOver : Account → ℕ → Type 0
-IsOver a n = capacity_of a.sectors < a.used + n
+IsOver a n = capacity_of a.rides a.sectors < a.used + n
 
 -- a snapshot makes room for them
 abbrev pub NeedsSnapshot : Account → ℕ → Type 0

@@ -21,7 +21,7 @@ use std::mem;
 use store_journal::Journal;
 
 /// Makes transactions of a machine that the journal holds, by as few commits as their room allows. Answers one reply to
-/// each. An `Err` means that memory ran out, before the device is called.
+/// each. An `Err` means that memory ran out, or the numbers of commits, before the device is called.
 pub fn commit_batch<D: SectorDevice>(
     alloc: Global,
     journal: &mut Journal<D>,

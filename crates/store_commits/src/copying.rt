@@ -1,10 +1,12 @@
 //! A snapshot that is copied into the other half between changes.
-ghost use Rattle.std.specs.Prelude.{◌≡◌, ◌↔◌, ◌≤◌, ◌<◌, ◌+◌, ℕ, IfOk, IfErr, OnErr, OnOk, None, length, take, false};
+ghost use Rattle.std.specs.Prelude.{◌≡◌, ◌↔◌, ◌≤◌, ◌<◌, ◌+◌, ℕ, IfOk, IfErr, OnErr, OnOk, None, length, take, false, true};
 ghost use Rattle.sector_device.specs.Disk.{LeavesOnly};
 ghost use Rattle.store_journal.specs.Layout.{capacity_of};
 ghost use Rattle.store_journal.specs.Calls.{BeginsWith, Broke};
 ghost use Rattle.store_journal.specs.Carries.{Carries, EitherCarried, switched};
 ghost use Rattle.store_journal.specs.JournalView.{IsKept, carried_of};
+ghost use Rattle.store_journal.specs.Models.{model};
+ghost use Rattle.slot_commits.specs.Loads.{number_end};
 ghost use Rattle.doc_changes.specs.Refusals.{plain};
 ghost use Rattle.doc_changes.specs.State.{Good};
 ghost use Rattle.refusals.specs.declared.numbers.TheConstants.{DEVICE};
@@ -79,17 +81,19 @@ pub fn step<D: SectorDevice>(
     most: u64,
 ) -> Result<(Pump, Option<Copying>), Refusal>
     requires version { journal.old.version ≡ 2 }
+    requires settled { journal.old.settled ≡ true }
+    requires number { journal.old.next < number_end }
     requires works { journal.old.broken ≡ false }
-    requires fits { length copying.target.items ≤ capacity_of journal.old.sectors }
+    requires fits { length copying.target.items ≤ capacity_of journal.old.rides journal.old.sectors }
     requires within { copying.standing ≤ length copying.target.items }
     requires copied { (D.disk journal.old.device).honest → BeginsWith (take copying.standing copying.target.items) journal.old.copied }
     ensures ok { IfOk result (λ r. HasStepped (D.disk journal.old.device) (D.disk journal.new.device) journal.old journal.new (view_of copying) most r.0 (target_of r.1)) }
     ensures err { IfErr result (λ refusal. (refusal ≡ plain DEVICE)
-        × Broke (D.disk journal.old.device) (D.disk journal.new.device) (calls_of_step (count_of (view_of copying)) most) journal.old journal.new) }
-    ensures any_moment { (D.disk journal.old.device).honest → LeavesOnly (D.disk journal.old.device) (D.disk journal.new.device)
+        × Broke (D.disk journal.old.device) (D.disk journal.new.device) (calls_of_step journal.old.rides (count_of (view_of copying)) most) journal.old journal.new) }
+    ensures any_moment { (D.disk journal.old.device).honest → LeavesOnly (model journal.old.rides (D.disk journal.old.device)) (model journal.old.rides (D.disk journal.new.device))
         (EitherCarried (carried_of journal.old) (switched (carried_of journal.old) copying.target.items)) }
     ensures before_last { (D.disk journal.old.device).honest → standing_after (count_of (view_of copying)) most < length copying.target.items
-        → LeavesOnly (D.disk journal.old.device) (D.disk journal.new.device) (Carries (carried_of journal.old)) }
+        → LeavesOnly (model journal.old.rides (D.disk journal.old.device)) (model journal.old.rides (D.disk journal.new.device)) (Carries (carried_of journal.old)) }
     ensures kept { IsKept (D.disk journal.new.device) journal.new }
     ensures honest { (D.disk journal.old.device).honest ↔ (D.disk journal.new.device).honest }
 {

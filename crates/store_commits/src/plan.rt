@@ -1,6 +1,6 @@
 //! The plan of a batch: how its transactions are put together to commits. All memory of a batch is taken here, before
 //! the device is called.
-ghost use Rattle.std.specs.Prelude.{◌≡◌, ◌+◌, ◌≤◌, ◌<◌, List, [], length, map, OnOk, IfOk};
+ghost use Rattle.std.specs.Prelude.{◌≡◌, ◌+◌, ◌-◌, ◌*◌, ◌^◌, ◌≤◌, ◌<◌, List, [], length, map, min, OnOk, IfOk};
 ghost use Rattle.store_journal.specs.Layout.{capacity_of};
 ghost use Rattle.doc_machine.specs.Transaction.{RefusesTransaction, changes_of, transaction_of};
 ghost use Rattle.doc_machine.specs.Transaction.{Transaction as Asked};
@@ -9,7 +9,7 @@ ghost use Rattle.store_commits.specs.Account.{Account, with_copy};
 ghost use Rattle.store_commits.specs.Batch.{Slot, asked};
 ghost use Rattle.store_commits.specs.Copying.{HasSpare, copy_of, target_of};
 ghost use Rattle.store_commits.specs.Folds.{frames_at};
-ghost use Rattle.store_commits.specs.Inside.{account_of, ArePrepared, PlansOneMore, IsPlanning, bytes_in};
+ghost use Rattle.store_commits.specs.Inside.{account_of, ArePrepared, LeavesNumbers, PlansOneMore, IsPlanning, bytes_in};
 
 use crate::copying::{Copying, reserve};
 use crate::creations;
@@ -39,7 +39,7 @@ pub(crate) struct Planning {
 }
 
 /// Judges the transactions one after another, each with those accepted before it made on the trial, and answers the
-/// commits, in order.
+/// commits, in order. An `Err` means that memory ran out, or that the numbers of commits do.
 pub(crate) fn prepare<D: SectorDevice>(
     alloc: Global,
     journal: &Journal<D>,
@@ -48,10 +48,11 @@ pub(crate) fn prepare<D: SectorDevice>(
     transactions: Vec<Transaction>,
 ) -> Result<Vec<Segment>, AllocError>
     requires begins { trial.old.past ≡ [] }
-    requires within { length journal.now.bytes ≤ capacity_of journal.now.sectors }
+    requires within { length journal.now.bytes ≤ capacity_of journal.now.rides journal.now.sectors }
     ensures prepared { IfOk result (λ segments.
         ArePrepared (with_copy (account_of journal.now trial.old.state) (copy_of (target_of copy.new))) (map transaction_of transactions.items) segments.items trial.new) }
     ensures grows { IfOk result (λ segments. HasSpare copy.new (bytes_in segments.items)) }
+    ensures numbers { IfOk result (λ segments. LeavesNumbers journal.now (2 * length segments.items + 1)) }
     ensures same { target_of copy.new ≡ target_of copy.old }
     ensures origin { state_at 0 trial.new ≡ trial.old.state }
 {
@@ -72,7 +73,17 @@ pub(crate) fn prepare<D: SectorDevice>(
     } = planning;
     reserve(copy, bytes)?;
     segments.push(last)?;
+    if !journal.has_numbers(most_commits(segments.len())) {
+        return Err(AllocError);
+    }
     Ok(segments)
+}
+
+// How many commits these segments make at most, and one more, so that a number is left for a copy that runs.
+fn most_commits(segments: usize) -> u64
+    ensures { result ≡ min (2 * segments + 1) (2 ^ 64 - 1) }
+{
+    (segments as u64).saturating_mul(2).saturating_add(1)
 }
 
 impl Segment {

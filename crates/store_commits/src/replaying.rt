@@ -1,6 +1,6 @@
 //! The machine made again from the committed bytes.
 ghost use Rattle.std.specs.Prelude.{◌≡◌, ◌<◌, ◌≤◌, ℕ, Ok, length, IfOk, IfErr, IfSome, MatchResult};
-ghost use Rattle.store_journal.specs.Layout.{IsFormat};
+ghost use Rattle.half_journal.specs.Layout.{IsFormat};
 ghost use Rattle.doc_changes.specs.State.{Good};
 ghost use Rattle.doc_machine.specs.Entries.{Takes, with_entry};
 ghost use Rattle.doc_patch.specs.Meaning.{operations};

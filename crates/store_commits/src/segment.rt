@@ -1,5 +1,5 @@
 //! Transactions that are committed together, and the commit. It takes no memory.
-ghost use Rattle.std.specs.Prelude.{◌≡◌, ◌+◌, ◌++◌, ◌≤◌, ◌<◌, ◌^◌, ℕ, List, [], None, length, map, true, false};
+ghost use Rattle.std.specs.Prelude.{◌≡◌, ◌+◌, ◌*◌, ◌++◌, ◌≤◌, ◌<◌, ◌^◌, ℕ, List, [], None, length, map, true, false};
 ghost use Rattle.std.specs.Vec.{vec_capacity, vec_len};
 ghost use Rattle.store_journal.specs.Calls.{Takes};
 ghost use Rattle.store_journal.specs.Layout.{capacity_of};
@@ -8,7 +8,7 @@ ghost use Rattle.doc_changes.specs.State.{State};
 ghost use Rattle.store_commits.specs.Account.{Account, with_copy};
 ghost use Rattle.store_commits.specs.Batch.{Slot};
 ghost use Rattle.store_commits.specs.Copying.{HasSpare, copy_of, target_with, target_of};
-ghost use Rattle.store_commits.specs.Inside.{IsStored, account_of, store_view, ArePrepared, HasCommitted, IsAppended, IsAppendedBehind, IsPart, IsReady, AnswersPart, answered, bytes_in, fate_of, replies_in};
+ghost use Rattle.store_commits.specs.Inside.{IsStored, LeavesNumbers, account_of, store_view, ArePrepared, HasCommitted, IsAppended, IsAppendedBehind, IsPart, IsReady, AnswersPart, answered, bytes_in, fate_of, replies_in};
 ghost use Rattle.store_commits.specs.declared.event.Reply.{Reply as Said};
 
 use crate::copying::{Copying, grow};
@@ -55,6 +55,7 @@ pub(crate) fn commit_all<D: SectorDevice>(
     requires prepared { (s : State) × (cs : List Transaction) × IsStored (D.disk journal.old.device) journal.old s (target_of copy.old)
         × ArePrepared (with_copy (account_of journal.old s) (copy_of (target_of copy.old))) cs segments.items trial }
     requires none { said.old.items ≡ [] }
+    requires numbers { LeavesNumbers journal.old (2 * length segments.items + 1) }
     requires grows { HasSpare copy.old (bytes_in segments.items) }
     requires room { vec_len said.old + replies_in segments.items ≤ vec_capacity said.old }
     ensures { (s : State) (cs : List Transaction) → IsStored (D.disk journal.old.device) journal.old s (target_of copy.old)
@@ -78,12 +79,14 @@ fn commit_segment<D: SectorDevice>(
     said: &mut Vec<Reply>,
 )
     requires ready { journal.old.broken ≡ false → IsReady D.disk journal.old (target_of copy.old) segment }
+    requires numbers { LeavesNumbers journal.old 3 }
     requires grows { HasSpare copy.old (length segment.frames.items) }
     requires room { vec_len said.old + length segment.replies.items ≤ vec_capacity said.old }
     ensures answered { (s : State) (a : Account) (left : List Transaction) (slots : List Slot) (b : Account) → IsStored (D.disk journal.old.device) journal.old s (target_of copy.old)
         → (journal.old.broken ≡ false → with_copy (account_of journal.old s) (copy_of (target_of copy.old)) ≡ a) → IsPart a left segment slots b
         → (more : List Said) × (said.new.items ≡ said.old.items ++ more)
         × AnswersPart D.disk journal.old s (target_of copy.old) slots left b journal.new (target_of copy.new) more }
+    ensures numbers { journal.new.next ≤ journal.old.next + 2 }
     ensures grows { (n : ℕ) → HasSpare copy.old (length segment.frames.items + n) → HasSpare copy.new n }
     ensures len { vec_len said.new ≡ vec_len said.old + length segment.replies.items }
     ensures capacity { vec_capacity said.old ≤ vec_capacity said.new }
@@ -99,10 +102,12 @@ fn commit<D: SectorDevice>(
     segment: &Segment,
 ) -> Fate
     requires ready { journal.old.broken ≡ false → IsReady D.disk journal.old (target_of copy.old) segment.now }
+    requires numbers { LeavesNumbers journal.old 3 }
     requires grows { HasSpare copy.old (length segment.now.frames.items) }
     ensures answered { (s : State) (a : Account) (left : List Transaction) (slots : List Slot) (b : Account) → IsStored (D.disk journal.old.device) journal.old s (target_of copy.old)
         → (journal.old.broken ≡ false → with_copy (account_of journal.old s) (copy_of (target_of copy.old)) ≡ a) → IsPart a left segment.now slots b
         → AnswersPart D.disk journal.old s (target_of copy.old) slots left b journal.new (target_of copy.new) (map (answered result) segment.now.replies.items) }
+    ensures numbers { journal.new.next ≤ journal.old.next + 2 }
     ensures grows { (n : ℕ) → HasSpare copy.old (length segment.now.frames.items + n) → HasSpare copy.new n }
 {
     if journal.is_broken() {
@@ -126,9 +131,12 @@ fn append_behind<D: SectorDevice>(
     adds: u64,
 ) -> bool
     requires version { journal.old.version ≡ 2 }
+    requires settled { journal.old.settled ≡ true }
+    requires numbers { LeavesNumbers journal.old 3 }
     requires works { journal.old.broken ≡ false }
-    requires fits { length snapshot.now + length frames.now ≤ capacity_of journal.old.sectors }
+    requires fits { length snapshot.now + length frames.now ≤ capacity_of journal.old.rides journal.old.sectors }
     requires seq_fits { journal.old.seq + adds < 2 ^ 64 }
+    ensures numbers { journal.new.next ≤ journal.old.next + 2 }
     ensures behind { IsAppendedBehind D.disk journal.old journal.new snapshot.now frames.now adds result }
     ensures dropped { target_of copy.new ≡ None }
 {
@@ -150,6 +158,7 @@ fn append<D: SectorDevice>(
     requires settled { journal.old.settled ≡ true }
     requires takes { Takes journal.old (length frames.now) adds }
     requires grows { HasSpare copy.old (length frames.now) }
+    ensures numbers { journal.new.next ≤ journal.old.next + 1 }
     ensures appended { IsAppended D.disk journal.old journal.new frames.now adds result }
     ensures copy { result ≡ true → target_of copy.new ≡ target_with frames.now (target_of copy.old) }
     ensures dropped { result ≡ false → target_of copy.new ≡ None }

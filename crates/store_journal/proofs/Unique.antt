@@ -1,38 +1,32 @@
 -- What an image carries is determined.
-use Rattle.std.proofs.Common.{◌≡◌, ℕ, ◌-◌, ◌<◌, ◌++◌, length, take, drop, Bool, true, ap, sym, ◌∙◌, arith, length-take, take-append-drop}
-use Rattle.std.proofs.lemmas.List.{get_or_default, get_or-take, same_lists}
+use Rattle.std.proofs.Common.{◌≡◌, length, Bool, true, false, refl, sym, ◌∙◌}
 use Rattle.sector_device.specs.Disk.{Image}
-use Rattle.store_journal.specs.Layout.{IsFormat, half_start}
-use Rattle.sector_device.specs.Sectors.{byte_at}
-use Rattle.store_journal.specs.declared.commit_sector.Commit.{Commit}
-use Rattle.store_journal.proofs.Fields.{one_commit, one_riding}
-use Rattle.store_journal.specs.Carries.{Carried, Carries, commit_of, format_of, last_of}
-use Rattle.store_journal.proofs.Loading.{carried_fits, carried_long}
+use Rattle.half_journal.specs.States.{commit_of}
+use Rattle.half_journal.proofs.Unique.{carried_fits, carried_is_of, carries_one as one_half}
+use Rattle.slot_commits.proofs.Either.{carries_one as one_state}
+use Rattle.store_journal.specs.Carries.{Carried, Carries, CarriesIn, half_of, state_of}
 
--- the named format tells that of the frames, and whether small commits ride
-one_version : (v w : ℕ) (a b : Bool) → IsFormat v → IsFormat w → (a ≡ true → v ≡ 2) → (b ≡ true → w ≡ 2) → format_of v a ≡ format_of w b → (v ≡ w) × (a ≡ b)
-one_version v w a b fv fw two_v two_w same = (grind (arith, fv.at_most, fw.at_most), grind (arith, fv.at_most, fw.at_most))
+in_half_one : (image : Image) (c d : Carried) → c.rides ≡ d.rides → CarriesIn false c image → CarriesIn false d image → c ≡ d
+in_half_one image c d rides first second =
+    let same : half_of c ≡ half_of d = one_half image (half_of c) (half_of d) first second in
+    λ i. record { version = (same i).version; rides = rides i; half = (same i).half; bytes = (same i).bytes; seq = (same i).seq; opens = (same i).opens }
+
+riding_one : (image : Image) (c d : Carried) → c.rides ≡ d.rides → CarriesIn true c image → CarriesIn true d image → c ≡ d
+riding_one image c d rides first second =
+    let same : state_of c first.0 ≡ state_of d second.0 = one_state image (state_of c first.0) (state_of d second.0) first.1.in_slots second.1.in_slots in
+    let version = first.1.version_is ∙ sym second.1.version_is in
+    λ i. record { version = version i; rides = rides i; half = (same i).half; bytes = (same i).bytes; seq = (same i).seq; opens = (same i).opens }
+
+-- an image in one format is in no other
+apart : (image : Image) (c d : Carried) → CarriesIn false c image → CarriesIn true d image → ⊥
+apart image c d first second =
+    second.1.none (commit_of (half_of c) (length image)) (carried_is_of image (half_of c) first) (carried_fits image (half_of c) first) first.commit
 
 pub carries_one : (image : Image) (c d : Carried) → Carries c image → Carries d image → c ≡ d
-carries_one image c d first second =
-    let n = length image in
-    let last_c = last_of first.riding c.bytes in
-    let last_d = last_of second.riding d.bytes in
-    let spelled = sym first.commit ∙ second.commit in
-    let same = one_commit (commit_of c n first.riding) (commit_of d n second.riding) last_c last_d (carried_fits image c first) (carried_fits image d second) (carried_long image c first) (carried_long image d second) spelled in
-    let rides_is : last_c ≡ last_d = one_riding (commit_of c n first.riding) (commit_of d n second.riding) last_c last_d (carried_fits image c first) (carried_fits image d second) (carried_long image c first) (carried_long image d second) spelled in
-    let half_is : c.half ≡ d.half = ap (λ (m : Commit). m.half) same in
-    let length_is : length c.bytes ≡ length d.bytes = ap (λ (m : Commit). m.length) same in
-    let riding_is : first.riding ≡ second.riding = ap (λ (m : Commit). m.riding) same in
-    let count = length c.bytes - first.riding in
-    let count_is : length d.bytes - second.riding ≡ count = omega (arith, length_is, riding_is) in
-    let front_is : take count c.bytes ≡ take count d.bytes = same_lists (take count c.bytes) (take count d.bytes) (omega (arith, length-take count c.bytes, length-take count d.bytes, length_is))
-    (λ i e lt.
-    let low : i < count = omega (arith, lt, length-take count c.bytes) in
-    get_or-take count c.bytes i e low ∙ get_or_default c.bytes i e 0 (omega (arith, low)) ∙ sym (first.begins i low) ∙ ap (λ (h : ℕ). byte_at image (half_start n h) i) half_is ∙ second.begins i (omega (arith, low, count_is))
-    ∙ get_or_default d.bytes i 0 e (omega (arith, low, length_is)) ∙ sym (get_or-take count d.bytes i e low)) in
-    let bytes_is : c.bytes ≡ d.bytes = sym (take-append-drop count c.bytes) ∙ (λ i. front_is i ++ rides_is i) ∙ ap (λ (k : ℕ). take count d.bytes ++ drop k d.bytes) count_is ∙ take-append-drop count d.bytes in
-    let formats = one_version c.version d.version c.rides d.rides first.version_fits second.version_fits first.rides_fits second.rides_fits (ap (λ (m : Commit). m.format) same) in
-    let seq_is = ap (λ (m : Commit). m.seq) same in
-    let opens_is = ap (λ (m : Commit). m.opens) same in
-    λ i. record { version = formats.0 i; rides = formats.1 i; half = half_is i; bytes = bytes_is i; seq = seq_is i; opens = opens_is i }
+carries_one image c d = by c.rides d.rides refl refl
+  where
+    by : (a b : Bool) → c.rides ≡ a → d.rides ≡ b → CarriesIn a c image → CarriesIn b d image → c ≡ d
+    by false false is also first second = in_half_one image c d (is ∙ sym also) first second
+    by true true is also first second = riding_one image c d (is ∙ sym also) first second
+    by false true is also first second = absurd (apart image c d first second)
+    by true false is also first second = absurd (apart image d c second first)

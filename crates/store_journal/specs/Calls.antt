@@ -1,38 +1,42 @@
 -- The effects of a journal's calls. Nothing is said of the bytes on a device that isn't honest.
-use Rattle.std.specs.Prelude.{◌≡◌, ◌≢◌, ◌⊎◌, ℕ, ◌+◌, ◌-◌, ◌*◌, ◌/◌, ◌<◌, ◌≤◌, ◌^◌, min, List, [], true, false, length, take}
+use Rattle.std.specs.Prelude.{◌≡◌, ◌≢◌, ◌⊎◌, ℕ, ◌+◌, ◌*◌, ◌/◌, ◌<◌, ◌≤◌, ◌^◌, min, List, [], true, false, length, take, if◌then◌else◌}
 use Rattle.sector_device.specs.Disk.{Disk}
 use Rattle.sector_device.specs.Charges.{Made, Failed}
 use Rattle.sector_device.specs.Sectors.{sectors_of}
-use Rattle.store_journal.specs.Layout.{IsFormat, capacity_of}
-use Rattle.store_journal.specs.Carries.{Carried, appended, begun, committed, counted, migrated, switched}
-use Rattle.store_journal.specs.declared.update.Base.{Base}
-use Rattle.store_journal.specs.declared.update.Base.TheVariants.{Written, Copied}
-use Rattle.store_journal.specs.declared.update.Update.{Update}
+use Rattle.slot_commits.specs.Loads.{number_end}
+use Rattle.store_journal.specs.Layout.{capacity_of}
+use Rattle.store_journal.specs.Carries.{Carried, appended, counted, migrated, switched}
 use Rattle.store_journal.specs.JournalView.{JournalView, carried_of}
-use Rattle.store_journal.specs.Writes.{Follows, HasCopied, append_calls, commit_calls, copied_after, count_calls, step_count}
+use Rattle.store_journal.specs.Writes.{append_calls, count_calls, step_count}
 use Rattle.refusals.specs.declared.numbers.TheConstants.{FULL, DEVICE, BROKEN, SEQ_END}
 
 -- the list begins with these
 abbrev pub BeginsWith : List ℕ → List ℕ → Type 0
 BeginsWith front all = take (length front) all ≡ front
 
--- a working journal has room for `more` bytes, and seq for `adds` changes
+-- a working journal has room for `more` bytes, seq for `adds` changes, and in format 3 a number is left for the commit
 pub record Takes {D : Type 0} (view : JournalView D) (more adds : ℕ) : Type 0 where
   pub works : view.broken ≡ false
-  pub fits : length view.bytes + more ≤ capacity_of view.sectors
+  pub fits : length view.bytes + more ≤ capacity_of view.rides view.sectors
   pub seq_fits : view.seq + adds < 2 ^ 64
+  pub next_fits : view.next < number_end
 
 -- why an append is refused: the first of these in this order
 abbrev pub AppendFault : {D : Type 0} → JournalView D → ℕ → ℕ → ℕ → Type 0
 AppendFault view more adds number =
     ((number ≡ BROKEN) × (view.broken ≡ true))
-    ⊎ ((number ≡ FULL) × (view.broken ≡ false) × (capacity_of view.sectors < length view.bytes + more))
-    ⊎ ((number ≡ SEQ_END) × (view.broken ≡ false) × (length view.bytes + more ≤ capacity_of view.sectors) × (2 ^ 64 ≤ view.seq + adds))
+    ⊎ ((number ≡ FULL) × (view.broken ≡ false) × (capacity_of view.rides view.sectors < length view.bytes + more))
+    ⊎ ((number ≡ SEQ_END) × (view.broken ≡ false) × (length view.bytes + more ≤ capacity_of view.rides view.sectors) × ((2 ^ 64 ≤ view.seq + adds) ⊎ (number_end ≤ view.next)))
     ⊎ ((number ≡ DEVICE) × Takes view more adds)
 
--- why another call is refused
+-- why a step of a copy, or a migration, is refused
 abbrev pub CallFault : {D : Type 0} → JournalView D → ℕ → Type 0
 CallFault view number = ((number ≡ BROKEN) × (view.broken ≡ true)) ⊎ ((number ≡ DEVICE) × (view.broken ≡ false))
+
+-- why another commit is refused: the first of these in this order
+abbrev pub CommitFault : {D : Type 0} → JournalView D → ℕ → Type 0
+CommitFault view number =
+    ((number ≡ BROKEN) × (view.broken ≡ true)) ⊎ ((number ≡ SEQ_END) × (view.broken ≡ false) × (number_end ≤ view.next)) ⊎ ((number ≡ DEVICE) × (view.broken ≡ false) × (view.next < number_end))
 
 -- the committed bytes and their numbers stay
 pub record Stays {D : Type 0} (disk : Disk) (old new : JournalView D) : Type 0 where
@@ -45,6 +49,8 @@ pub record Stays {D : Type 0} (disk : Disk) (old new : JournalView D) : Type 0 w
   pub opens : new.opens ≡ old.opens
   pub sectors : new.sectors ≡ old.sectors
   pub settled : new.settled ≡ old.settled
+  pub next : new.next ≡ old.next
+  pub blocks : new.blocks ≡ old.blocks
 
 -- one of at most `calls` calls of the device failed
 pub record Broke {D : Type 0} (disk new_disk : Disk) (calls : ℕ) (old new : JournalView D) : Type 0 where
@@ -56,23 +62,7 @@ pub record Broke {D : Type 0} (disk new_disk : Disk) (calls : ℕ) (old new : Jo
 abbrev pub Refused : {D : Type 0} → Disk → Disk → ℕ → JournalView D → JournalView D → ℕ → Type 0
 Refused disk new_disk calls old new number = ((number ≡ DEVICE) × Broke disk new_disk calls old new) ⊎ ((number ≢ DEVICE) × (new ≡ old))
 
--- a working journal has room for the commit, seq doesn't pass its end, and the other half holds a target that is copied
-pub record CanCommit {D : Type 0} (disk : Disk) (view : JournalView D) (update : Update) : Type 0 where
-  pub works : view.broken ≡ false
-  pub version_fits : IsFormat (begun (carried_of view) update.base).version
-  pub fits : length (begun (carried_of view) update.base).bytes + length update.frames.now ≤ capacity_of view.sectors
-  pub rides_fits : update.rides ≡ true → (begun (carried_of view) update.base).version ≡ 2
-  pub seq_fits : update.adds ≤ 2 ^ 64 - 1 - view.seq
-  pub follows : disk.honest → Follows update.base update.frames.now view.settled view.bytes
-  pub copied : disk.honest → HasCopied update.base view.copied
-
--- a commit writes nothing into the other half
-abbrev pub SparesOther : Base → List ℕ → Type 0
-SparesOther (Written target version) frames = ⊥
-SparesOther (Copied target version) frames = frames ≡ []
-SparesOther _ frames = Unit {0}
-
--- a call that succeeded: the journal is seen to carry this, bytes of this size, and is settled
+-- a call that succeeded: the journal is seen to carry this, bytes of this size, is settled, and in format 3 has used a number
 pub record Became {D : Type 0} (disk new_disk : Disk) (old new : JournalView D) (c : Carried) (size calls : ℕ) : Type 0 where
   pub bytes : disk.honest → new.bytes ≡ c.bytes
   pub used : length new.bytes ≡ size
@@ -84,15 +74,8 @@ pub record Became {D : Type 0} (disk new_disk : Disk) (old new : JournalView D) 
   pub sectors : new.sectors ≡ old.sectors
   pub works : new.broken ≡ false
   pub settled : new.settled ≡ true
+  pub next : new.next ≡ (if c.rides then old.next + 1 else 0)
   pub made : Made disk new_disk calls
-
--- a commit that succeeded
-pub record Committed {D : Type 0} (disk new_disk : Disk) (old new : JournalView D) (update : Update) : Type 0 where
-  pub became : Became disk new_disk old new (committed (carried_of old) update)
-      (length (begun (carried_of old) update.base).bytes + length update.frames.now) (commit_calls update (length (begun (carried_of old) update.base).bytes))
-  pub open became use *
-  pub copied : disk.honest → new.copied ≡ copied_after update.base old.copied
-  pub size : length new.copied ≡ length (copied_after update.base old.copied)
 
 -- an append that succeeded: the bytes follow the old ones, and seq has risen
 abbrev pub Appended : {D : Type 0} → Disk → Disk → JournalView D → JournalView D → List ℕ → ℕ → Type 0
@@ -102,7 +85,7 @@ Appended disk new_disk old new more adds =
 -- an opening that was counted
 pub record Counted {D : Type 0} (disk new_disk : Disk) (old new : JournalView D) : Type 0 where
   pub worked : old.broken ≡ false
-  pub became : Became disk new_disk old new (counted (carried_of old)) (length old.bytes) (count_calls old.rides (length old.bytes))
+  pub became : Became disk new_disk old new (counted (carried_of old)) (length old.bytes) (count_calls old.rides old.settled (length old.bytes) old.blocks)
   pub open became use *
 
 -- a step of a copy: if the other half began with the target's first bytes, it begins with as many as were answered

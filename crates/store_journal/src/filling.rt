@@ -1,20 +1,16 @@
 //! A device that is made a store of given bytes.
-ghost use Rattle.std.specs.Prelude.{◌≡◌, ◌⊎◌, ◌≤◌, ◌+◌, IfErr, OnOk, length};
-ghost use Rattle.sector_device.specs.Disk.{Image, LeavesOnly};
-ghost use Rattle.sector_device.specs.Charges.{Charges, IsSame, IsSameRead};
-ghost use Rattle.sector_device.specs.Sectors.{sectors_of};
-ghost use Rattle.store_journal.specs.Layout.{IsSized, capacity_of};
+ghost use Rattle.std.specs.Prelude.{IfErr, OnOk};
+ghost use Rattle.sector_device.specs.Disk.{LeavesOnly};
+ghost use Rattle.sector_device.specs.Charges.{IsSameRead};
 ghost use Rattle.store_journal.specs.Carries.{Carries};
 ghost use Rattle.store_journal.specs.Filling.{Filled, FillRefusal, NoneOrAll, filled};
-ghost use Rattle.store_journal.specs.Opening.{HasMagic};
 
 use crate::fault::FormatFault;
-use crate::geometry::{capacity, half_start, is_sized};
-use crate::layout::{FORMAT, has_magic};
-use crate::write::settle;
-use crate::{Commit, replace_commit};
+use crate::geometry::{capacity, is_sized};
+use half_journal::fill;
+use half_journal::layout::has_magic;
 use refusals::numbers::{ALREADY_A_STORE, DEVICE, NO_ROOM, SMALL};
-use sector_device::{DeviceFault, SECTOR_BYTES, SectorDevice, read_first, write_run};
+use sector_device::{SectorDevice, read_first};
 
 /// Makes `device` a store with these bytes, in format 2, which hold `seq` changes and were opened `opens` times: sync,
 /// read 0, the sectors that hold the bytes in ascending order, sync, write 0, sync. It takes no memory. A crash at any
@@ -34,10 +30,10 @@ pub fn format_with<D: SectorDevice>(
     ensures same { IsSameRead (D.disk device.old) (D.disk device.new) }
 {
     let sectors = device.sectors();
-    if !is_sized(sectors) {
+    if !is_sized(false, sectors) {
         return Err(FormatFault { number: SMALL });
     }
-    if capacity(sectors) < bytes.len() as u64 {
+    if capacity(false, sectors) < bytes.len() as u64 {
         return Err(FormatFault { number: NO_ROOM });
     }
     let mut first = [0; 512];
@@ -54,36 +50,4 @@ pub fn format_with<D: SectorDevice>(
         Err(_) => Err(FormatFault { number: DEVICE }),
         Ok(()) => Ok(()),
     }
-}
-
-// Writes the bytes, and then the commit sector that names them: the writes, sync, write 0, sync.
-fn fill<D: SectorDevice>(
-    device: &mut D,
-    bytes: &[u8],
-    seq: u64,
-    opens: u64,
-    sectors: u64,
-) -> Result<(), DeviceFault>
-    requires size { sectors ≡ (D.disk device.old).sectors }
-    requires sized { IsSized sectors }
-    requires fits { length bytes.now ≤ capacity_of sectors }
-    ensures same { IsSame (D.disk device.old) (D.disk device.new) }
-    ensures charges { Charges (D.disk device.old) (D.disk device.new) (sectors_of (length bytes.now) + 3) result }
-    ensures any_moment { (D.disk device.old).honest → ((image : Image) → (D.disk device.old).left image → HasMagic image → ⊥) → LeavesOnly (D.disk device.old) (D.disk device.new)
-        (λ image. (HasMagic image → ⊥) ⊎ Carries (filled bytes.now seq opens) image) }
-    ensures done { (D.disk device.old).honest → OnOk result ((image : Image) → (D.disk device.new).left image → Carries (filled bytes.now seq opens) image) }
-{
-    let commit = Commit {
-        format: FORMAT,
-        half: 0,
-        length: bytes.len() as u64,
-        seq,
-        opens,
-        sectors,
-        riding: 0,
-    };
-    let count = (bytes.len() as u64 + 511) / SECTOR_BYTES;
-    write_run(device, half_start(sectors, 0), count, &[], bytes)?;
-    settle(device, false)?;
-    replace_commit(device, commit, &[])
 }

@@ -1,41 +1,44 @@
-//! The parts of a device that holds a store: the commit sector, and then two halves of one size.
+//! The parts of a device that holds a store, by its format.
 ghost use Rattle.std.specs.Prelude.{◌≡◌, ◌≤◌, ◌↔◌, IsTrue};
-ghost use Rattle.store_journal.specs.Layout.{IsSized, capacity_of, half_size, half_start};
+ghost use Rattle.store_journal.specs.Layout.{FitsBetween, IsSized, capacity_of};
 
-use sector_device::SECTOR_BYTES;
+use commit_slots::{BLOCK_BYTES, slots_capacity};
+use half_journal::geometry::half_start;
+pub use half_journal::geometry::{MAX_SECTORS, MIN_SECTORS};
+pub use slot_journal::geometry::MIN_SECTORS as MIN_SECTORS_RIDING;
 
-/// The fewest sectors: one for the commit, and one for each half.
-pub const MIN_SECTORS: u64 = 3;
-
-/// The most sectors.
-pub const MAX_SECTORS: u64 = 4_294_967_296;
-
-/// Whether a device of `sectors` sectors can hold a store.
-pub fn is_sized(sectors: u64) -> bool
-    ensures { IsTrue result ↔ IsSized sectors }
+/// Whether a device of `sectors` sectors can hold a store, in format 3 if `rides`.
+pub fn is_sized(rides: bool, sectors: u64) -> bool
+    ensures { IsTrue result ↔ IsSized rides sectors }
 {
-    MIN_SECTORS <= sectors && sectors <= MAX_SECTORS
+    let least = if rides {
+        MIN_SECTORS_RIDING
+    } else {
+        MIN_SECTORS
+    };
+    least <= sectors && sectors <= MAX_SECTORS
 }
 
-/// The sectors of each half of a device of `sectors` sectors.
-pub fn half_size(sectors: u64) -> u64
-    ensures { result ≡ half_size sectors }
-{
-    sectors.saturating_sub(1) / 2
-}
-
-/// The bytes that a half of such a device holds.
-pub fn capacity(sectors: u64) -> u64
+/// The bytes that a half of such a device holds, in format 3 if `rides`.
+pub fn capacity(rides: bool, sectors: u64) -> u64
     requires { sectors ≤ MAX_SECTORS }
-    ensures { result ≡ capacity_of sectors }
+    ensures { result ≡ capacity_of rides sectors }
 {
-    half_size(sectors) * SECTOR_BYTES
+    if rides {
+        slots_capacity(sectors)
+    } else {
+        half_journal::geometry::capacity(sectors)
+    }
 }
 
-/// The first sector of half 0 or 1 of such a device.
-pub fn half_start(sectors: u64, half: u32) -> u64
-    requires { half ≤ 1 }
-    ensures { result ≡ half_start sectors half }
+/// Whether `used` bytes in half 0 of format 3 end before half 1 of format 2 begins, on a device of `sectors` sectors: so
+/// they can be there together.
+pub fn fits_between(sectors: u64, used: u64) -> bool
+    requires { sectors ≤ MAX_SECTORS }
+    ensures { IsTrue result ↔ FitsBetween sectors used }
 {
-    1 + u64::from(half) * half_size(sectors)
+    if !is_sized(true, sectors) || used > capacity(true, sectors) {
+        return false;
+    }
+    128 + 8 * (used / BLOCK_BYTES) <= half_start(sectors, 1)
 }

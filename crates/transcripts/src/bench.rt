@@ -43,6 +43,11 @@ impl Bench {
         })
     }
 
+    /// The allocator.
+    pub fn alloc(&self) -> Global {
+        self.alloc
+    }
+
     /// Takes another disk, of `sectors` sectors, formatted or all zeros.
     pub fn renew(&mut self, sectors: u64, is_formatted: bool) -> Result<(), Fault> {
         let disk = if is_formatted {

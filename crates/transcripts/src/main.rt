@@ -23,6 +23,7 @@ mod play;
 mod replies;
 mod script;
 mod texts;
+mod torn;
 mod words;
 
 use along::play_along;

@@ -20,6 +20,9 @@
 //!                        isn't open
 //!     !crash PICK ..     the power fails: sector i keeps its content after the last sync for pick 0, else the one that
 //!                        was written that many writes later; a sector without a pick takes 0
+//!     !torn B PICK ..    the power fails: the sectors of the aligned block B, which are 8 from sector 8 x B on, keep what the
+//!                        pick says, or are damaged for 9, if something was written to the block since the last sync; a
+//!                        block that isn't named takes 0
 //!     !calls N           says the calls of the device from the Nth on, counted from 0
 //!     !sector S FROM TO  says the bytes of a sector
 //!     !write S FROM B .. writes bytes into a sector
@@ -31,6 +34,7 @@
 
 use crate::bench::Bench;
 use crate::fault::Fault;
+use crate::torn::crash_blocks;
 use sector_device::{DeviceCall, MemDisk, SectorDevice};
 use std::alloc::Global;
 
@@ -91,6 +95,10 @@ fn act_on_disk(
     };
     if name == "crash" {
         bench.put_back(disk.crash(numbers));
+        return Ok(());
+    }
+    if name == "torn" {
+        bench.put_back(crash_blocks(bench.alloc(), disk, numbers)?);
         return Ok(());
     }
     let ended = act_on(&mut disk, name, numbers, said);

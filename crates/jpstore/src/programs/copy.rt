@@ -138,7 +138,7 @@ fn status_of_copy(status: &Status, used: u64, sectors: u64) -> Status
         seq: status.seq,
         opens: status.opens,
         used,
-        capacity: capacity(sectors),
+        capacity: capacity(false, sectors),
         sectors,
         half: 0,
         broken: false,

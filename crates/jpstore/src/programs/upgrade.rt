@@ -2,6 +2,7 @@
 
 ghost use Rattle.std.specs.Prelude.{◌≡◌, false, IfOk, IfErr, OnErr, OnOk};
 ghost use Rattle.sector_device.specs.Disk.{LeavesOnly};
+ghost use Rattle.store_journal.specs.Models.{model};
 ghost use Rattle.store_commits.specs.Account.{IsStanding};
 ghost use Rattle.doc_store.specs.Formats.{InEither, format_of, number_of};
 ghost use Rattle.doc_tree.specs.Text.{data_of};
@@ -66,7 +67,8 @@ fn upgrade_store<O: Write>(
     requires works { store.old.account.broken ≡ false }
     ensures done { OnOk result (IsUpgraded format store.old store.new) }
     ensures shown { Shows result (line_of (upgrade_reply (number_of format) (number_of (format_of store.old.account)))) (O.contents writer.old) (O.contents writer.new) }
-    ensures any_moment { (file_disk store.old.device).honest → LeavesOnly (file_disk store.old.device) (file_disk store.new.device) (InEither store.old.account format) }
+    ensures any_moment { (file_disk store.new.device).honest
+        → LeavesOnly (model store.old.account.rides (file_disk store.old.device)) (model store.old.account.rides (file_disk store.new.device)) (InEither store.old.account format) }
     ensures standing { IsStanding (file_disk store.new.device) store.new.account }
     ensures honest { (file_disk store.new.device).honest → (file_disk store.old.device).honest }
 {

@@ -1,13 +1,13 @@
-use Rattle.std.proofs.Common.{◌≡◌, ◌+◌, ℕ, refl, List, sym, subst}
-use Rattle.sector_device.specs.Disk.{Image, OrReplaced}
-use Rattle.sector_device.specs.History.{seen_after, left_after, KeepsTo}
+use Rattle.std.proofs.Common.{◌≡◌, ◌+◌, ℕ, refl, List, sym, subst, Bool, Option}
+use Rattle.sector_device.specs.Disk.{Image}
+use Rattle.sector_device.specs.History.{seen_after, OrWritten, left_by, KeepsTo}
 use Rattle.sector_device.specs.declared.history.History.{History}
 use Rattle.file_device.specs.Runs.{IsOverSome}
 use Rattle.file_device.proofs.Runs.{over_self, over_some_set}
 use Rattle.file_device.proofs.system.note_failed.Goals as goal
 
 pub loop-i-init : goal.loop-i-init
-loop-i-init c = record { seen = refl; left = λ image is. (image, is, over_self c.args.first c.args.run.now 0 image); honest = λ n keeps. keeps }
+loop-i-init c = record { seen = refl; left = λ torn image is. (image, is, over_self torn c.args.first c.args.run.now 0 image); honest = λ n keeps. keeps }
 
 pub loop-i-preserved : goal.loop-i-preserved
 loop-i-preserved c =
@@ -17,8 +17,8 @@ loop-i-preserved c =
     let first = c.args.first in
     let run = c.args.run.now in
     let i = c.loop-i.i in
-    subst (λ (h : History). record { seen : seen_after h ≡ seen_after told; left : (image : Image) → left_after h image → IsOverSome (left_after told) first run (i + 1) image; honest : (n : ℕ) → KeepsTo n h → KeepsTo n told }) (sym c.of-noted.ensures) (record {
+    subst (λ (h : History). record { seen : seen_after h ≡ seen_after told; left : (torn : Option (List ℕ → Bool)) (image : Image) → left_by torn h image → IsOverSome torn (left_by torn told) first run (i + 1) image; honest : (n : ℕ) → KeepsTo n h → KeepsTo n told }) (sym c.of-noted.ensures) (record {
       seen = inv.seen;
-      left = subst (λ (s : List ℕ). (image : Image) → OrReplaced (left_after noted) (first + i) s image → IsOverSome (left_after told) first run (i + 1) image) (sym c.of-content.ensures) (over_some_set first run i (left_after told) (left_after noted) inv.left);
+      left = λ torn. subst (λ (s : List ℕ). (image : Image) → OrWritten torn (left_by torn noted) (first + i) s image → IsOverSome torn (left_by torn told) first run (i + 1) image) (sym c.of-content.ensures) (over_some_set torn first run i (left_by torn told) (left_by torn noted) (inv.left torn));
       honest = λ n keeps. inv.honest n keeps.0;
     })

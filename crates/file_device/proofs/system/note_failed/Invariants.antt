@@ -1,6 +1,6 @@
-use Rattle.std.proofs.Common.{◌≡◌, ℕ}
+use Rattle.std.proofs.Common.{◌≡◌, ℕ, List, Bool, Option}
 use Rattle.sector_device.specs.Disk.{Image}
-use Rattle.sector_device.specs.History.{seen_after, left_after, KeepsTo}
+use Rattle.sector_device.specs.History.{seen_after, left_by, KeepsTo}
 use Rattle.file_device.specs.Runs.{IsOverSome}
 use Rattle.file_device.proofs.system.note_failed.Given as goal
 
@@ -8,6 +8,6 @@ abbrev pub invariant-loop-i : goal.invariant-loop-i
 invariant-loop-i l =
     record {
       seen : seen_after l.noted.value ≡ seen_after l.fn.told.value;
-      left : (image : Image) → left_after l.noted.value image → IsOverSome (left_after l.fn.told.value) l.first l.run l.i image;
+      left : (torn : Option (List ℕ → Bool)) (image : Image) → left_by torn l.noted.value image → IsOverSome torn (left_by torn l.fn.told.value) l.first l.run l.i image;
       honest : (n : ℕ) → KeepsTo n l.noted.value → KeepsTo n l.fn.told.value;
     }

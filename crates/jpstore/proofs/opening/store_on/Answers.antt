@@ -1,13 +1,13 @@
 use Rattle.std.proofs.Common.{subst, sym}
 use Rattle.std.proofs.lemmas.Result.{err_from_is_err_and}
-use Rattle.sector_device.specs.Disk.{Image}
 use Rattle.sector_device.specs.declared.history.History.{History}
-use Rattle.sector_device.specs.History.{moment_of, seen_after, left_after, left_since, disk_after}
-use Rattle.doc_store.specs.Opening.{IsOpenedFrom, IsRefusedAs, LacksRoom, NotOpened, OldOrStands}
+use Rattle.sector_device.specs.History.{seen_after, disk_after}
+use Rattle.doc_store.specs.Opening.{IsOfFormat, IsOpenedFrom, IsRefusedAs, LacksRoom, NotOpened}
 use Rattle.store_commits.specs.Images.{Stands}
 use Rattle.doc_store.proofs.Opened.{why_of}
 use Rattle.file_device.specs.File.{file_disk}
 use Rattle.jpstore.specs.Files.{IsRefusedIn}
+use Rattle.jpstore.proofs.Modelled.{from_opening, from_reading}
 use Rattle.jpstore.proofs.opening.store_on.Goals as goal
 
 pub returns-clause-opened : goal.returns-clause-opened
@@ -17,7 +17,7 @@ returns-clause-opened c = λ held was.
     record {
       works = e.opened.works;
       found = λ honest. subst (λ (p : History). IsOpenedFrom (seen_after p) store.account) was (e.opened.found honest);
-      any_moment = λ honest. subst (λ (p : History). (image : Image) → left_since store.device.history (moment_of p) image → OldOrStands (disk_after 0 p 0) image) was (e.any_moment honest).each;
+      any_moment = λ honest. from_opening store.account.rides c.args.device store.device held was (e.any_moment honest);
       standing = e.standing;
     }
 
@@ -32,7 +32,7 @@ returns-in_err-open-clause-refused c = λ held was.
       exact = λ state stands honest. subst (λ (p : History). IsRefusedAs (seen_after p) fault.number) was (e.exact state (subst (λ (p : History). Stands state (seen_after p)) (sym was) stands) honest);
       no_room = λ honest is. subst (λ (p : History). LacksRoom (seen_after p)) was (((why_of (file_disk c.args.device) (file_disk fault.device) fault.number e.refused).0 is).no_room honest);
       size = e.sectors_err;
-      any_moment = λ honest. subst (λ (p : History). (image : Image) → left_since fault.device.history (moment_of p) image → OldOrStands (disk_after 0 p 0) image) was (e.any_moment_err honest).each;
-      untouched = λ honest other. subst (λ (p : History). (image : Image) → left_since fault.device.history (moment_of p) image → left_after p image) was (e.untouched honest other).any_moment.each;
+      any_moment = λ honest rides of. from_opening rides old fault.device held was (e.any_moment_err honest rides (subst (λ (p : History). IsOfFormat rides (seen_after p)) (sym was) of));
+      untouched = λ honest other rides. from_reading rides old fault.device held was (e.untouched honest other rides);
     } in
     rw (p.1, p.2) refused

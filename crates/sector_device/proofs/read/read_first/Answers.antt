@@ -1,6 +1,6 @@
 use Rattle.std.proofs.Common.{◌∙◌, ap, arith, get_or, [], Result}
 use Rattle.std.proofs.lemmas.Result.{IfOk-from_err, on_ok_weaker}
-use Rattle.sector_device.specs.Disk.{Disk, Image, IsCoherent, Syncs}
+use Rattle.sector_device.specs.Disk.{Disk, Image, IsCoherent, Syncs, tearing}
 use Rattle.sector_device.specs.Sectors.{KeepsImages}
 use Rattle.sector_device.proofs.Charges.{made_one, failed_one, failed_more, charges_err, charges_one, charges_joined, read_one, read_joined}
 use Rattle.sector_device.proofs.Moments.{started, goes_on}
@@ -51,3 +51,20 @@ pub returns-clause-settled : goal.returns-clause-settled
 returns-clause-settled g c = λ h.
     (let before = c.sync.ensures.counts.honest (c.read.ensures.counts.honest h) in
     on_ok_weaker c.read.result (λ given image left. (c.in_ok-sync.ensures.syncs before).settled image (((c.read.ensures.reads h).left image).0 left)) (c.read.ensures.reads h).given)
+
+pub returns-in_err-sync-clause-torn : goal.returns-in_err-sync-clause-torn
+returns-in_err-sync-clause-torn g c = λ torn h. (let before = c.sync.ensures.counts.honest h in synced (tearing torn (g.D.SectorDevice.disk c.args.device.now)) (tearing torn (g.D.SectorDevice.disk c.sync.new.self)) c.sync.result (g.met.D.SectorDevice.torn_coherent c.args.device.now before torn).coherent (c.sync.ensures.torn torn before))
+
+pub returns-in_err-sync-clause-torn_settled : goal.returns-in_err-sync-clause-torn_settled
+returns-in_err-sync-clause-torn_settled g c = λ torn h. IfOk-from_err c.from_residual.result _ c.from_residual.ensures.0
+
+pub returns-clause-torn : goal.returns-clause-torn
+returns-clause-torn g c = λ torn h.
+    (let middle = c.read.ensures.counts.honest h in
+    let before = c.sync.ensures.counts.honest middle in
+    keeps_more (tearing torn (g.D.SectorDevice.disk c.args.device.now)) (tearing torn (g.D.SectorDevice.disk c.sync.new.self)) (tearing torn (g.D.SectorDevice.disk c.read.new.self)) 0 c.read.new.into c.read.result (synced (tearing torn (g.D.SectorDevice.disk c.args.device.now)) (tearing torn (g.D.SectorDevice.disk c.sync.new.self)) c.sync.result (g.met.D.SectorDevice.torn_coherent c.args.device.now before torn).coherent (c.sync.ensures.torn torn before)) (c.read.ensures.torn torn h))
+
+pub returns-clause-torn_settled : goal.returns-clause-torn_settled
+returns-clause-torn_settled g c = λ torn h.
+    (let before = c.sync.ensures.counts.honest (c.read.ensures.counts.honest h) in
+    on_ok_weaker c.read.result (λ given image left. (c.in_ok-sync.ensures.torn torn before).settled image (((c.read.ensures.torn torn h).left image).0 left)) (c.read.ensures.reads h).given)

@@ -2,6 +2,7 @@ use Rattle.std.proofs.Common.{List, map, arith, ap, subst}
 use Rattle.std.proofs.lemmas.List.{length-map}
 use Rattle.doc_machine.specs.Transaction.{Transaction, transaction_of}
 use Rattle.store_commits.specs.Run.{Batched}
+use Rattle.store_commits.proofs.Modelled.{both_models}
 use Rattle.serve_lines.specs.LineReplies.{FollowsBatch}
 use Rattle.serve_lines.proofs.Batching.{batch_behind, made_each}
 use Rattle.serve_lines.proofs.batch.change_all.Goals as goal
@@ -17,5 +18,5 @@ returns-clause-ok g c =
     let made = subst (λ (l : List Transaction). Batched disk old mid l said) (ap (λ v. map transaction_of v.items) c.replace.ensures.value) c.in_ok-said.ensures.batched in
     let each = made_each disk options old mid cs said made in (
       omega (arith, each, length-map c.args.waiting.now.items transaction_of),
-      batch_behind disk options old mid cs said made g.met.D.SectorDevice.coherent c.follow.new.store (subst (λ l. FollowsBatch disk options l mid c.follow.new.store) c.deref.ensures.value c.follow.ensures),
+      batch_behind disk options old mid cs said made (both_models g.D.SectorDevice.disk g.met.D.SectorDevice.coherent g.met.D.SectorDevice.torn_coherent) c.follow.new.store (subst (λ l. FollowsBatch disk options l mid c.follow.new.store) c.deref.ensures.value c.follow.ensures),
     )

@@ -12,6 +12,7 @@ use Rattle.store_commits.proofs.Joining.{broken_whole}
 use Rattle.store_commits.proofs.Parts.{planned_replies}
 use Rattle.store_commits.proofs.Standing.{standing}
 use Rattle.store_commits.proofs.batch.commit_batch.Given.{Over}
+use Rattle.store_commits.proofs.Modelled.{both_models}
 use Rattle.store_commits.proofs.batch.commit_batch.Goals as goal
 
 pub returns-then-is_broken-clause-batched : goal.returns-then-is_broken-clause-batched
@@ -19,7 +20,7 @@ returns-then-is_broken-clause-batched g c =
     let journal = c.args.journal.now in
     let machine = c.args.machine.now in
     let items = c.args.transactions.items in
-    broken_whole g.D.SectorDevice.disk g.met.D.SectorDevice.coherent (store_view journal machine (target_of c.args.copy.now)) (standing (g.D.SectorDevice.disk journal.device) journal machine c.requires.held)
+    broken_whole g.D.SectorDevice.disk (both_models g.D.SectorDevice.disk g.met.D.SectorDevice.coherent g.met.D.SectorDevice.torn_coherent) (store_view journal machine (target_of c.args.copy.now)) (standing (g.D.SectorDevice.disk journal.device) journal machine c.requires.held)
     (sym c.if-is_broken.ensures.broken) items c.say_broken.new.said.items (c.say_broken.ensures ∙ (λ i. c.in_ok-said.ensures.items i ++ map (λ _. Refused (plain BROKEN)) items))
 
 pub commit_all-requires-clause-prepared : goal.commit_all-requires-clause-prepared

@@ -9,7 +9,7 @@ use Rattle.store_commits.proofs.plan.prepare.Given.{Over}
 use Rattle.store_commits.proofs.plan.prepare.Goals as goal
 
 -- nothing was planned yet
-begins : (g : Over) (c : goal.In_ok-push g)
+begins : (g : Over) (c : goal.Else-not-has_numbers g)
     → IsPlanning (with_copy (account_of c.args.journal.now c.args.trial.now.state) (copy_of (target_of c.reserve.new.copy))) [] (record { capacity = c.capacity.result; left = c.capacity-2.result - c.used.result; bytes = 0; segments = c.new.result; last = c.new-2.result }) c.args.trial.now
 begins g c =
     let used = c.used.ensures in

@@ -5,11 +5,12 @@ use Rattle.store_commits.specs.Copying.{Target, target_of, target_with}
 use Rattle.store_commits.specs.Inside.{IsAppended, IsAppendedBehind, IsPart, AnswersPart, answered}
 use Rattle.store_commits.specs.declared.segment.Fate.{Fate}
 use Rattle.store_commits.proofs.Parts.{none_waits, not_begun, one_behind, part_fits, part_takes, some_wait}
+use Rattle.store_commits.proofs.Modelled.{both_models}
 use Rattle.store_commits.proofs.segment.commit.Goals as goal
 
 pub returns-then-is_broken-clause-answered : goal.returns-then-is_broken-clause-answered
 returns-then-is_broken-clause-answered g c = λ s a left slots b stored same part.
-    not_begun g.D.SectorDevice.disk g.met.D.SectorDevice.coherent c.args.journal.now s (target_of c.args.copy.now) stored (sym c.if-is_broken.ensures.broken) a left c.args.segment.now slots b part
+    not_begun g.D.SectorDevice.disk (both_models g.D.SectorDevice.disk g.met.D.SectorDevice.coherent g.met.D.SectorDevice.torn_coherent) c.args.journal.now s (target_of c.args.copy.now) stored (sym c.if-is_broken.ensures.broken) a left c.args.segment.now slots b part
 
 pub returns-in-Some-clause-answered : goal.returns-in-Some-clause-answered
 returns-in-Some-clause-answered g c = λ s a left slots b stored same part.
@@ -25,13 +26,13 @@ returns-in-Some-clause-answered g c = λ s a left slots b stored same part.
     (subst (λ (l : List ℕ). IsAppendedBehind disk journal new l c.deref-in-Some.result.now segment.adds fine) c.deref.ensures.value c.append_behind.ensures.behind) in
     subst (λ (t : Option Target). AnswersPart disk journal s copy slots left b new t (map (answered c.ended.result) segment.replies.items)) (sym c.append_behind.ensures.dropped)
     (subst (λ (f : Fate). AnswersPart disk journal s copy slots left b new None (map (answered f) segment.replies.items)) (sym c.ended.ensures)
-    (one_behind disk g.met.D.SectorDevice.coherent journal s copy works stored left segment slots b here c.in-Some.snapshot c.in-Some.is new fine appended))
+    (one_behind disk (both_models g.D.SectorDevice.disk g.met.D.SectorDevice.coherent g.met.D.SectorDevice.torn_coherent) journal s copy works stored c.requires.numbers left segment slots b here c.in-Some.snapshot c.in-Some.is new fine appended))
 
 pub returns-then-segment-eq0-clause-answered : goal.returns-then-segment-eq0-clause-answered
 returns-then-segment-eq0-clause-answered g c = λ s a left slots b stored same part.
     let works = sym c.if-is_broken.ensures.broken in
     let here = subst (λ (x : Account). IsPart x left c.args.segment.now slots b) (sym (same works)) part in
-    none_waits g.D.SectorDevice.disk g.met.D.SectorDevice.coherent c.args.journal.now s (target_of c.args.copy.now) works stored left c.args.segment.now slots b here c.in_default.is c.if-segment-eq0.true
+    none_waits g.D.SectorDevice.disk (both_models g.D.SectorDevice.disk g.met.D.SectorDevice.coherent g.met.D.SectorDevice.torn_coherent) c.args.journal.now s (target_of c.args.copy.now) works stored c.requires.numbers left c.args.segment.now slots b here c.in_default.is c.if-segment-eq0.true
 
 pub append-requires-clause-takes : goal.append-requires-clause-takes
 append-requires-clause-takes g c =
@@ -39,7 +40,7 @@ append-requires-clause-takes g c =
     let works = sym c.if-is_broken.ensures.broken in
     let r = c.requires.ready works in
     subst (λ (l : List ℕ). Takes journal (length l) c.args.segment.now.adds) (sym c.deref-2.ensures.value)
-    (part_takes g.D.SectorDevice.disk g.met.D.SectorDevice.coherent journal r.0 (target_of c.args.copy.now) works r.4 r.1 c.args.segment.now r.2 r.3 r.5 c.in_default.is c.if-segment-eq0.false)
+    (part_takes g.D.SectorDevice.disk (both_models g.D.SectorDevice.disk g.met.D.SectorDevice.coherent g.met.D.SectorDevice.torn_coherent) journal r.0 (target_of c.args.copy.now) works r.4 c.requires.numbers r.1 c.args.segment.now r.2 r.3 r.5 c.in_default.is c.if-segment-eq0.false)
 
 pub returns-clause-answered : goal.returns-clause-answered
 returns-clause-answered g c = λ s a left slots b stored same part.
@@ -54,14 +55,14 @@ returns-clause-answered g c = λ s a left slots b stored same part.
     let frames = c.deref-2.ensures.value in
     let appended = subst (λ (l : List ℕ). IsAppended disk journal new l segment.adds fine) frames c.append.ensures.appended in
     subst (λ (f : Fate). AnswersPart disk journal s copy slots left b new (target_of c.append.new.copy) (map (answered f) segment.replies.items)) (sym c.ended-2.ensures)
-    (some_wait disk g.met.D.SectorDevice.coherent journal s copy works stored left segment slots b here c.in_default.is c.if-segment-eq0.false new fine appended (target_of c.append.new.copy)
+    (some_wait disk (both_models g.D.SectorDevice.disk g.met.D.SectorDevice.coherent g.met.D.SectorDevice.torn_coherent) journal s copy works stored c.requires.numbers left segment slots b here c.in_default.is c.if-segment-eq0.false new fine appended (target_of c.append.new.copy)
     (λ done. c.append.ensures.copy done ∙ ap (λ (l : List ℕ). target_with l copy) frames) c.append.ensures.dropped)
 
 pub append_behind-requires-clause-fits : goal.append_behind-requires-clause-fits
 append_behind-requires-clause-fits g c =
     let works = sym c.if-is_broken.ensures.broken in
     let r = c.requires.ready works in
-    let fits = (part_fits g.D.SectorDevice.disk g.met.D.SectorDevice.coherent c.args.journal.now r.0 (target_of c.args.copy.now) works r.4 r.1 c.args.segment.now r.2 r.3 r.5 c.in-Some.snapshot c.in-Some.is).0 in
+    let fits = (part_fits g.D.SectorDevice.disk (both_models g.D.SectorDevice.disk g.met.D.SectorDevice.coherent g.met.D.SectorDevice.torn_coherent) c.args.journal.now r.0 (target_of c.args.copy.now) works r.4 c.requires.numbers r.1 c.args.segment.now r.2 r.3 r.5 c.in-Some.snapshot c.in-Some.is).0 in
     let snapshot = ap length c.deref.ensures.value in
     let frames = ap length c.deref-in-Some.ensures.value in
     omega (arith, fits, snapshot, frames)
@@ -70,4 +71,4 @@ pub append_behind-requires-clause-seq_fits : goal.append_behind-requires-clause-
 append_behind-requires-clause-seq_fits g c =
     let works = sym c.if-is_broken.ensures.broken in
     let r = c.requires.ready works in
-    (part_fits g.D.SectorDevice.disk g.met.D.SectorDevice.coherent c.args.journal.now r.0 (target_of c.args.copy.now) works r.4 r.1 c.args.segment.now r.2 r.3 r.5 c.in-Some.snapshot c.in-Some.is).1
+    (part_fits g.D.SectorDevice.disk (both_models g.D.SectorDevice.disk g.met.D.SectorDevice.coherent g.met.D.SectorDevice.torn_coherent) c.args.journal.now r.0 (target_of c.args.copy.now) works r.4 c.requires.numbers r.1 c.args.segment.now r.2 r.3 r.5 c.in-Some.snapshot c.in-Some.is).1

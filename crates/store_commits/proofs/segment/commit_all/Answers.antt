@@ -1,13 +1,14 @@
-use Rattle.std.proofs.Common.{◌≡◌, ◌-◌, [], List, length, ap, sym, subst, ◌∙◌, arith}
+use Rattle.std.proofs.Common.{◌≡◌, ◌+◌, ◌*◌, ◌-◌, [], List, length, ap, sym, subst, ◌∙◌, arith}
 use Rattle.std.proofs.lemmas.List.{nil_from_length}
 use Rattle.std.specs.Vec.Iter.{into_iter_items}
 use Rattle.store_commits.specs.Batch.{waiting}
 use Rattle.store_commits.specs.Copying.{HasSpare, target_of}
 use Rattle.store_commits.specs.Folds.{all_changes}
 use Rattle.store_commits.specs.Run.{Reply}
-use Rattle.store_commits.specs.Inside.{HasCome, bytes_in, replies_in}
+use Rattle.store_commits.specs.Inside.{LeavesNumbers, HasCome, bytes_in, replies_in}
 use Rattle.store_commits.specs.declared.segment.Segment.{Segment}
 use Rattle.store_commits.proofs.Joining.{all_come, come_further, come_nowhere, committed, how_many, next_ready}
+use Rattle.store_commits.proofs.Modelled.{both_models}
 use Rattle.store_commits.proofs.segment.commit_all.Goals as goal
 
 pub loop-segment-init : goal.loop-segment-init
@@ -21,8 +22,9 @@ loop-segment-init g c =
     record {
       come = λ s slots end stored planned.
           subst (λ (replies : List Reply). HasCome disk journal s copy slots end journal copy (into_iter_items c.into_iter-segment-iterator.result) replies) (sym c.requires.none)
-          (subst (λ (rest : List Segment). HasCome disk journal s copy slots end journal copy rest []) (sym items) (come_nowhere disk g.met.D.SectorDevice.coherent journal s copy slots end c.args.segments.items stored planned));
+          (subst (λ (rest : List Segment). HasCome disk journal s copy slots end journal copy rest []) (sym items) (come_nowhere disk (both_models g.D.SectorDevice.disk g.met.D.SectorDevice.coherent g.met.D.SectorDevice.torn_coherent) journal s copy slots end c.args.segments.items stored planned));
       grows = subst (λ (rest : List Segment). HasSpare c.args.copy.now (bytes_in rest)) (sym items) c.requires.grows;
+      numbers = subst (λ (rest : List Segment). LeavesNumbers journal (2 * length rest + 1)) (sym items) c.requires.numbers;
       room = omega (arith, room, same);
     }
 
@@ -34,7 +36,13 @@ commit_segment-requires-clause-ready g c =
     let p = c.requires.prepared in
     let come = subst (λ (rest : List Segment). HasCome disk c.args.journal.now p.0 copy p.3.slots p.3.end l.journal (target_of l.copy) rest l.said.items) c.in-Some.ensures.steps.0
     (l.invariant.come p.0 p.3.slots p.3.end p.2 p.3.planned) in
-    next_ready disk g.met.D.SectorDevice.coherent c.args.journal.now l.journal p.0 copy (target_of l.copy) p.3.slots p.3.end l.said.items c.in-Some.segment (into_iter_items c.next.new.self) come
+    next_ready disk (both_models g.D.SectorDevice.disk g.met.D.SectorDevice.coherent g.met.D.SectorDevice.torn_coherent) c.args.journal.now l.journal p.0 copy (target_of l.copy) p.3.slots p.3.end l.said.items c.in-Some.segment (into_iter_items c.next.new.self) come
+
+pub commit_segment-requires-clause-numbers : goal.commit_segment-requires-clause-numbers
+commit_segment-requires-clause-numbers g c =
+    let left = c.loop-segment.invariant.numbers in
+    let count = ap length c.in-Some.ensures.steps.0 in
+    omega (arith, left, count)
 
 pub loop-segment-preserved : goal.loop-segment-preserved
 loop-segment-preserved g c =
@@ -51,9 +59,10 @@ loop-segment-preserved g c =
     let capacity = made.capacity in
     record {
       come = λ s slots end stored planned.
-          come_further disk g.met.D.SectorDevice.coherent c.args.journal.now l.journal new.journal s copy (target_of l.copy) (target_of new.copy) slots end l.said.items new.said.items c.in-Some.segment made.answered rest
+          come_further disk (both_models g.D.SectorDevice.disk g.met.D.SectorDevice.coherent g.met.D.SectorDevice.torn_coherent) c.args.journal.now l.journal new.journal s copy (target_of l.copy) (target_of new.copy) slots end l.said.items new.said.items c.in-Some.segment made.answered rest
           (subst (λ (more : List Segment). HasCome disk c.args.journal.now s copy slots end l.journal (target_of l.copy) more l.said.items) steps (l.invariant.come s slots end stored planned));
       grows = made.grows (bytes_in rest) (subst (λ (more : List Segment). HasSpare l.copy (bytes_in more)) steps l.invariant.grows);
+      numbers = (let left = l.invariant.numbers in let used = made.numbers in let count = ap length steps in omega (arith, left, used, count));
       room = omega (arith, room, all, len, capacity);
     }
 
@@ -64,8 +73,8 @@ overflow_sub-seq g c =
     let journal = c.args.journal.now in
     let copy = target_of c.args.copy.now in
     let none = nil_from_length _ (sym l.segment-iterator.rest.ok.0 ∙ c.in-None.ensures.steps.0) in
-    let was = all_come g.D.SectorDevice.disk g.met.D.SectorDevice.coherent journal l.journal p.0 copy (target_of l.copy) p.3.slots p.3.end l.said.items _ none (l.invariant.come p.0 p.3.slots p.3.end p.2 p.3.planned) in
-    let many = how_many g.D.SectorDevice.disk g.met.D.SectorDevice.coherent journal l.journal p.0 copy (target_of l.copy) p.3.slots p.3.end l.said.items was p.2.held.seq in
+    let was = all_come g.D.SectorDevice.disk (both_models g.D.SectorDevice.disk g.met.D.SectorDevice.coherent g.met.D.SectorDevice.torn_coherent) journal l.journal p.0 copy (target_of l.copy) p.3.slots p.3.end l.said.items _ none (l.invariant.come p.0 p.3.slots p.3.end p.2 p.3.planned) in
+    let many = how_many g.D.SectorDevice.disk (both_models g.D.SectorDevice.disk g.met.D.SectorDevice.coherent g.met.D.SectorDevice.torn_coherent) journal l.journal p.0 copy (target_of l.copy) p.3.slots p.3.end l.said.items was p.2.held.seq in
     let seq = c.seq.ensures in
     let before = c.seq-before.ensures in
     omega (arith, many, seq, before)
@@ -73,7 +82,7 @@ overflow_sub-seq g c =
 pub returns : goal.returns
 returns g c = λ s cs stored prepared.
     let disk = g.D.SectorDevice.disk in
-    let coherent = g.met.D.SectorDevice.coherent in
+    let coherent = (both_models g.D.SectorDevice.disk g.met.D.SectorDevice.coherent g.met.D.SectorDevice.torn_coherent) in
     let l = c.loop-segment in
     let journal = c.args.journal.now in
     let copy = target_of c.args.copy.now in

@@ -1,5 +1,6 @@
 use Rattle.std.proofs.Common.{length}
-use Rattle.store_commits.proofs.Switches.{broke, broke_then, either, enough}
+use Rattle.store_journal.specs.Writes.{switch_calls}
+use Rattle.store_commits.proofs.Switches.{broke, commit_broke, either, enough, number_left}
 use Rattle.store_commits.proofs.snapshot_commit.commit_snapshot.Goals as goal
 
 pub returns-in_default-switch-clause-err : goal.returns-in_default-switch-clause-err
@@ -12,7 +13,7 @@ returns-in_default-switch-clause-err g c =
     let step = c.in-Ok.ensures.ok in (
       c.plain-in_default-switch.ensures,
       broke disk before mid now target c.in-Ok.field-0 _ (enough (length target) before mid c.requires.fits step.stays.sectors c.copy_step.ensures.kept) step c.copy_step.ensures.honest
-          (broke_then (disk mid.device) (disk now.device) 3 c.in_default-switch.field-0.number mid now step.works c.in_default-switch.ensures.refused c.in_default-switch.ensures.err),
+          (commit_broke (disk mid.device) (disk now.device) (switch_calls mid.rides (length target)) c.in_default-switch.field-0.number mid now step.works (number_left step.stays c.requires.number) c.in_default-switch.ensures.refused c.in_default-switch.ensures.err),
     )
 
 pub returns-in_default-switch-clause-any_moment : goal.returns-in_default-switch-clause-any_moment

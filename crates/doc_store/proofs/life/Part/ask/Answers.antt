@@ -1,4 +1,5 @@
 use Rattle.std.proofs.Common.{◌≡◌, ◌++◌, ◌∷◌, [], ap, arith, vec_len, vec_capacity}
+use Rattle.store_commits.proofs.Modelled.{both_models}
 use Rattle.doc_store.proofs.Telling.{told_more}
 use Rattle.store_commits.specs.Events.{event_of}
 use Rattle.doc_store.proofs.life.Part.ask.Goals as goal
@@ -10,7 +11,7 @@ returns-clause-told g c = λ start events told.
     let grows = c.answer-reply.ensures.grows in
     let items = rw c.unwrap.ensures at c.push.ensures.items in
     let replies : c.push.new.self.items ≡ old.replies.items ++ r ∷ [] = rw items (ap (λ v. v.items ++ r ∷ []) grows.replies) in
-    told_more g.D.SectorDevice.disk g.met.D.SectorDevice.coherent start c.args.store.now c.answer-reply.new.store events (event_of c.args.event) r old
+    told_more g.D.SectorDevice.disk (both_models g.D.SectorDevice.disk g.met.D.SectorDevice.coherent g.met.D.SectorDevice.torn_coherent) start c.args.store.now c.answer-reply.new.store events (event_of c.args.event) r old
     (record c.answer-reply.new.self { replies = c.push.new.self }) told c.answer-reply.ensures.ran replies grows.accepted grows.acknowledged
 
 pub returns-clause-room : goal.returns-clause-room

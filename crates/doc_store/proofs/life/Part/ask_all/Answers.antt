@@ -1,6 +1,7 @@
 use Rattle.std.proofs.Common.{◌≡◌, ◌++◌, ◌∷◌, [], ◌∙◌, ap, sym, subst, List, map, length, arith, add-one, ℕ, ◌+◌}
 use Rattle.std.proofs.lemmas.List.{map-append, append-nil, append_assoc, nil_from_length}
 use Rattle.std.specs.Vec.Iter.{into_iter_items}
+use Rattle.store_commits.proofs.Modelled.{both_models}
 use Rattle.doc_store.proofs.Telling.{told_nothing}
 use Rattle.store_commits.specs.Events.{event_of}
 use Rattle.doc_store.specs.Ending.{Told, HasPlaces}
@@ -11,7 +12,7 @@ pub loop-event-init : goal.loop-event-init
 loop-event-init g c =
     let items = c.into_iter-event-iterator.ensures.into_iter_gives.0 in
     record {
-      told = told_nothing g.D.SectorDevice.disk g.met.D.SectorDevice.coherent c.args.store.now c.args.self.now c.requires.nothing c.know.ensures.standing;
+      told = told_nothing g.D.SectorDevice.disk (both_models g.D.SectorDevice.disk g.met.D.SectorDevice.coherent g.met.D.SectorDevice.torn_coherent) c.args.store.now c.args.self.now c.requires.nothing c.know.ensures.standing;
       standing = c.know.ensures.standing;
       left = sym items;
       room = subst (λ (l : List ProgramEvent). HasPlaces (length l) c.args.self.now) (sym items) c.requires.room;

@@ -1,4 +1,4 @@
-use Rattle.std.proofs.Common.{◌≤◌, [], length, sym, subst, arith, Option}
+use Rattle.std.proofs.Common.{◌≡◌, ◌∙◌, ◌≤◌, [], length, sym, subst, arith, Option, true, false}
 use Rattle.std.proofs.lemmas.Result.{err_from_is_err_and}
 use Rattle.store_journal.specs.Layout.{capacity_of}
 use Rattle.store_commits.specs.Account.{with_copy}
@@ -6,7 +6,8 @@ use Rattle.store_commits.specs.Copying.{IsCopying, Target, copy_of, target_of, v
 use Rattle.store_commits.specs.Inside.{account_of}
 use Rattle.store_commits.specs.Batch.{FailedCommit}
 use Rattle.store_commits.specs.Run.{to_step}
-use Rattle.doc_store.proofs.Pumps.{begun_at, begun_copying, step_moments, step_failed, step_stored}
+use Rattle.doc_store.proofs.Pumps.{begun_at, begun_copying, none_runs, step_moments, step_failed, step_stored}
+use Rattle.store_commits.proofs.Modelled.{both_models}
 use Rattle.store_commits.proofs.Standing.{standing, stays}
 use Rattle.doc_store.proofs.store.Store.copy_more.Given.{Over}
 use Rattle.doc_store.proofs.store.Store.copy_more.Goals as goal
@@ -17,7 +18,13 @@ returns-then-capacity-len-clause-moments g c =
     let disk = g.D.SectorDevice.disk in
     let journal = c.self.inside.journal in
     rw (← c.self.view_is)
-    (stays (disk journal.device) (account_of journal c.self.inside.machine) [] (g.met.D.SectorDevice.coherent journal.device) (standing (disk journal.device) journal c.self.inside.machine c.self.invariant.held))
+    (stays (disk journal.device) (account_of journal c.self.inside.machine) [] (both_models g.D.SectorDevice.disk g.met.D.SectorDevice.coherent g.met.D.SectorDevice.torn_coherent journal.rides journal.device) (standing (disk journal.device) journal c.self.inside.machine c.self.invariant.held))
+
+-- no number is left
+pub returns-then-not-has_number-clause-memory : goal.returns-then-not-has_number-clause-memory
+returns-then-not-has_number-clause-memory g c = λ _. rw (← c.self.view_is)
+    (none_runs (g.D.SectorDevice.disk c.self.inside.journal.device) c.self.inside.journal c.self.inside.machine (target_of c.self.inside.copy) c.self.invariant.copied
+    (λ fits. (let contrary : true ≡ false = sym (c.has_number.ensures.1 fits) ∙ c.if-not-has_number.true in absurd (cc contrary))))
 
 pub returns-in_err-pump-clause-moments_err : goal.returns-in_err-pump-clause-moments_err
 returns-in_err-pump-clause-moments_err g c =
@@ -25,13 +32,13 @@ returns-in_err-pump-clause-moments_err g c =
     let p = err_from_is_err_and c.from_residual-in_err-pump.result c.from_residual-in_err-pump.ensures.1 in
     let before = c.self.inside.journal in
     let t = view_of c.in_ok-copying.copying in
-    let copying = begun_copying (disk before.device) before c.self.inside.machine (target_of c.self.inside.copy) t c.self.invariant c.in_ok-copying.ensures.ok in
+    let copying = begun_copying (disk before.device) before c.self.inside.machine (target_of c.self.inside.copy) t c.self.invariant (c.has_number.ensures.0 c.if-not-has_number.false) c.in_ok-copying.ensures.ok in
     let step = c.in_err-pump.ensures in
     rw (p.1, p.2) (λ _. rw (← c.self.view_is)
     (λ honest works. step_moments (disk before.device) (disk c.step.new.journal.device) before c.step.new.journal c.self.inside.machine t c.self.invariant.held copying step.honest step.kept honest (step.any_moment honest)))
 
 copying : (g : Over) (c : goal.Joined-self-left g) → IsCopying (g.D.SectorDevice.disk c.self.inside.journal.device) c.self.inside.journal c.self.inside.machine (view_of c.in_ok-copying.copying)
-copying g c = begun_copying (g.D.SectorDevice.disk c.self.inside.journal.device) c.self.inside.journal c.self.inside.machine (target_of c.self.inside.copy) (view_of c.in_ok-copying.copying) c.self.invariant c.in_ok-copying.ensures.ok
+copying g c = begun_copying (g.D.SectorDevice.disk c.self.inside.journal.device) c.self.inside.journal c.self.inside.machine (target_of c.self.inside.copy) (view_of c.in_ok-copying.copying) c.self.invariant (c.has_number.ensures.0 c.if-not-has_number.false) c.in_ok-copying.ensures.ok
 
 pub returns-clause-moments : goal.returns-clause-moments
 returns-clause-moments g c = rw (← c.self.view_is) (λ honest works.
@@ -60,11 +67,11 @@ returns-in_err-pump-clause-failed g c =
     let state = c.self.inside.machine in
     let copy = target_of c.self.inside.copy in
     let t = view_of c.in_ok-copying.copying in
-    let copying = begun_copying (disk before.device) before state copy t c.self.invariant c.in_ok-copying.ensures.ok in
+    let copying = begun_copying (disk before.device) before state copy t c.self.invariant (c.has_number.ensures.0 c.if-not-has_number.false) c.in_ok-copying.ensures.ok in
     let at = begun_at (disk before.device) before state copy t c.in_ok-copying.ensures.ok in
     let step = c.in_err-pump.ensures in
     let now = c.step.new.journal in
-    let fits : length t.bytes ≤ capacity_of before.sectors = omega (arith, c.if-capacity-len.false, c.capacity.ensures, c.len.ensures, c.in_ok-copying.copying.target.ok) in
+    let fits : length t.bytes ≤ capacity_of before.rides before.sectors = omega (arith, c.if-capacity-len.false, c.capacity.ensures, c.len.ensures, c.in_ok-copying.copying.target.ok) in
     rw (p.1, p.2) (λ _. rw (← c.self.view_is)
     (subst (λ (l : Option Target). FailedCommit disk before.device now.device (to_step (with_copy (account_of before state) (copy_of copy)) c.args.max) (with_copy (account_of now state) (copy_of l))) (sym c.in_ok-copying.ensures.taken)
-    (step_failed disk g.met.D.SectorDevice.coherent before now state c.self.invariant.held step.honest step.kept (copy_of copy) c.args.max t step.err.1 copying.holds at fits step.any_moment step.before_last)))
+    (step_failed disk (both_models disk g.met.D.SectorDevice.coherent g.met.D.SectorDevice.torn_coherent) before now state c.self.invariant.held step.honest step.kept (copy_of copy) c.args.max t step.err.1 copying.holds at fits step.any_moment step.before_last)))

@@ -2,6 +2,7 @@ use Rattle.std.proofs.Common.{ap}
 use Rattle.std.proofs.lemmas.Result.{IfErr-weaker}
 use Rattle.store_commits.specs.Account.{StoreView}
 use Rattle.store_commits.specs.Run.{to_step}
+use Rattle.store_commits.proofs.Modelled.{both_models}
 use Rattle.doc_store.proofs.Pumps.{step_passed}
 use Rattle.doc_store.proofs.Single.{commits_made, ran_step, step_why}
 use Rattle.doc_store.proofs.store.Store.pump.Goals as goal
@@ -19,5 +20,5 @@ returns-clause-made g c =
 pub returns-clause-ran : goal.returns-clause-ran
 returns-clause-ran g c =
     let done = c.copy_more-answer.ensures in
-    ran_step g.D.SectorDevice.disk g.met.D.SectorDevice.coherent c.args.self.now c.copy_more-answer.new.self c.know.ensures.standing done.honest c.args.max c.copy_more-answer.result
+    ran_step g.D.SectorDevice.disk (both_models g.D.SectorDevice.disk g.met.D.SectorDevice.coherent g.met.D.SectorDevice.torn_coherent) c.args.self.now c.copy_more-answer.new.self c.know.ensures.standing done.honest c.args.max c.copy_more-answer.result
     done.answer (returns-clause-made g c) done.unchanged done.moments done.moments_err

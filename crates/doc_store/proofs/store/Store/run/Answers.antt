@@ -4,6 +4,7 @@ use Rattle.std.specs.Vec.Iter.{into_iter_items}
 use Rattle.store_commits.specs.Events.{event_of}
 use Rattle.store_commits.specs.Run.{Ran}
 use Rattle.store_commits.specs.declared.event.Event.{Event as ProgramEvent}
+use Rattle.store_commits.proofs.Modelled.{both_models}
 use Rattle.store_commits.proofs.Running.{ran_joined, ran_nothing}
 use Rattle.doc_store.proofs.store.Store.run.Goals as goal
 
@@ -12,7 +13,7 @@ loop-event-init g c =
     let items = c.into_iter-event-iterator.ensures.into_iter_gives.0 in
     let made = c.in_ok-replies.ensures in
     record {
-      ran = rw made.items (ran_nothing g.D.SectorDevice.disk g.met.D.SectorDevice.coherent c.args.self.now c.know.ensures.standing);
+      ran = rw made.items (ran_nothing g.D.SectorDevice.disk (both_models g.D.SectorDevice.disk g.met.D.SectorDevice.coherent g.met.D.SectorDevice.torn_coherent) c.args.self.now c.know.ensures.standing);
       standing = c.know.ensures.standing;
       good = c.know.ensures.good;
       left = sym items;
@@ -32,7 +33,7 @@ loop-event-preserved g c =
     let pushed = rw c.unwrap.ensures at c.push.ensures.len in
     let len : length (into_iter_items l.event-iterator) ≡ length rest + 1 = ap length steps ∙ sym (add-one (length rest)) in
     record {
-      ran = rw items (simp map-append (ran_joined g.D.SectorDevice.disk g.met.D.SectorDevice.coherent c.args.self.now l.self c.answer-reply.new.self
+      ran = rw items (simp map-append (ran_joined g.D.SectorDevice.disk (both_models g.D.SectorDevice.disk g.met.D.SectorDevice.coherent g.met.D.SectorDevice.torn_coherent) c.args.self.now l.self c.answer-reply.new.self
           (map event_of l.yielded) (event_of e ∷ []) l.replies.items (r ∷ []) l.invariant.ran c.answer-reply.ensures.ran));
       standing = c.answer-reply.ensures.standing;
       good = c.answer-reply.ensures.good;

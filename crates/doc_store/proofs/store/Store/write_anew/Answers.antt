@@ -1,12 +1,14 @@
 use Rattle.std.proofs.Common.{◌≡◌, ◌∙◌, [], arith, sym, ap, length, false}
 use Rattle.std.proofs.lemmas.Result.{IfErr-weaker, IfOk-weaker}
 use Rattle.sector_device.specs.Disk.{LeavesOnly}
+use Rattle.store_journal.specs.Models.{model}
 use Rattle.doc_changes.proofs.Framed.{framed_storable}
 use Rattle.store_commits.specs.Account.{StoreView}
 use Rattle.store_commits.specs.Copying.{copy_of, target_of}
 use Rattle.store_commits.specs.Inside.{account_of}
 use Rattle.store_commits.specs.Snapshot.{CanHold, snapshot_size, snapshot_bytes}
 use Rattle.store_commits.specs.Folds.{StandsAfter}
+use Rattle.store_commits.proofs.Modelled.{both_models}
 use Rattle.store_commits.proofs.SnapshotOutcomes.{snapped_held, snapshot_moments}
 use Rattle.store_commits.proofs.Snapshots.{remakes_all}
 use Rattle.store_commits.proofs.Standing.{standing}
@@ -28,13 +30,13 @@ invariant_of-self-2 g c =
     let told = c.commit_snapshot.ensures in
     let bytes = bytes_are g c in
     record {
-      held = snapped_held g.D.SectorDevice.disk g.met.D.SectorDevice.coherent c.self.inside.journal c.commit_snapshot.new.journal c.self.inside.machine c.self.invariant.held (can_snapshot g c) told.kept told.honest c.commit_snapshot.result
+      held = snapped_held g.D.SectorDevice.disk (both_models g.D.SectorDevice.disk g.met.D.SectorDevice.coherent g.met.D.SectorDevice.torn_coherent) c.self.inside.journal c.commit_snapshot.new.journal c.self.inside.machine c.self.invariant.held (can_snapshot g c) told.kept told.honest c.commit_snapshot.result
           (rw bytes at told.ok) (rw bytes at told.err);
       copied = tt;
     }
 
 no_change : (g : Over) (c : goal.After-drop-frames-2 g) → (g.D.SectorDevice.disk c.args.self.now.device).honest → c.args.self.now.account.broken ≡ false
-    → LeavesOnly (g.D.SectorDevice.disk c.args.self.now.device) (g.D.SectorDevice.disk c.commit_snapshot.new.journal.device) (StandsAfter c.args.self.now.account.state [])
+    → LeavesOnly (model c.args.self.now.account.rides (g.D.SectorDevice.disk c.args.self.now.device)) (model c.args.self.now.account.rides (g.D.SectorDevice.disk c.commit_snapshot.new.journal.device)) (StandsAfter c.args.self.now.account.state [])
 no_change g c =
     let disk = g.D.SectorDevice.disk in
     let before = c.self.inside.journal in
@@ -59,11 +61,11 @@ returns-clause-passed g c =
     let told = c.commit_snapshot.ensures in
     let bytes = bytes_are g c in
     rw (← c.self.view_is)
-    (snapshot_passed g.D.SectorDevice.disk g.met.D.SectorDevice.coherent c.self.inside.journal c.commit_snapshot.new.journal c.self.inside.machine c.self.invariant.held told.honest told.kept (copy_of (target_of c.self.inside.copy)) (can_snapshot g c).works c.commit_snapshot.result (rw bytes at told.ok))
+    (snapshot_passed g.D.SectorDevice.disk (both_models g.D.SectorDevice.disk g.met.D.SectorDevice.coherent g.met.D.SectorDevice.torn_coherent) c.self.inside.journal c.commit_snapshot.new.journal c.self.inside.machine c.self.invariant.held told.honest told.kept (copy_of (target_of c.self.inside.copy)) (can_snapshot g c).works c.commit_snapshot.result (rw bytes at told.ok))
 
 pub returns-clause-failed : goal.returns-clause-failed
 returns-clause-failed g c =
     let told = c.commit_snapshot.ensures in
     let bytes = bytes_are g c in
     rw (← c.self.view_is)
-    (snapshot_failed g.D.SectorDevice.disk g.met.D.SectorDevice.coherent c.self.inside.journal c.commit_snapshot.new.journal c.self.inside.machine c.self.invariant.held told.honest told.kept (copy_of (target_of c.self.inside.copy)) c.commit_snapshot.result (rw bytes at told.err) (rw bytes at told.any_moment))
+    (snapshot_failed g.D.SectorDevice.disk (both_models g.D.SectorDevice.disk g.met.D.SectorDevice.coherent g.met.D.SectorDevice.torn_coherent) c.self.inside.journal c.commit_snapshot.new.journal c.self.inside.machine c.self.invariant.held told.honest told.kept (copy_of (target_of c.self.inside.copy)) c.commit_snapshot.result (rw bytes at told.err) (rw bytes at told.any_moment))

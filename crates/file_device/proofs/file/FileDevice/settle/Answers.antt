@@ -23,5 +23,5 @@ returns-clause-settled c =
     let none = c.in_ok-hand_over.ensures.done in
     let sync = c.sync.ensures in
     on_ok_weaker c.sync.result
-    (λ settled image is. ∥∥₁_elim s.kept (hlevel props)
-    (λ kept. settled_left s.sectors s.system.told.value s.history s.first s.run.items s.gathered s.fetched none kept c.sync.new.self.told.value sync.seen sync.left (sync.honest s.sectors) settled image is)) sync.settled
+    (λ settled torn image is. ∥∥₁_elim s.kept (hlevel props)
+    (λ kept. settled_left s.sectors s.system.told.value s.history s.first s.run.items s.gathered s.fetched none kept c.sync.new.self.told.value sync.seen sync.left (sync.honest s.sectors) settled torn image is)) sync.settled

@@ -4,7 +4,7 @@ use Rattle.sector_device.specs.Disk.{Image}
 use Rattle.sector_device.specs.declared.history.History.{Written}
 use Rattle.file_device.specs.Runs.{IsGathered}
 use Rattle.file_device.proofs.Gathers.{one_more}
-use Rattle.file_device.proofs.Syncing.{written_writes}
+use Rattle.file_device.proofs.Syncing.{written_tears, written_writes}
 use Rattle.file_device.proofs.file.FileDeviceSectorDevice.write.Goals as goal
 
 pub invariant_of-self : goal.invariant_of-self
@@ -26,3 +26,9 @@ returns-in-Ok-clause-writes c = λ keeps.
     let s = c.args.self.now in
     let same = c.in-Ok.ensures.same in
     written_writes s.sectors s.failures c.make_room.new.self.sectors c.make_room.new.self.failures c.args.at s.history c.of-earlier.result c.of-content.result c.args.from.now tt same.sectors same.failures (c.of-earlier.ensures ∙ same.history) c.of-content.ensures c.told-from keeps
+
+pub returns-in-Ok-clause-torn : goal.returns-in-Ok-clause-torn
+returns-in-Ok-clause-torn c = λ torn keeps.
+    let s = c.args.self.now in
+    let same = c.in-Ok.ensures.same in
+    written_tears s.sectors s.failures c.make_room.new.self.sectors c.make_room.new.self.failures c.args.at s.history c.of-earlier.result c.of-content.result c.args.from.now torn (c.of-earlier.ensures ∙ same.history) c.of-content.ensures

@@ -1,4 +1,5 @@
 use Rattle.std.proofs.Common.{refl}
+use Rattle.sector_device.specs.Disk.{tearing}
 use Rattle.sector_device.proofs.FailedOnce.{not_yet, called, untouched, other_counts, other_fails, due_counts, due_fails, reads_too, reads_err, reads_none}
 use Rattle.sector_device.proofs.fail_once.FailOnceSectorDevice.read.Goals as goal
 
@@ -53,3 +54,14 @@ returns-else-self-clause-fails g c = due_fails c.args.self.now _ _ (c.is_due.ens
 
 pub returns-else-self-clause-passed : goal.returns-else-self-clause-passed
 returns-else-self-clause-passed g c = λ due pass. absurd (cc (c.if-self.false, pass))
+
+pub returns-then-not-is_due-clause-torn : goal.returns-then-not-is_due-clause-torn
+returns-then-not-is_due-clause-torn g c = λ torn h. reads_too (tearing torn (g.D.SectorDevice.disk c.args.self.now.device)) (tearing torn (g.D.SectorDevice.disk c.read.new.self)) c.args.self.now.failed c.is_due.new.failed c.args.at c.read.new.into c.read.result (c.read.ensures.torn torn h)
+
+pub returns-then-self-clause-torn : goal.returns-then-self-clause-torn
+returns-then-self-clause-torn g c = λ torn h.
+    reads_too (tearing torn (g.D.SectorDevice.disk c.args.self.now.device)) (tearing torn (g.D.SectorDevice.disk c.read-then-self.new.self)) c.args.self.now.failed c.is_due.new.failed c.args.at c.read-then-self.new.into _
+    (reads_err (tearing torn (g.D.SectorDevice.disk c.args.self.now.device)) (tearing torn (g.D.SectorDevice.disk c.read-then-self.new.self)) c.args.at c.read-then-self.new.into c.read-then-self.result _ (c.read-then-self.ensures.torn torn h))
+
+pub returns-else-self-clause-torn : goal.returns-else-self-clause-torn
+returns-else-self-clause-torn g c = λ torn h. reads_too (tearing torn (g.D.SectorDevice.disk c.args.self.now.device)) (tearing torn (g.D.SectorDevice.disk c.args.self.now.device)) c.args.self.now.failed c.is_due.new.failed c.args.at c.args.into.now _ (reads_none (tearing torn (g.D.SectorDevice.disk c.args.self.now.device)) c.args.at c.args.into.now _)

@@ -1,4 +1,5 @@
 use Rattle.std.proofs.Common.{refl}
+use Rattle.sector_device.specs.Disk.{tearing}
 use Rattle.sector_device.proofs.FailedOnce.{not_yet, called, untouched, other_counts, other_fails, due_counts, due_fails, syncs_too, syncs_err, syncs_none}
 use Rattle.sector_device.proofs.fail_once.FailOnceSectorDevice.sync.Goals as goal
 
@@ -41,3 +42,12 @@ returns-else-self-clause-fails g c = due_fails c.args.self.now _ _ (c.is_due.ens
 
 pub returns-else-self-clause-passed : goal.returns-else-self-clause-passed
 returns-else-self-clause-passed g c = λ due pass. absurd (cc (c.if-self.false, pass))
+
+pub returns-then-not-is_due-clause-torn : goal.returns-then-not-is_due-clause-torn
+returns-then-not-is_due-clause-torn g c = λ torn h. syncs_too (tearing torn (g.D.SectorDevice.disk c.args.self.now.device)) (tearing torn (g.D.SectorDevice.disk c.sync.new.self)) c.args.self.now.failed c.is_due.new.failed c.sync.result (c.sync.ensures.torn torn h)
+
+pub returns-then-self-clause-torn : goal.returns-then-self-clause-torn
+returns-then-self-clause-torn g c = λ torn h. syncs_too (tearing torn (g.D.SectorDevice.disk c.args.self.now.device)) (tearing torn (g.D.SectorDevice.disk c.sync-then-self.new.self)) c.args.self.now.failed c.is_due.new.failed _ (syncs_err (tearing torn (g.D.SectorDevice.disk c.args.self.now.device)) (tearing torn (g.D.SectorDevice.disk c.sync-then-self.new.self)) c.sync-then-self.result _ (c.sync-then-self.ensures.torn torn h))
+
+pub returns-else-self-clause-torn : goal.returns-else-self-clause-torn
+returns-else-self-clause-torn g c = λ torn h. syncs_too (tearing torn (g.D.SectorDevice.disk c.args.self.now.device)) (tearing torn (g.D.SectorDevice.disk c.args.self.now.device)) c.args.self.now.failed c.is_due.new.failed _ (syncs_none (tearing torn (g.D.SectorDevice.disk c.args.self.now.device)) _ h)

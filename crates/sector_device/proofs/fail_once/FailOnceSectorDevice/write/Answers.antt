@@ -1,5 +1,6 @@
 use Rattle.std.proofs.Common.{refl}
 use Rattle.sector_device.proofs.FailedOnce.{not_yet, called, untouched, other_counts, other_fails, due_counts, due_fails, writes_too, writes_err, writes_none}
+use Rattle.sector_device.proofs.Tearing.{tears_too, tears_none}
 use Rattle.sector_device.proofs.fail_once.FailOnceSectorDevice.write.Goals as goal
 
 pub returns-then-not-is_due-clause-counts : goal.returns-then-not-is_due-clause-counts
@@ -41,3 +42,12 @@ returns-else-self-clause-fails g c = due_fails c.args.self.now _ _ (c.is_due.ens
 
 pub returns-else-self-clause-passed : goal.returns-else-self-clause-passed
 returns-else-self-clause-passed g c = λ due pass. absurd (cc (c.if-self.false, pass))
+
+pub returns-then-not-is_due-clause-torn : goal.returns-then-not-is_due-clause-torn
+returns-then-not-is_due-clause-torn g c = λ torn h. tears_too torn (g.D.SectorDevice.disk c.args.self.now.device) (g.D.SectorDevice.disk c.write.new.self) c.args.self.now.failed c.is_due.new.failed c.args.at c.args.from.now (c.write.ensures.torn torn h)
+
+pub returns-then-self-clause-torn : goal.returns-then-self-clause-torn
+returns-then-self-clause-torn g c = λ torn h. tears_too torn (g.D.SectorDevice.disk c.args.self.now.device) (g.D.SectorDevice.disk c.write-then-self.new.self) c.args.self.now.failed c.is_due.new.failed c.args.at c.args.from.now (c.write-then-self.ensures.torn torn h)
+
+pub returns-else-self-clause-torn : goal.returns-else-self-clause-torn
+returns-else-self-clause-torn g c = λ torn h. tears_too torn (g.D.SectorDevice.disk c.args.self.now.device) (g.D.SectorDevice.disk c.args.self.now.device) c.args.self.now.failed c.is_due.new.failed c.args.at c.args.from.now (tears_none torn (g.D.SectorDevice.disk c.args.self.now.device) c.args.at c.args.from.now)

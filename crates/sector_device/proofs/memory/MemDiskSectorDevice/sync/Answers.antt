@@ -1,6 +1,6 @@
 use Rattle.std.proofs.Common.{ap, ◌∙◌}
 use Rattle.sector_device.specs.Kept.{put_all}
-use Rattle.sector_device.proofs.Kept.{kept_synced, synced_syncs}
+use Rattle.sector_device.proofs.Kept.{kept_synced, synced_syncs, synced_torn}
 use Rattle.sector_device.proofs.memory.MemDiskSectorDevice.sync.Goals as goal
 
 pub invariant_of-self : goal.invariant_of-self
@@ -14,3 +14,6 @@ invariant_of-self c =
 
 pub returns-in-Ok-clause-syncs : goal.returns-in-Ok-clause-syncs
 returns-in-Ok-clause-syncs c = λ honest. synced_syncs c.args.self.now.history c.of-earlier.result c.of-earlier.ensures _ _ tt
+
+pub returns-in-Ok-clause-torn : goal.returns-in-Ok-clause-torn
+returns-in-Ok-clause-torn c = λ torn honest. synced_torn c.args.self.now.history c.of-earlier.result c.of-earlier.ensures _ _ tt torn

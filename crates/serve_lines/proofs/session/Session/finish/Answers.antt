@@ -3,6 +3,7 @@ use Rattle.std.proofs.lemmas.List.{append-nil}
 use Rattle.doc_tree.specs.Doc.{Doc}
 use Rattle.protocol.specs.Lines.{lines_of}
 use Rattle.protocol.specs.declared.reply.Reply.{Reply}
+use Rattle.store_commits.proofs.Modelled.{both_models}
 use Rattle.serve_lines.specs.Progress.{EndsLine, waiting_in}
 use Rattle.serve_lines.specs.LineReplies.{AllSay, EndsBatch}
 use Rattle.serve_lines.specs.declared.options.Options.{Options}
@@ -28,6 +29,6 @@ returns-then-is_empty-clause-ended g c = λ taken options start read replies s.
     record {
       ready = e.0 ++ b.1;
       session = subst (λ (rs : List Doc). IsSession disk options start (lines_of read) rs new) all
-          (session_end disk options g.met.D.SectorDevice.coherent start read old mid new (replies ++ s.ready) e.0 b.1 cs left s.rest s.kept.whole s.reached ends batch);
+          (session_end disk options (both_models g.D.SectorDevice.disk g.met.D.SectorDevice.coherent g.met.D.SectorDevice.torn_coherent) start read old mid new (replies ++ s.ready) e.0 b.1 cs left s.rest s.kept.whole s.reached ends batch);
       says = subst (λ (l : List Reply). AllSay l (e.0 ++ b.1)) (sym b.2) (says_append c.end_line.new.self.ready.items b.0 e.0 b.1 e.1 b.3);
     }

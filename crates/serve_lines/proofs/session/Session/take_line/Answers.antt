@@ -3,6 +3,7 @@ use Rattle.std.proofs.lemmas.List.{append-nil}
 use Rattle.doc_tree.specs.Doc.{Doc}
 use Rattle.protocol.specs.Lines.{line_feed}
 use Rattle.protocol.specs.declared.reply.Reply.{Reply}
+use Rattle.store_commits.proofs.Modelled.{both_models}
 use Rattle.serve_lines.specs.Progress.{EndsLine, HasCut, waiting_in}
 use Rattle.serve_lines.specs.LineReplies.{AllSay}
 use Rattle.serve_lines.specs.declared.options.Options.{Options}
@@ -29,7 +30,7 @@ returns-clause-heard g c = λ options start read replies s.
       ready = e.0;
       reached = subst (λ (t : List ℕ). HasCut disk options start t new (replies ++ e.0) left []) (append_assoc read end (line_feed ∷ []))
           (subst (λ (rs : List Doc). HasCut disk options start ((read ++ end) ++ line_feed ∷ []) new rs left []) all
-          (reaches_line disk options g.met.D.SectorDevice.coherent start (read ++ end) old new (replies ++ s.ready) e.0 cs left line kept.whole
+          (reaches_line disk options (both_models g.D.SectorDevice.disk g.met.D.SectorDevice.coherent g.met.D.SectorDevice.torn_coherent) start (read ++ end) old new (replies ++ s.ready) e.0 cs left line kept.whole
           (reaches_more disk options start read old (replies ++ s.ready) cs s.rest end s.reached) ends));
       kept = c.end_line.ensures.clear;
       goes_by = c.end_line.ensures.options ∙ s.goes_by;

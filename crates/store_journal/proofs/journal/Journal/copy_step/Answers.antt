@@ -1,102 +1,127 @@
-use Rattle.std.proofs.Common.{◌≡◌, inl, inr, ℕ, ◌+◌, ◌-◌, ◌*◌, ◌/◌, List, Ok, length, take, drop, refl, ap, sym, ◌∙◌, subst, arith}
+use Rattle.std.proofs.Common.{◌≡◌, ◌+◌, ◌-◌, ◌*◌, ◌/◌, ◌≤◌, ℕ, List, true, inl, length, take, drop, refl, sym, ap, subst, ◌∙◌, arith}
 use Rattle.std.proofs.lemmas.List.{take_rest}
-use Rattle.sector_device.specs.Charges.{Made, Failed}
-use Rattle.store_journal.specs.Layout.{half_start}
-use Rattle.sector_device.specs.declared.device.DeviceFault.{DeviceFault}
+use Rattle.sector_device.specs.Charges.{Failed, Made}
+use Rattle.sector_device.specs.Sectors.{Over, SectorsHold}
+use Rattle.half_journal.proofs.Views.{begun_at, length_read}
 use Rattle.store_journal.specs.Fields.{view_of}
-use Rattle.store_journal.specs.Writes.{WritesRun}
-use Rattle.store_journal.proofs.Lifts.{broke, kept_of, kept_view, kept_broken, used_is}
-use Rattle.store_journal.proofs.Since.{left_has}
-use Rattle.store_journal.proofs.Steps.{carries_now, copy_since, since_bytes, stepped}
-use Rattle.store_journal.proofs.Views.{begun_at, length_read, length_seen, sound}
+use Rattle.store_journal.specs.Held.{HasRoom, IsFormed, numbers_of}
+use Rattle.store_journal.specs.JournalView.{JournalView, carried_of}
+use Rattle.store_journal.specs.Layout.{capacity_of, half_start}
+use Rattle.store_journal.specs.Writes.{step_count}
+use Rattle.store_journal.proofs.Copying.{stepped}
+use Rattle.store_journal.proofs.Lifts.{formed_by, kept_of, kept_view}
+use Rattle.store_journal.proofs.Seen.{reads_of}
+use Rattle.store_journal.proofs.Steps.{after, broke, sound_after, stays}
 use Rattle.store_journal.proofs.journal.Journal.copy_step.Goals as goal
 
 pub returns-then-self-clause-kept : goal.returns-then-self-clause-kept
-returns-then-self-clause-kept g c = kept_view c.self.inside c.args.self.now c.self.view_is c.self.invariant
+returns-then-self-clause-kept g c = kept_view c.self.inside c.args.self.now g.met.D.SectorDevice.coherent g.met.D.SectorDevice.torn_coherent c.self.view_is c.self.invariant
+
+pub write_copy-requires-clause-formed : goal.write_copy-requires-clause-formed
+write_copy-requires-clause-formed g c = formed_by c.self.inside
+
+pub write_copy-requires-clause-room : goal.write_copy-requires-clause-room
+write_copy-requires-clause-room g c =
+    let j = c.self.inside in
+    let fits : length c.args.target.now ≤ capacity_of (numbers_of j.held).rides (numbers_of j.held).sectors = subst (λ (v : JournalView g.row.D.Denot). length c.args.target.now ≤ capacity_of v.rides v.sectors) (sym c.self.view_is) c.requires.fits in
+    omega (arith, c.min-count.ensures, fits, c.requires.from)
 
 -- ---- written
 
 pub invariant_of-self : goal.invariant_of-self
-invariant_of-self g c = λ honest works.
+invariant_of-self g c =
     let j = c.self.inside in
-    let since = copy_since j c.args.self.now _ (length c.args.target.now) c.args.from c.args.max c.min-count.result c.half_start-start.result c.write_run.new.device c.self.view_is c.self.invariant
-    g.met.D.SectorDevice.coherent c.write_run.ensures.same c.half_start-start.ensures c.min-count.ensures c.requires.fits c.requires.from c.write_run.ensures.any_moment in
-    let old_honest = c.write_run.ensures.same.honest.1 honest in
-    let seen = c.self.invariant old_honest works in
-    sound _ (g.met.D.SectorDevice.coherent c.write_run.new.device honest) (view_of j).bytes
-    record {
-      used = seen.used;
-      carried = left_has (since old_honest works);
-      riding = seen.riding;
-      tail = seen.tail;
-    } honest works
-
-pub returns-in-Ok : goal.returns-in-Ok
-returns-in-Ok g c =
-    let j = c.self.inside in
-    let since = copy_since j c.args.self.now _ (length c.args.target.now) c.args.from c.args.max c.min-count.result c.half_start-start.result c.write_run.new.device c.self.view_is c.self.invariant
-    g.met.D.SectorDevice.coherent c.write_run.ensures.same c.half_start-start.ensures c.min-count.ensures c.requires.fits c.requires.from c.write_run.ensures.any_moment in
     let old = g.D.SectorDevice.disk j.device in
-    let new = g.D.SectorDevice.disk c.write_run.new.device in
-    let count = c.min-count in
-    let start = c.half_start-start in
+    let new_disk = g.D.SectorDevice.disk c.write_copy.new.device in
+    let same = c.write_copy.ensures.same in
+    let formed : IsFormed new_disk.sectors j.held = subst (λ (n : ℕ). IsFormed n j.held) (sym same.size) (formed_by j) in
+    let settled : (numbers_of j.held).settled ≡ true = ap (λ (v : JournalView g.row.D.Denot). v.settled) c.self.view_is ∙ c.requires.settled in
+    let fits : length c.args.target.now ≤ capacity_of (numbers_of j.held).rides (numbers_of j.held).sectors = subst (λ (v : JournalView g.row.D.Denot). length c.args.target.now ≤ capacity_of v.rides v.sectors) (sym c.self.view_is) c.requires.fits in
+    let room : HasRoom j.held c.min-self-inside.result = record { fits = omega (arith, c.min-self-inside.ensures, fits); none = λ is. absurd (cc (is, settled)) } in
+    let new = after {G = g.D.SectorDevice} c.write_copy.new.device j.held j.broken c.min-self-inside.result formed room in
+    sound_after new (carried_of (view_of j)) g.met.D.SectorDevice.coherent g.met.D.SectorDevice.torn_coherent
+    (λ honest works. let was = same.honest.1 honest in c.write_copy.ensures.still (carried_of (view_of j)) was (c.self.invariant was works))
+
+pub returns-in-Ok-clause-ok : goal.returns-in-Ok-clause-ok
+returns-in-Ok-clause-ok g c =
+    let j = c.self.inside in
+    let old = g.D.SectorDevice.disk j.device in
+    let new_disk = g.D.SectorDevice.disk c.write_copy.new.device in
+    let same = c.write_copy.ensures.same in
+    let formed : IsFormed new_disk.sectors j.held = subst (λ (n : ℕ). IsFormed n j.held) (sym same.size) (formed_by j) in
+    let settled : (numbers_of j.held).settled ≡ true = ap (λ (v : JournalView g.row.D.Denot). v.settled) c.self.view_is ∙ c.requires.settled in
+    let fits : length c.args.target.now ≤ capacity_of (numbers_of j.held).rides (numbers_of j.held).sectors = subst (λ (v : JournalView g.row.D.Denot). length c.args.target.now ≤ capacity_of v.rides v.sectors) (sym c.self.view_is) c.requires.fits in
+    let room : HasRoom j.held c.min-self-inside.result = record { fits = omega (arith, c.min-self-inside.ensures, fits); none = λ is. absurd (cc (is, settled)) } in
+    let new = after {G = g.D.SectorDevice} c.write_copy.new.device j.held j.broken c.min-self-inside.result formed room in
     let target = c.args.target.now in
-    let place = half_start j.sectors (1 - j.half) in
+    let start = half_start (numbers_of j.held).rides (numbers_of j.held).sectors (1 - (numbers_of j.held).half) in
     let turned : c.args.from / 512 * 512 ≡ 512 * (c.args.from / 512) = omega arith in
     let rest_is = take_rest target (c.args.from / 512 * 512) ∙ ap (λ (n : ℕ). drop n target) turned in
     rw (← c.self.view_is)
-    record {
-      ok = record {
-        worked = c.if-self.false;
-        stays = record {
-          bytes = λ honest. since_bytes j (since honest c.if-self.false) (c.self.invariant honest c.if-self.false).riding;
-          used = length_seen new.seen _ j.used j.unsettled j.formed.riding_within ∙ sym (used_is j);
-          seq = refl;
-          version = refl;
-          rides = refl;
-          half = refl;
-          opens = refl;
-          sectors = refl;
-          settled = refl;
-        };
-        works = c.if-self.false;
-        answer_is = omega (arith, c.min-self-inside.ensures, count.ensures);
-        size = length_read new.seen _ c.min-self-inside.result;
-        copied = λ honest begins.
-            let rest = drop (512 * (c.args.from / 512)) target in
-            let run = subst (λ (s : ℕ). WritesRun {T = Unit {0}} {E = DeviceFault} old new (s + c.args.from / 512) count.result rest (Ok tt)) start.ensures
-            (subst (λ (l : List ℕ). WritesRun {T = Unit {0}} {E = DeviceFault} old new (start.result + c.args.from / 512) count.result l (Ok tt)) rest_is
-            (record { any_moment = c.write_run.ensures.any_moment honest; seen = c.write_run.ensures.seen honest; written = c.in-Ok.ensures.written honest })) in
-            stepped old.seen new.seen place (c.args.from / 512) count.result c.args.from c.min-self-inside.result target (omega arith) c.requires.from (omega (arith, c.min-self-inside.ensures))
-            (begun_at old.seen place j.copied (take c.args.from target) begins) run.seen run.written;
-        made = subst (Made old new) count.ensures c.in-Ok.ensures.charges;
-      };
-      refused = tt;
-      err = tt;
-      any_moment = λ honest works. carries_now j (since honest works);
-      honest = c.write_run.ensures.same.honest;
-      kept = kept_of _ (invariant_of-self g c);
-    }
+    (record {
+      worked = c.if-self.false;
+      stays = stays j new refl
+          (λ honest. let now = same.honest.0 honest in
+          reads_of new_disk (g.met.D.SectorDevice.coherent c.write_copy.new.device now) (g.met.D.SectorDevice.torn_coherent c.write_copy.new.device now) j.held (carried_of (view_of j)) formed (c.write_copy.ensures.still (carried_of (view_of j)) honest (c.self.invariant honest c.if-self.false)));
+      works = c.if-self.false;
+      answer_is = omega (arith, c.min-self-inside.ensures, c.min-count.ensures);
+      size = length_read new_disk.seen start c.min-self-inside.result;
+      copied = λ honest begins.
+          stepped old.seen new_disk.seen start (c.args.from / 512) c.min-count.result c.args.from c.min-self-inside.result target (omega arith) c.requires.from (omega (arith, c.min-self-inside.ensures))
+          (begun_at old.seen start j.copied (take c.args.from target) begins)
+          (subst (λ (l : List ℕ). Over (start + c.args.from / 512) c.min-count.result l old.seen new_disk.seen) rest_is (c.write_copy.ensures.seen honest))
+          (subst (λ (l : List ℕ). SectorsHold new_disk.seen (start + c.args.from / 512) c.min-count.result l) rest_is (c.in-Ok.ensures.written honest));
+      made = subst (Made old new_disk) c.min-count.ensures c.in-Ok.ensures.charges;
+    })
+
+pub returns-in-Ok-clause-any_moment : goal.returns-in-Ok-clause-any_moment
+returns-in-Ok-clause-any_moment g c =
+    let j = c.self.inside in
+    rw (← c.self.view_is) (λ honest works. c.write_copy.ensures.carries (carried_of (view_of j)) honest (c.self.invariant honest works))
+
+pub returns-in-Ok-clause-kept : goal.returns-in-Ok-clause-kept
+returns-in-Ok-clause-kept g c =
+    let j = c.self.inside in
+    let old = g.D.SectorDevice.disk j.device in
+    let new_disk = g.D.SectorDevice.disk c.write_copy.new.device in
+    let same = c.write_copy.ensures.same in
+    let formed : IsFormed new_disk.sectors j.held = subst (λ (n : ℕ). IsFormed n j.held) (sym same.size) (formed_by j) in
+    let settled : (numbers_of j.held).settled ≡ true = ap (λ (v : JournalView g.row.D.Denot). v.settled) c.self.view_is ∙ c.requires.settled in
+    let fits : length c.args.target.now ≤ capacity_of (numbers_of j.held).rides (numbers_of j.held).sectors = subst (λ (v : JournalView g.row.D.Denot). length c.args.target.now ≤ capacity_of v.rides v.sectors) (sym c.self.view_is) c.requires.fits in
+    let room : HasRoom j.held c.min-self-inside.result = record { fits = omega (arith, c.min-self-inside.ensures, fits); none = λ is. absurd (cc (is, settled)) } in
+    let new = after {G = g.D.SectorDevice} c.write_copy.new.device j.held j.broken c.min-self-inside.result formed room in
+    kept_of new (g.met.D.SectorDevice.coherent c.write_copy.new.device) (g.met.D.SectorDevice.torn_coherent c.write_copy.new.device) (invariant_of-self g c)
 
 -- ---- the device failed
 
-pub returns-in-Err : goal.returns-in-Err
-returns-in-Err g c =
+pub returns-in-Err-clause-err : goal.returns-in-Err-clause-err
+returns-in-Err-clause-err g c =
     let j = c.self.inside in
-    let since = copy_since j c.args.self.now _ (length c.args.target.now) c.args.from c.args.max c.min-count.result c.half_start-start.result c.write_run.new.device c.self.view_is c.self.invariant
-    g.met.D.SectorDevice.coherent c.write_run.ensures.same c.half_start-start.ensures c.min-count.ensures c.requires.fits c.requires.from c.write_run.ensures.any_moment in
-    let disk = g.D.SectorDevice.disk in
-    let same = c.write_run.ensures.same in
+    let old = g.D.SectorDevice.disk j.device in
+    let new_disk = g.D.SectorDevice.disk c.write_copy.new.device in
+    let same = c.write_copy.ensures.same in
+    let formed : IsFormed new_disk.sectors j.held = subst (λ (n : ℕ). IsFormed n j.held) (sym same.size) (formed_by j) in
+    let new = after {G = g.D.SectorDevice} c.write_copy.new.device j.held c.break_off.new.broken j.copied formed j.room in
     rw (← c.self.view_is)
-    record {
-      ok = tt;
-      refused = inr (c.break_off.ensures.number, c.if-self.false);
-      err = inl (
-        c.break_off.ensures.number,
-        broke j c.write_run.new.device _ c.break_off.ensures.broken same.size _ (λ honest. since_bytes j (since honest c.if-self.false) (c.self.invariant honest c.if-self.false).riding)
-            (subst (Failed (disk j.device) (disk c.write_run.new.device)) c.min-count.ensures c.in-Err.ensures.charges),
-      );
-      any_moment = λ honest works. carries_now j (since honest works);
-      honest = same.honest;
-      kept = kept_broken j c.write_run.new.device _ c.break_off.ensures.broken same.size;
-    }
+    (inl (
+      c.break_off.ensures.number,
+      broke j new (step_count (length c.args.target.now) c.args.from c.args.max) c.break_off.ensures.broken refl
+          (λ honest. let now = same.honest.0 honest in
+          reads_of new_disk (g.met.D.SectorDevice.coherent c.write_copy.new.device now) (g.met.D.SectorDevice.torn_coherent c.write_copy.new.device now) j.held (carried_of (view_of j)) formed (c.write_copy.ensures.still (carried_of (view_of j)) honest (c.self.invariant honest c.if-self.false)))
+          (subst (Failed old new_disk) c.min-count.ensures c.in-Err.ensures.charges),
+    ))
+
+pub returns-in-Err-clause-any_moment : goal.returns-in-Err-clause-any_moment
+returns-in-Err-clause-any_moment g c =
+    let j = c.self.inside in
+    rw (← c.self.view_is) (λ honest works. c.write_copy.ensures.carries (carried_of (view_of j)) honest (c.self.invariant honest works))
+
+pub returns-in-Err-clause-kept : goal.returns-in-Err-clause-kept
+returns-in-Err-clause-kept g c =
+    let j = c.self.inside in
+    let old = g.D.SectorDevice.disk j.device in
+    let new_disk = g.D.SectorDevice.disk c.write_copy.new.device in
+    let same = c.write_copy.ensures.same in
+    let formed : IsFormed new_disk.sectors j.held = subst (λ (n : ℕ). IsFormed n j.held) (sym same.size) (formed_by j) in
+    let new = after {G = g.D.SectorDevice} c.write_copy.new.device j.held c.break_off.new.broken j.copied formed j.room in
+    kept_of new (g.met.D.SectorDevice.coherent c.write_copy.new.device) (g.met.D.SectorDevice.torn_coherent c.write_copy.new.device) (λ honest works. absurd (cc (works, c.break_off.ensures.broken)))

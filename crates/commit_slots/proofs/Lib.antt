@@ -1,0 +1,6 @@
+mod Built
+mod Filled
+pub mod Said
+mod Tails
+mod Four
+pub mod Mixed

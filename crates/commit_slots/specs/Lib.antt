@@ -1,0 +1,4 @@
+pub mod Sealed
+pub mod Slots
+pub mod Fresh
+pub mod Finding

@@ -1,0 +1,13 @@
+pub mod Tears
+pub mod States
+pub mod Pairs
+pub mod Puts
+pub mod Commits
+pub mod Finds
+pub mod Asides
+pub mod Loads
+pub mod Renewals
+pub mod Formats
+pub mod Firsts
+pub mod Converts
+pub mod Damages

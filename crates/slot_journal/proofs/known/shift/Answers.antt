@@ -1,0 +1,8 @@
+use Rattle.std.proofs.Common.{◌≡◌, ◌+◌, ◌-◌, ℕ, [], ◌++◌, length, take, drop, ap, ◌∙◌, arith, length-drop}
+use Rattle.std.proofs.lemmas.List.{drop-take}
+use Rattle.std.proofs.lemmas.Slice.{put_mid-paste}
+use Rattle.slot_journal.proofs.Moved.{moved_front}
+use Rattle.slot_journal.proofs.known.shift.Goals as goal
+
+pub returns-clause-front : goal.returns-clause-front
+returns-clause-front c = moved_front c.args.from c.args.to c.args.buffer.now c.copy_within.new.self c.requires.order c.requires.within c.copy_within.ensures.after
