@@ -77,7 +77,7 @@ static void formats(const char *file)
     for (uint64_t format = 2; format <= 3; format++) {
         const jpstore_format_options options = {.format = format};
         remove(file);
-        CHECK(jpstore_format(file, 64, &options, NULL, NULL) == JPSTORE_OK);
+        CHECK(jpstore_format(file, 512, &options, NULL, NULL) == JPSTORE_OK);
         CHECK(jpstore_open(file, NULL, &store, NULL) == JPSTORE_OK);
         CHECK(answers(store, CREATE, "{\"ok\":true,\"seq\":1}\n"));
         jpstore_free(store);
@@ -105,7 +105,7 @@ static int refusal_in(const char *file, uint64_t format, const char *schema)
     jpstore *store;
     jpstore_cause cause = {0};
     remove(file);
-    CHECK(jpstore_format(file, 64, &(jpstore_format_options){.format = format}, NULL, NULL) == JPSTORE_OK);
+    CHECK(jpstore_format(file, 512, &(jpstore_format_options){.format = format}, NULL, NULL) == JPSTORE_OK);
     CHECK(jpstore_open(file, NULL, &store, NULL) == JPSTORE_OK);
     const int fault = jpstore_create(store, "d", "\"a\"", schema, NULL, &cause);
     CHECK(fault == (cause.refusal ? JPSTORE_REFUSED : JPSTORE_OK));
@@ -124,8 +124,11 @@ static void profiles(const char *file)
     CHECK(refusal_in(file, 3, long_pattern) == JPSTORE_REFUSAL_SCHEMA_SIZE);
     CHECK(refusal_in(file, 3, "{\"pattern\":\"((a{100}){100}){100}\"}") == JPSTORE_REFUSAL_MEMORY);
     CHECK(refusal_in(file, 3, "{\"pattern\":\"b\"}") == JPSTORE_REFUSAL_INVALID);
-    CHECK(refusal_in(file, 3, "{\"patternProperties\":{}}") == JPSTORE_REFUSAL_SCHEMA_KEYWORD);
+    CHECK(refusal_in(file, 2, "{\"patternProperties\":{}}") == JPSTORE_REFUSAL_SCHEMA_KEYWORD);
+    CHECK(refusal_in(file, 3, "{\"patternProperties\":{\"(\":{}}}") == JPSTORE_REFUSAL_SCHEMA_FORM);
+    CHECK(refusal_in(file, 3, "{\"unevaluatedItems\":true}") == JPSTORE_REFUSAL_SCHEMA_KEYWORD);
     CHECK(refusal_in(file, 3, "{\"pattern\":\"^a\",\"dependentSchemas\":{\"b\":false}}") == 0);
+    CHECK(refusal_in(file, 3, "{\"patternProperties\":{\"^a\":false}}") == 0);
     jpstore_cause cause = {0};
     char copy[4096];
     snprintf(copy, sizeof copy, "%s-copy", file);
@@ -140,7 +143,7 @@ static mode_t made_with(const char *file, uint64_t mode, mode_t mask)
     struct stat made = {0};
     const mode_t before = umask(mask);
     remove(file);
-    CHECK(jpstore_format(file, 64, &(jpstore_format_options){.format = 3, .mode = mode, .sparse = 1}, NULL, NULL) == JPSTORE_OK);
+    CHECK(jpstore_format(file, 512, &(jpstore_format_options){.format = 3, .mode = mode, .sparse = 1}, NULL, NULL) == JPSTORE_OK);
     umask(before);
     CHECK(stat(file, &made) == 0);
     return made.st_mode & 07777;

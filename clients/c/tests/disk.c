@@ -70,7 +70,7 @@ static void goes_on(const char *file, uint64_t format, struct trouble *calls, st
     jpstore *store;
     remove(file);
     *calls = trouble;
-    CHECK(jpstore_format(file, 64, &(jpstore_format_options){.format = format}, NULL, NULL) == JPSTORE_OK);
+    CHECK(jpstore_format(file, 512, &(jpstore_format_options){.format = format}, NULL, NULL) == JPSTORE_OK);
     *calls = trouble;
     CHECK(jpstore_open(file, NULL, &store, NULL) == JPSTORE_OK);
     *calls = trouble;
@@ -92,7 +92,7 @@ static void breaks(const char *file, uint64_t format, struct trouble *calls)
     const char *replies;
     size_t length;
     remove(file);
-    CHECK(jpstore_format(file, 64, &(jpstore_format_options){.format = format}, NULL, NULL) == JPSTORE_OK);
+    CHECK(jpstore_format(file, 512, &(jpstore_format_options){.format = format}, NULL, NULL) == JPSTORE_OK);
     CHECK(jpstore_open(file, NULL, &store, NULL) == JPSTORE_OK && jpstore_system_error(store) == 0);
     CHECK(answers(store, CREATE, "{\"ok\":true,\"seq\":1}\n"));
     *calls = FAILED;

@@ -61,7 +61,8 @@ def _validator() -> Any:
         from jsonschema import Draft202012Validator, validators
     except ImportError:
         raise JpstoreError(_HOW_TO_GET) from None
-    return validators.extend(Draft202012Validator, {"pattern": _pattern})
+    return validators.extend(Draft202012Validator, {
+        "pattern": _pattern, "patternProperties": _by_pattern, "additionalProperties": _others})
 
 
 def _pattern(validator: Any, pattern: Any, doc: Any, _schema: Any) -> Iterator[Any]:
@@ -69,6 +70,29 @@ def _pattern(validator: Any, pattern: Any, doc: Any, _schema: Any) -> Iterator[A
     # What can't be said here is left to the store.
     if isinstance(doc, str) and finds(pattern, doc) is False:
         yield ValidationError(f"{doc!r} does not match {pattern!r}")
+
+
+def _by_pattern(validator: Any, patterns: Any, doc: Any, _schema: Any) -> Iterator[Any]:
+    for pattern, schema in patterns.items() if isinstance(doc, dict) else ():
+        for name, value in doc.items():
+            if finds(pattern, name):
+                yield from validator.descend(value, schema, path=name, schema_path=pattern)
+
+
+def _others(validator: Any, others: Any, doc: Any, schema: Any) -> Iterator[Any]:
+    from jsonschema import Draft202012Validator, ValidationError
+    patterns, known = schema.get("patternProperties"), schema.get("properties", {})
+    if not patterns:
+        yield from Draft202012Validator.VALIDATORS["additionalProperties"](validator, others, doc, schema)
+        return
+    names = [name for name in (doc if isinstance(doc, dict) else ())
+             if name not in known and all(finds(pattern, name) is False for pattern in patterns)]
+    if others is False and names:
+        told = ", ".join(map(repr, names)), "does" if len(names) == 1 else "do", ", ".join(map(repr, patterns))
+        yield ValidationError(f"{told[0]} {told[1]} not match any of the patterns {told[2]}")
+    elif others is not False:
+        for name in names:
+            yield from validator.descend(doc[name], others, path=name)
 
 
 def faults_of(command: Dict[str, Any], read: _Read, most: Optional[int] = None,

@@ -30,7 +30,7 @@ class Larger:
         # A renaming would replace a symbolic link, and not what it leads to.
         self._file, self._sectors = os.path.realpath(file), sectors
         self._program = find_program(program)
-        self._format = 0
+        self._format, self._head = 0, SECTOR
         with accessing(self._file):
             self._old = open(self._file, "r+b")
         try:
@@ -51,7 +51,7 @@ class Larger:
         # A buffer of its own: one that is left from an earlier time has what the file no longer says.
         with accessing(self._file), open(os.dup(self._old.fileno()), "rb") as old:
             found = committed_in(old)
-            self._format = found.version
+            self._format, self._head = found.version, len(found.head)
             with contextlib.suppress(FileNotFoundError):
                 os.unlink(self._base)
             with create_private(self._base) as made:
@@ -84,7 +84,7 @@ class Larger:
             raise JpstoreError(f"the folder of {self._file} can't be synced: {error.strerror}") from None
         with contextlib.suppress(OSError):
             self._old.seek(0)
-            self._old.write(bytes(SECTOR))
+            self._old.write(bytes(self._head))
             self._old.flush()
 
     def remove(self) -> None:
@@ -139,11 +139,11 @@ def _remove_folder(path: str) -> None:
 
 
 def _fill(made: IO[bytes], old: BinaryIO, found: Committed) -> None:
-    """Writes the commit sector and the committed bytes to where they are in the other file."""
+    """Writes the commit sector, or the slots, and the committed bytes to where they are in the other file."""
     made.truncate(found.sectors * SECTOR)
-    made.write(found.sector)
+    made.write(found.head)
     made.seek(found.begin)
-    for piece in found.pieces(old, found.length - len(found.riding)):
+    for piece in found.pieces(old, found.settled):
         made.write(piece)
 
 

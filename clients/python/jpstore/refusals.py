@@ -4,7 +4,7 @@
 """
 import json
 from dataclasses import dataclass
-from typing import Any, Dict, Mapping, Optional
+from typing import Any, Dict, Iterable, Mapping, Optional
 
 __all__ = [
     "ADVICE", "COMPLAINTS", "DIALECT", "GONE", "NAMES", "NO_MAJORITY", "REFUSALS", "Refusal", "WATCHING",
@@ -87,12 +87,13 @@ _ROWS = [
             "the path is not a JSON Pointer",
             "begin it with `/`, or leave it empty for the whole document; write `~` as `~0` and `/` in a name as `~1`"),
     Refusal(40, "schema-form",
-            "a schema is neither a boolean nor an object, a keyword's value has a wrong form, or a `pattern` is none",
-            "compare the schema with JSON Schema Validation 2020-12, section 6, and a `pattern` with "
+            "a schema is neither a boolean nor an object, a keyword's value has a wrong form, or a pattern is none",
+            "compare the schema with JSON Schema Validation 2020-12, section 6, and a pattern with "
             "`docs/use/MODELLING.md`"),
     Refusal(41, "schema-keyword",
-            "the schema has a keyword that is not supported (in format 2 also `pattern` and `dependentSchemas`), has "
-            "`$id` or `$schema` below its root, or names another dialect",
+            "the schema has a keyword that is not supported (in format 2 also `pattern`, "
+            "`patternProperties` and `dependentSchemas`), has `$id` or `$schema` below its root, or names another "
+            "dialect",
             "leave the keyword out, or use supported ones; `jpstore upgrade FILE` makes format 3"),
     Refusal(42, "schema-ref",
             "a `$ref` is neither `#` nor `#/$defs/NAME` with a NAME that the root's `$defs` has",
@@ -152,8 +153,8 @@ _ROWS = [
             "the device holds a store already; only programs in Rattle are told this, by `Store::format`",
             "format another device"),
     Refusal(71, "small",
-            "the device has under 3 sectors or over 4,294,967,296; only programs in Rattle are told this, by "
-            "`Store::format`",
+            "`format` for format 3 was given under 160 sectors, or a program in Rattle, by `Store::format`, a device "
+            "with under 3 or over 4,294,967,296",
             "choose another number"),
     Refusal(72, "not-a-store",
             "the file does not begin as a store does, or has too few or too many sectors for any store; said when a "
@@ -165,7 +166,8 @@ _ROWS = [
             "restore it from a copy or a dump; `docs/inside/FORMAT.md` tells how to read it by hand"),
     Refusal(74, "no-room",
             "the documents do not fit in a half: those of a store in the file that `copy` would make, or those of a "
-            "file of format 1 in format 2, said when it is opened; nothing was written",
+            "file of format 1 in format 2, said when it is opened. Or `upgrade` lacks room for both formats. No "
+            "document was written",
             "copy it to a larger file; one of format 1: dump it with the earlier program that wrote it, make a larger "
             "store by `format`, and load the dump"),
     Refusal(76, "newer-schema",
@@ -234,13 +236,21 @@ def advice_for(number: int, command: Mapping[str, Any], operation: Optional[int]
         return "" if adds or refused is None else "read the document, to see what is there"
     if number == _PATCH_ROOT:
         return "delete the document instead: by `store.delete(name)`, `rm STORE NAME`, or `DELETE` over HTTP"
+    from .faults.schema import FORMAT_3_ONLY
     schema = command.get("schema")
     if number == _SCHEMA_KEYWORD and isinstance(schema, dict) and schema.get("$schema") not in (None, DIALECT):
         return "`jpstore-cli schema adapt FILE` makes a schema of it that the store reads"
-    if number == _MEMORY and '"pattern"' in json.dumps(schema, default=str):
+    if number == _SCHEMA_KEYWORD and not _has_some(schema, FORMAT_3_ONLY):
+        return "leave the keyword out, or use supported ones"
+    if number == _MEMORY and _has_some(schema, ("pattern", "patternProperties")):
         return ("send the line again; if it is the schema's patterns, bound lengths by `maxLength` in place of large "
                 "counts, and name classes of fewer characters than `\\p{L}` has")
     return ""
+
+
+def _has_some(schema: Any, words: Iterable[str]) -> bool:
+    text = json.dumps(schema, default=str)
+    return any(f'"{word}": ' in text for word in words)
 
 
 def table() -> str:

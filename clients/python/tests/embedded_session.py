@@ -17,7 +17,7 @@ import threading
 import time
 import traceback
 
-from forking import InProcess, calls_of, close_beside, try_call
+from forking import InProcess, calls_of, close_beside, only_here, try_call
 from jpstore import (
     Broken, Conflict, Ended, Invalid, JpstoreError, NotFound, Outdated, Refused, Store, TooLarge, Unsendable,
     check_file, copy_file, create, delete, format_file, patch, set_schema, transaction, upgrade_file,
@@ -223,12 +223,12 @@ def test_files_as_by_the_program(folder):
     for file in files:
         if os.path.exists(file):
             os.remove(file)
-    assert format_embedded(files[0], 64) == format_file(files[2], 64)
+    assert format_embedded(files[0], 512) == format_file(files[2], 512)
     for file in (files[0], files[2]):
         with Store(file, embedded=True) as store:
             store.create("d", {"n": 1})
             store.patch("d", [{"op": "replace", "path": "/n", "value": 2}])
-    assert copy_embedded(files[0], files[1], 128) == copy_file(files[2], files[3], 128)
+    assert copy_embedded(files[0], files[1], 1024) == copy_file(files[2], files[3], 1024)
     for to, before in ((3, 2), (3, 3), (2, 3)):
         assert upgrade_embedded(files[0], to) == upgrade_file(files[2], to) == before
     assert upgrade_embedded(files[1]) == upgrade_file(files[3]) == 2
@@ -324,8 +324,8 @@ def test_a_child(folder):
         store.create("d", 1)
         child = os.fork()
         if child == 0:
-            calls = (lambda: store.get("d"), store.list)
-            os._exit(0 if all(raised(JpstoreError, call) for call in calls) else 1)
+            with only_here():
+                assert all(raised(JpstoreError, call) for call in (lambda: store.get("d"), store.list))
         assert os.waitpid(child, 0)[1] == 0
         assert store.get("d") == 1
 
@@ -347,8 +347,8 @@ def test_a_child_gives_the_file_back(folder):
             thread.start()
         child = os.fork()
         if child == 0:
-            time.sleep(30)
-            os._exit(0)
+            with only_here():
+                time.sleep(30)
         stop.set()
         if busy:
             thread.join()

@@ -157,6 +157,21 @@ class Async:
         return asyncio.run_coroutine_threadsafe(awaited(), self._loop).result(2 * PATIENCE)
 
 
+@contextlib.contextmanager
+def only_here(patience=PATIENCE):
+    """What a child of `os.fork` does.
+
+    The child ends with that, whatever is raised: else it would go on with the tests, and fork too.
+    """
+    try:
+        signal.signal(signal.SIGALRM, signal.SIG_DFL)
+        signal.alarm(patience)
+        yield
+        os._exit(0)
+    finally:
+        os._exit(1)
+
+
 class Child:
     """A child that uses its parent's store, tells what came of it, and then is there until it is ended."""
 
@@ -164,13 +179,11 @@ class Child:
         told, tell = os.pipe()
         self._number = os.fork()
         if self._number == 0:
-            # A child that hangs is killed by this.
-            signal.signal(signal.SIGALRM, signal.SIG_DFL)
-            signal.alarm(PATIENCE)
-            os.write(tell, json.dumps(outcome_of(use)).encode())
-            os.close(tell)
-            signal.alarm(10 * PATIENCE)
-            signal.pause()
+            with only_here():
+                os.write(tell, json.dumps(outcome_of(use)).encode())
+                os.close(tell)
+                signal.alarm(10 * PATIENCE)
+                signal.pause()
         os.close(tell)
         self._told = told
 

@@ -108,14 +108,15 @@ pub(crate) const ROWS: [(u16, &str, &str); 43] = [
     (
         40,
         "a schema is neither a boolean nor an object, a keyword's value has a wrong form, or a \
-         `pattern` is none",
-        "compare the schema with JSON Schema Validation 2020-12, section 6, and a `pattern` \
+         pattern is none",
+        "compare the schema with JSON Schema Validation 2020-12, section 6, and a pattern \
          with `docs/use/MODELLING.md`",
     ),
     (
         41,
-        "the schema has a keyword that is not supported (in format 2 also `pattern` and \
-         `dependentSchemas`), has `$id` or `$schema` below its root, or names another dialect",
+        "the schema has a keyword that is not supported (in format 2 also `pattern`, \
+         `patternProperties` and `dependentSchemas`), has `$id` or `$schema` below its root, or \
+         names another dialect",
         "leave the keyword out, or use supported ones; `jpstore upgrade FILE` makes format 3",
     ),
     (
@@ -214,8 +215,8 @@ pub(crate) const ROWS: [(u16, &str, &str); 43] = [
     ),
     (
         71,
-        "the device has under 3 sectors or over 4,294,967,296; only programs in Rattle are told \
-         this, by `Store::format`",
+        "`format` for format 3 was given under 160 sectors, or a program in Rattle, by \
+         `Store::format`, a device with under 3 or over 4,294,967,296",
         "choose another number",
     ),
     (
@@ -233,8 +234,8 @@ pub(crate) const ROWS: [(u16, &str, &str); 43] = [
     (
         74,
         "the documents do not fit in a half: those of a store in the file that `copy` would \
-         make, or those of a file of format 1 in format 2, said when it is opened; nothing was \
-         written",
+         make, or those of a file of format 1 in format 2, said when it is opened. Or `upgrade` lacks \
+         room for both formats. No document was written",
         "copy it to a larger file; one of format 1: dump it with the earlier program that wrote \
          it, make a larger store by `format`, and load the dump",
     ),

@@ -106,7 +106,7 @@ pub enum Reason {
     NoValue = 37,
     /// The place is no JSON Pointer.
     Pointer = 38,
-    /// A schema is neither a boolean nor an object, a keyword has a wrong form, or a `pattern` is none.
+    /// A schema is neither a boolean nor an object, a keyword has a wrong form, or a pattern is none.
     SchemaForm = 40,
     /// A keyword of the schema isn't supported.
     SchemaKeyword = 41,

@@ -201,22 +201,28 @@ fn schemas_of_format_3() {
         (3, r#"{"pattern":"("}"#, Reason::SchemaForm),
         (3, &long, Reason::SchemaSize),
         (3, r#"{"pattern":"b"}"#, Reason::Invalid),
-        (3, r#"{"patternProperties":{}}"#, Reason::SchemaKeyword),
+        (2, r#"{"patternProperties":{}}"#, Reason::SchemaKeyword),
+        (
+            3,
+            r#"{"patternProperties":{"(":{}}}"#,
+            Reason::SchemaForm,
+        ),
+        (3, r#"{"unevaluatedItems":true}"#, Reason::SchemaKeyword),
     ];
     for (format, schema, reason) in rows {
         let file = File::none("profiles");
         FormatOptions::new()
             .format(format)
-            .make(&file.0, 64)
+            .make(&file.0, 512)
             .unwrap();
         let mut store = Store::open(&file.0).unwrap();
         let refused = store.create("d", "\"a\"", schema).unwrap_err();
         assert_eq!(refusal(refused), reason.number(), "{schema}");
     }
     let (file, new) = (File::none("newer"), File::none("newer-copy"));
-    FormatOptions::new().format(3).make(&file.0, 64).unwrap();
+    FormatOptions::new().format(3).make(&file.0, 512).unwrap();
     let mut store = Store::open(&file.0).unwrap();
-    let schema = r#"{"dependentSchemas":{"b":false},"pattern":"^a"}"#;
+    let schema = r#"{"pattern":"^a","patternProperties":{"b":false}}"#;
     assert_eq!(store.create("d", "\"a\"", schema), Ok(1));
     store.close().unwrap();
     assert_eq!(

@@ -42,8 +42,8 @@ pub const REFUSALS: &[Refusal] = &[
     row(36, "patch-long", 413, "there are over 4,096 operations, their text has over 2,097,152 bytes, or it nests deeper than 66 levels", "divide the patch into several"),
     row(37, "no-value", 404, "the document has no value at this place", "read the value at a shorter path, to see what is there"),
     row(38, "pointer", 400, "the path is not a JSON Pointer", "begin it with `/`, or leave it empty for the whole document; write `~` as `~0` and `/` in a name as `~1`"),
-    row(40, "schema-form", 422, "a schema is neither a boolean nor an object, a keyword's value has a wrong form, or a `pattern` is none", "compare the schema with JSON Schema Validation 2020-12, section 6, and a `pattern` with `docs/use/MODELLING.md`"),
-    row(41, "schema-keyword", 422, "the schema has a keyword that is not supported (in format 2 also `pattern` and `dependentSchemas`), has `$id` or `$schema` below its root, or names another dialect", "leave the keyword out, or use supported ones; `jpstore upgrade FILE` makes format 3"),
+    row(40, "schema-form", 422, "a schema is neither a boolean nor an object, a keyword's value has a wrong form, or a pattern is none", "compare the schema with JSON Schema Validation 2020-12, section 6, and a pattern with `docs/use/MODELLING.md`"),
+    row(41, "schema-keyword", 422, "the schema has a keyword that is not supported (in format 2 also `pattern`, `patternProperties` and `dependentSchemas`), has `$id` or `$schema` below its root, or names another dialect", "leave the keyword out, or use supported ones; `jpstore upgrade FILE` makes format 3"),
     row(42, "schema-ref", 422, "a `$ref` is neither `#` nor `#/$defs/NAME` with a NAME that the root's `$defs` has", "define the schema under `$defs` of the root"),
     row(43, "schema-loop", 422, "by `$ref`, `allOf`, `anyOf`, `oneOf`, `not`, `if`, `then`, `else` and `dependentSchemas` a schema leads back to itself without a step into the value", "put `properties` or `items` between"),
     row(44, "schema-size", 413, "the schema's compact text has over 262,144 bytes, it nests deeper than 64 levels, or it has over 64 patterns, or one of over 4,096 bytes", "make the schema smaller, for instance by `$defs` and `$ref`"),
@@ -60,10 +60,10 @@ pub const REFUSALS: &[Refusal] = &[
     row(64, "seq-end", 507, "the count of accepted changes is at its end (2^64-1)", "go on reading; for more changes `dump` it, and `load` the dump into a new store"),
     row(65, "transaction-large", 413, "what a transaction copies, and the documents that it puts under other schemas, have over 33,554,432 bytes of text", "divide it"),
     row(70, "already-a-store", 500, "the device holds a store already; only programs in Rattle are told this, by `Store::format`", "format another device"),
-    row(71, "small", 500, "the device has under 3 sectors or over 4,294,967,296; only programs in Rattle are told this, by `Store::format`", "choose another number"),
+    row(71, "small", 500, "`format` for format 3 was given under 160 sectors, or a program in Rattle, by `Store::format`, a device with under 3 or over 4,294,967,296", "choose another number"),
     row(72, "not-a-store", 500, "the file does not begin as a store does, or has too few or too many sectors for any store; said when a store is opened", "check that it is the right file"),
     row(73, "damaged", 500, "the file begins as a store, but what follows is not one, or was not copied whole; said when a store is opened", "restore it from a copy or a dump; `docs/inside/FORMAT.md` tells how to read it by hand"),
-    row(74, "no-room", 500, "the documents do not fit in a half: those of a store in the file that `copy` would make, or those of a file of format 1 in format 2, said when it is opened; nothing was written", "copy it to a larger file; one of format 1: dump it with the earlier program that wrote it, make a larger store by `format`, and load the dump"),
+    row(74, "no-room", 500, "the documents do not fit in a half: those of a store in the file that `copy` would make, or those of a file of format 1 in format 2, said when it is opened. Or `upgrade` lacks room for both formats. No document was written", "copy it to a larger file; one of format 1: dump it with the earlier program that wrote it, make a larger store by `format`, and load the dump"),
     row(76, "newer-schema", 500, "a schema has a keyword that format 2 lacks; said by `upgrade` and `copy`", "change the schema, or stay in format 3"),
 ];
 

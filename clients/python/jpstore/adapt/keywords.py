@@ -76,10 +76,12 @@ def _required(work: "Work", at: At, schema: Dict[str, Any], out: _Out) -> None:
     value = schema["required"]
     if isinstance(value, bool):
         return
-    if not isinstance(value, list):
-        out["required"] = value
-        return
-    out["required"] = list(dict.fromkeys([*out.get("required", []), *value]))
+    out["required"] = _once([*out.get("required", []), *value]) if isinstance(value, list) else value
+
+
+def _once(names: List[Any]) -> List[Any]:
+    """The names without those that came before; a list with something else is kept, and told."""
+    return list(dict.fromkeys(names)) if all(isinstance(name, str) for name in names) else names
 
 
 def _definitions(work: "Work", at: At, schema: Dict[str, Any], out: _Out) -> None:
@@ -167,8 +169,7 @@ def _dependencies(work: "Work", at: At, schema: Dict[str, Any], out: _Out) -> No
     value = schema["dependencies"]
     for name, part in value.items() if isinstance(value, dict) else ():
         if isinstance(part, (list, str)):
-            names = [part] if isinstance(part, str) else list(dict.fromkeys(part))
-            out.setdefault("dependentRequired", {})[name] = names
+            out.setdefault("dependentRequired", {})[name] = [part] if isinstance(part, str) else _once(part)
         else:
             _depend(work, at.below("dependencies", name), name, part, out)
 
@@ -312,6 +313,16 @@ def _pattern(work: "Work", at: At, schema: Dict[str, Any], out: _Out) -> None:
 
 def _patterned(work: "Work", at: At, schema: Dict[str, Any], out: _Out) -> None:
     _named("patternProperties")(work, at, schema, out)
+    parts = out["patternProperties"]
+    if work.profile == 2 or not isinstance(parts, dict):
+        return
+    made: Dict[str, Any] = {}
+    out["patternProperties"] = made
+    for pattern, part in parts.items():
+        way = ("patternProperties", pattern)
+        name = work.rewritten(at.below(*way), pattern, out, way)
+        # Two may be written alike now.
+        made[name] = {"allOf": [made[name], part]} if name in made else part
 
 
 def _additional(work: "Work", at: At, schema: Dict[str, Any], out: _Out) -> None:

@@ -8,6 +8,7 @@ from urllib.parse import unquote, urlsplit
 
 from ..adapt import Adapted, Schema
 from ..errors import JpstoreError, accessing
+from ..faults.schema import FORMAT_3_ONLY
 from ..wire.texts import value_of_text
 from .display import printable
 from .opening import Row, value_in
@@ -29,6 +30,8 @@ def _adapt(words: argparse.Namespace) -> Optional[int]:
             print("changed: " + printable(str(change)), file=sys.stderr)
         for fault in adapted.left:
             print("left: " + printable(str(fault)), file=sys.stderr)
+        if words.profile == 2 and any(fault.place.rpartition("/")[2] in FORMAT_3_ONLY for fault in adapted.left):
+            print("for a store of format 3: --profile 3", file=sys.stderr)
     return 0 if adapted.is_read else _NOT_READ
 
 

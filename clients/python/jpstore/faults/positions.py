@@ -10,7 +10,7 @@ _SEVERAL = ("prefixItems", "allOf", "anyOf", "oneOf")
 _NAMED = ("properties", "$defs")
 
 # What profile 3 has beside them.
-_NAMED_IN_3 = ("dependentSchemas",)
+_NAMED_IN_3 = ("patternProperties", "dependentSchemas")
 
 #: The keywords by which a schema leads to another for the same value.
 IN_PLACE = ("allOf", "anyOf", "oneOf", "not", "if", "then", "else", "dependentSchemas")

@@ -18,8 +18,6 @@ __all__ = ["DIALECT", "FORMAT_3_ONLY", "NOT_SUPPORTED", "SchemaFault", "faults_o
 
 #: The keywords of 2020-12 that are refused (41) in each format, each with what is nearest to it.
 NOT_SUPPORTED = {
-    "patternProperties": "`properties` has the members whose names are known, `additionalProperties` all others, and "
-                         "`propertyNames` bounds the names, in format 3 by a `pattern` too",
     "unevaluatedProperties": "`additionalProperties` beside all `properties` says the same for one schema",
     "unevaluatedItems": "`items` after `prefixItems` says the same for one schema",
     "$anchor": "`$defs` of the root has a schema by name, for `#/$defs/NAME`",
@@ -31,6 +29,8 @@ NOT_SUPPORTED = {
 #: Those that are refused (41) in a store of format 2, and read in one of format 3, each with what is nearest to it.
 FORMAT_3_ONLY = {
     "pattern": "`enum` or `const` list the texts, and `minLength` and `maxLength` bound their lengths",
+    "patternProperties": "`properties` has the members whose names are known, `additionalProperties` all others, and "
+                         "`propertyNames` bounds the names",
     "dependentSchemas": "`allOf` with `if`: {\"required\": [NAME]} and `then` says the same",
 }
 
@@ -108,7 +108,8 @@ _FORMS: Dict[str, _Form] = {
     "prefixItems": _SCHEMAS, "allOf": _SCHEMAS, "anyOf": _SCHEMAS, "oneOf": _SCHEMAS,
     "properties": _OBJECT, "$defs": _OBJECT, "$ref": (_is_text, "a text"),
     # Those of profile 3, which profile 2 refuses whatever they have.
-    "pattern": (_is_text, "a text"), "dependentSchemas": _OBJECT,
+    "pattern": (_is_text, "a text"), "patternProperties": (_OBJECT[0], "an object of schemas by patterns"),
+    "dependentSchemas": _OBJECT,
 }
 
 # What is wrong with a form that earlier drafts had, by keyword and type of the value.
@@ -132,9 +133,9 @@ def faults_of_schema(schema: Any, profile: int = 2) -> Iterator[SchemaFault]:
         if isinstance(part, dict):
             for word, value in part.items():
                 yield from _of_member(references, profile, trail, word, value)
-            if profile > 2 and isinstance(part.get("pattern"), str):
+            for place, pattern in _patterns_in(trail, part) if profile > 2 else ():
                 patterns += 1
-                yield from _of_pattern((trail, "pattern"), part["pattern"], patterns)
+                yield from _of_pattern(place, pattern, patterns)
         elif not isinstance(part, bool):
             yield SchemaFault(40, pointer_of(trail), _no_schema(trail, part))
     loop = references.loop()
@@ -160,6 +161,15 @@ def _is_long(schema: Any) -> bool:
         return False
 
 
+def _patterns_in(trail: Trail, part: Dict[Any, Any]) -> Iterator[Tuple[Trail, str]]:
+    """The patterns that a schema itself has, each with its place: `pattern`, and the names of `patternProperties`."""
+    for word, value in part.items():
+        if word == "pattern" and isinstance(value, str):
+            yield (trail, word), value
+        elif word == "patternProperties" and isinstance(value, dict):
+            yield from ((((trail, word), name), name) for name in value if isinstance(name, str))
+
+
 def _of_pattern(trail: Trail, pattern: str, count: int) -> Iterator[SchemaFault]:
     """What is wrong with a pattern, with which the schema has so many."""
     place = pointer_of(trail)
@@ -181,11 +191,11 @@ def _of_pattern(trail: Trail, pattern: str, count: int) -> Iterator[SchemaFault]
 def unsure_of_schema(schema: Any) -> str:
     """The first pattern with a name that only the store's tables of Unicode have, or have not."""
     for trail, part in subschemas(schema, 3):
-        pattern = part.get("pattern") if isinstance(part, dict) else None
-        name = script_in(pattern) if isinstance(pattern, str) else None
-        if name is not None:
-            place = place_in(pointer_of((trail, "pattern")))
-            return f"at {place}: it is no pattern if Unicode has no property or script `{name}`"
+        for place, pattern in _patterns_in(trail, part) if isinstance(part, dict) else ():
+            name = script_in(pattern)
+            if name is not None:
+                told = place_in(pointer_of(place))
+                return f"at {told}: it is no pattern if Unicode has no property or script `{name}`"
     return ""
 
 

@@ -74,5 +74,6 @@ def _sign(code: int) -> str:
     if sign in _CONTROLS:
         return _CONTROLS[sign]
     if not 0x20 <= code < 0x7F:
-        return f"\\x{{{code:X}}}"
+        # ECMA-262 has it too, so that what is written can be read again.
+        return f"\\u{{{code:X}}}"
     return "\\" + sign if _SIGNS.match(sign) else sign

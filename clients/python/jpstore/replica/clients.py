@@ -139,5 +139,5 @@ class _Client:
         except (OSError, JpstoreError) as error:
             self._writer.write(json.dumps({"error": str(error), "ok": False}).encode() + b"\n")
             return
-        self._writer.write(copy.head())
+        self._writer.write(copy.line())
         await send(copy.spool, self._writer)

@@ -19,22 +19,24 @@ _IN_MEMORY = 1 << 22
 
 
 class Copy(NamedTuple):
-    """The commit sector and the committed bytes after it: how many, where they belong, and a file with them.
+    """The bytes that begin a store's file, and the committed ones in its half.
 
+    How many bytes these are together, how many of them begin the file, where the others belong, and a file with both.
     `mode` are the permission bits of the store's file.
     """
 
     length: int
+    head: int
     begin: int
     sectors: int
     seq: int
     spool: IO[bytes]
     mode: int
 
-    def head(self) -> bytes:
+    def line(self) -> bytes:
         """The line that comes before the bytes."""
-        told = {"begin": self.begin, "bytes": self.length, "mode": self.mode, "ok": True, "sectors": self.sectors,
-                "seq": self.seq}
+        told = {"begin": self.begin, "bytes": self.length, "head": self.head, "mode": self.mode, "ok": True,
+                "sectors": self.sectors, "seq": self.seq}
         return line_of_reply(told)
 
 
@@ -44,12 +46,12 @@ def copy_of(file: str) -> Copy:
     with accessing(file), open(file, "rb") as opened:
         found = committed_in(opened)
         mode = mode_of(opened)
-        spool.write(found.sector)
-        for piece in found.pieces(opened, found.length):
+        spool.write(found.head)
+        for piece in found.pieces(opened, found.settled):
             spool.write(piece)
     length = spool.tell()
     spool.seek(0)
-    return Copy(length, found.begin, found.sectors, found.seq, spool, mode)
+    return Copy(length, len(found.head), found.begin, found.sectors, found.seq, spool, mode)
 
 
 def receive_copy(path: str, target: str) -> int:
@@ -68,9 +70,9 @@ def receive_copy(path: str, target: str) -> int:
                 raise JpstoreError(f"{path} hands out no store: {told.get('error', 'it is no node')}")
             os.fchmod(made.fileno(), told.get("mode", 0o600) & 0o777)
             _fill(made, told["sectors"] * SECTOR)
-            made.write(_exactly(lines, SECTOR, path))
+            made.write(_exactly(lines, told["head"], path))
             made.seek(told["begin"])
-            left = told["bytes"] - SECTOR
+            left = told["bytes"] - told["head"]
             while left:
                 piece = _exactly(lines, min(left, _PIECE), path)
                 made.write(piece)

@@ -1,28 +1,30 @@
-"""The commit sector and the committed bytes of a store's file, by `docs/inside/FORMAT.md`; this only reads."""
+"""What is committed in a store's file, by `docs/inside/FORMAT.md`; this only reads."""
 import os
 import struct
 from typing import BinaryIO, Iterator, NamedTuple
 
 from ..errors import JpstoreError, accessing
+from .store_slots import SLOTS, begin_of, capacity_of, counting
 
 __all__ = ["SECTOR", "Committed", "committed_in", "format_of"]
 
 #: The length of a sector.
 SECTOR = 512
 
-_FIELDS = struct.Struct(">8sIIQQQQQ")
-_LETTERS = b"JPSTORE1"
-_FORMATS = (2, 3)
+_FIELDS = struct.Struct(">8sIIQQQQ")
+_BEGIN = b"JPSTORE1\0\0\0\2"
 
 # How many bytes are read at once.
 _PIECE = 1 << 20
 
 
 class Committed(NamedTuple):
-    """What the commit sector says. Nobody may write the file while the committed bytes are read."""
+    """What the commit sector says, or the slot that counts. Nobody may write the file while the bytes are read."""
 
-    #: The sector as it is.
-    sector: bytes
+    #: The format of the store.
+    version: int
+    #: The commit sector, or all slots, which begin the file.
+    head: bytes
     half: int
     length: int
     seq: int
@@ -30,30 +32,24 @@ class Committed(NamedTuple):
     sectors: int
     #: Tells this file from another that takes its name.
     inode: int
-    #: The last committed bytes, if they are in the commit sector too, as they may be in format 3.
-    riding: bytes
+    #: How many bytes a half holds.
+    capacity: int
+    #: Where the half in force begins in the file.
+    begin: int
+    #: The last committed bytes, which format 3 has in the slot.
+    tail: bytes
 
     @property
-    def version(self) -> int:
-        """The format of the store."""
-        return int.from_bytes(self.sector[8:12], "big")
-
-    @property
-    def capacity(self) -> int:
-        """How many bytes a half has."""
-        return SECTOR * ((self.sectors - 1) // 2)
-
-    @property
-    def begin(self) -> int:
-        """Where the half in force begins in the file."""
-        return SECTOR + self.half * self.capacity
+    def settled(self) -> int:
+        """How many of the committed bytes are in the half."""
+        return self.length - len(self.tail)
 
     def read(self, file: BinaryIO, begin: int, count: int) -> bytes:
         """The committed bytes from `begin` on, at most `count`."""
-        held = self.length - len(self.riding)
+        held = self.settled
         file.seek(self.begin + begin)
         settled = file.read(max(0, min(count, held - begin)))
-        return settled + self.riding[max(0, begin - held):max(0, begin + count - held)]
+        return settled + self.tail[max(0, begin - held):max(0, begin + count - held)]
 
     def pieces(self, file: BinaryIO, end: int) -> Iterator[bytes]:
         """The committed bytes up to `end`, piece by piece."""
@@ -72,13 +68,17 @@ def format_of(path: str) -> int:
 
 
 def committed_in(file: BinaryIO) -> Committed:
-    """What the commit sector of a file says; an error if it is no store of format 2 or 3."""
+    """What is committed in a file; an error if it is no store of format 2 or 3."""
     file.seek(0)
-    sector = file.read(SECTOR)
-    if len(sector) < SECTOR or sector[:8] != _LETTERS or int.from_bytes(sector[8:12], "big") not in _FORMATS:
+    head = file.read(SLOTS)
+    inode = os.fstat(file.fileno()).st_ino
+    if head.startswith(_BEGIN) and len(head) >= SECTOR:
+        _, _, half, length, seq, opens, sectors = _FIELDS.unpack_from(head)
+        capacity = SECTOR * ((sectors - 1) // 2)
+        begin = SECTOR + half * capacity
+        return Committed(2, head[:SECTOR], half, length, seq, opens, sectors, inode, capacity, begin, b"")
+    slot = counting(head) if len(head) == SLOTS else None
+    if slot is None:
         raise JpstoreError(f"{file.name} is not a store of format 2 or 3")
-    _, _, half, length, seq, opens, sectors, riding = _FIELDS.unpack_from(sector)
-    # In format 3 it is one more than the number of riding bytes, in format 2 zero.
-    count = max(0, riding - 1)
-    return Committed(sector, half, length, seq, opens, sectors, os.fstat(file.fileno()).st_ino,
-                     sector[_FIELDS.size:_FIELDS.size + count])
+    return Committed(3, head, slot.half, slot.length, slot.seq, slot.opens, slot.sectors, inode,
+                     capacity_of(slot.sectors), begin_of(slot.half, slot.sectors), slot.tail)

@@ -231,8 +231,9 @@ def test_the_files_of_stores_are_made_judged_and_copied(place):
     assert json.loads(told(place, "copy", "store", "copied", "--json"))["sectors"] == 4096
     assert json.loads(told(place, "copy", "store", "small", "--size", "1537", "--json"))["sectors"] == 4
     assert json.loads(told(place, "grow", "store", "larger", "--json"))["sectors"] == 8192
+    # Of the 2,040 blocks of a half two are kept for checks.
     assert json.loads(told(place, "format", "new", "--sparse", "--format", "3", "--json")) == {
-        "capacity": (16 << 20) // 2 - 512, "sectors": 32768}
+        "capacity": 2038 * 4096, "sectors": 32768}
     assert json.loads(told(place, "upgrade", "new", "--json"))["from"] == 3
     assert told(place, "get", "larger", "d") == "1"
 
@@ -399,10 +400,11 @@ def test_a_schema_of_other_people_is_adapted(place):
     place.text("schema.json", json.dumps(schema))
     made, noted = run_here(place, "schema", "adapt", "schema.json", status=6)
     assert json.loads(made)["$defs"] == {"n": {"type": "integer", "minimum": 1}}
-    changed, left = noted.splitlines()
+    changed, left, hint = noted.splitlines()
     assert changed == ("changed: at `other.json/definitions/n/minimum`: the bound 0.5 is `minimum` 1 for whole "
                        "numbers")
     assert left.startswith("left: at `/propertyNames/pattern`: `pattern` needs a store of format 3; ")
+    assert hint == "for a store of format 3: --profile 3"
     made = told(place, "schema", "adapt", "schema.json", "--drop", "pattern", "--json")
     assert json.loads(made)["schema"]["$comment"] == "left out for jpstore: pattern (1)"
     place.format(16)

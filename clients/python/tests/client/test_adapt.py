@@ -140,6 +140,11 @@ def test_what_references_lead_to_is_bundled():
     assert (adapted.left, asked) == ([], ["http://x/b.json", "http://x/c.json"])
 
 
+def test_names_that_are_none_are_told():
+    for schema, place in (({"required": [{}]}, "/required"), ({"dependencies": {"a": [1, []]}}, "/dependentRequired")):
+        assert [(fault.number, fault.place) for fault in Schema.adapt(schema).left] == [(40, place)]
+
+
 def test_a_schema_that_is_too_long_is_told():
     schema = {"description": "x" * 262144}
     assert [fault.number for fault in Schema.adapt(schema).left] == [44]

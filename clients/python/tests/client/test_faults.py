@@ -24,7 +24,7 @@ _SCHEMAS = [
     ({"allOf": [{}, 5]}, 40, "/allOf/1", "5 is no schema: it is an object, true or false"),
     ({"multipleOf": 0}, 40, "/multipleOf", "must be a whole number from 1"),
     ({"properties": {"a": {"pattern": "^a"}}}, 41, "/properties/a/pattern", "`pattern` needs a store of format 3"),
-    ({"$defs": {"a": {"patternProperties": {}}}}, 41, "/$defs/a/patternProperties", "`properties` has the members"),
+    ({"$defs": {"a": {"patternProperties": {}}}}, 41, "/$defs/a/patternProperties", "in format 2 `properties` has the"),
     ({"items": {"$id": "x"}}, 41, "/items/$id", "`$id` is for the root only"),
     ({"$schema": _OLD}, 41, "/$schema", "`python3 -m jpstore schema adapt` translates earlier drafts"),
     ({"properties": {"a": {"$ref": "#/definitions/b"}}}, 42, "/properties/a/$ref", "put that schema under `$defs`"),
@@ -204,7 +204,8 @@ _VALUES_IN_3 = {
     "pattern": ["a", "(", "a{2,1}", r"[\w&&[^_]]", r"\d{2}", r"(?=a)", "[a", r"\p{L}", "a" * 4097, "(?i)a", r"\q"],
     "unevaluatedItems": [True],
 }
-_HOLDERS_IN_3 = {**_HOLDERS, "dependentSchemas": lambda part: {"a": part(), "b": part()}}
+_HOLDERS_IN_3 = {**_HOLDERS, "dependentSchemas": lambda part: {"a": part(), "b": part()},
+                 "patternProperties": lambda part: {"a": part(), r"^\d+$": part()}}
 
 
 def test_the_store_and_the_client_agree_on_schemas_of_profile_3(place):

@@ -13,6 +13,7 @@ import threading
 import time
 
 import pytest
+from forking import only_here
 from hubs import Hub
 from jpstore import AsyncStore, Ended, JpstoreError, Refused, Store, create, patch
 from support import PATIENCE, raised
@@ -25,16 +26,13 @@ def forked(work):
     reading, writing = os.pipe()
     child = os.fork()
     if child == 0:
-        # Nothing of the tests goes on in the child: one that hangs is killed.
-        signal.signal(signal.SIGALRM, signal.SIG_DFL)
-        signal.alarm(PATIENCE)
-        try:
-            told = work()
-        except BaseException as error:
-            told = f"{type(error).__name__}: {error}"
-        with os.fdopen(writing, "wb") as pipe:
-            pickle.dump(told, pipe)
-        os._exit(0)
+        with only_here():
+            try:
+                told = work()
+            except BaseException as error:
+                told = f"{type(error).__name__}: {error}"
+            with os.fdopen(writing, "wb") as pipe:
+                pickle.dump(told, pipe)
     os.close(writing)
 
     def result():
@@ -94,8 +92,8 @@ def asleep():
     """A child that sleeps, made by `os.fork`."""
     child = os.fork()
     if child == 0:
-        time.sleep(PATIENCE)
-        os._exit(0)
+        with only_here():
+            time.sleep(PATIENCE)
     return child
 
 
@@ -246,11 +244,9 @@ class Preforked:
         for _ in range(workers):
             pid = os.fork()
             if pid == 0:
-                # A test's own handler would let the worker go on with the tests.
-                signal.signal(signal.SIGALRM, signal.SIG_DFL)
-                signal.alarm(PATIENCE)
-                while True:
-                    self._answer(store)
+                with only_here():
+                    while True:
+                        self._answer(store)
             self._workers.append(pid)
 
     def _answer(self, store):
@@ -328,6 +324,9 @@ def test_a_signal_that_forks_in_the_midst_of_a_call(place):
         children = []
 
         def fork(*_):
+            # On a busy machine signals come faster than forks are done.
+            if len(children) == 10:
+                return
             children.append(forked(lambda: str(raised(JpstoreError, store.names))))
         before = signal.signal(signal.SIGUSR1, fork)
         try:

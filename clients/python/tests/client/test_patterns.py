@@ -119,14 +119,17 @@ def test_profile_3_keeps_patterns():
     schema = {"$schema": "https://json-schema.org/draft/2020-12/schema",
               "properties": {"a": {"pattern": r"^\d.$"}, "b": {"pattern": "^(?!x)b"}, "c": {"pattern": r"[^a]\-"},
                              "d": {"pattern": r"\ud800"}},
-              "patternProperties": {r"^\d$": {"pattern": r"\d"}}, "dependentSchemas": {"a": {"required": ["c"]}}}
+              "patternProperties": {r"^\d$": {"pattern": r"\d"}, "^x-": True, "^[0-9]$": False,
+                                    "(?=a)": {"pattern": "(?=b)"}},
+              "additionalProperties": False, "dependentSchemas": {"a": {"required": ["c"]}}}
     adapted = Schema.adapt(schema, profile=3)
     assert adapted.schema == {
-        **schema, "properties": {"a": {"pattern": r"^[0-9][^\n\r\x{2028}\x{2029}]$"}, "b": {"pattern": "^(?!x)b"},
+        **schema, "properties": {"a": {"pattern": r"^[0-9][^\n\r\u{2028}\u{2029}]$"}, "b": {"pattern": "^(?!x)b"},
                                  "c": {"pattern": r"[^a]\-"}, "d": {"pattern": r"(?:\z.)"}},
-        "patternProperties": {r"^\d$": {"pattern": "[0-9]"}}}
+        "patternProperties": {"^[0-9]$": {"allOf": [{"pattern": "[0-9]"}, False]}, "^x-": True,
+                              "(?=a)": {"pattern": "(?=b)"}}}
     assert [(fault.number, fault.place) for fault in adapted.left] == [
-        (40, "/properties/b/pattern"), (41, "/patternProperties")]
+        (40, "/properties/b/pattern"), (40, "/patternProperties/(?=a)/pattern"), (40, "/patternProperties/(?=a)")]
     assert "it is no pattern from character 2 (`(?!x)b`) on: looking ahead" in adapted.left[0].message
     assert [change.place for change in adapted.changes] == ["/properties/c/pattern", "/properties/d/pattern"]
     # In profile 2 nothing has changed.
@@ -139,13 +142,21 @@ _FAULTS = [
     ({"dependentSchemas": {"a": {"minLength": -1}}}, 40, "/dependentSchemas/a/minLength"),
     ({"dependentSchemas": {"a": 5}}, 40, "/dependentSchemas/a"), ({"dependentSchemas": []}, 40, "/dependentSchemas"),
     ({"dependentSchemas": {"a": {"pattern": "a{"}}}, 40, "/dependentSchemas/a/pattern"),
-    ({"patternProperties": {"a": True}}, 41, "/patternProperties"), ({"$anchor": "a"}, 41, "/$anchor"),
+    ({"patternProperties": {"a/{": True}}, 40, "/patternProperties/a~1{"),
+    ({"patternProperties": {"a": 5}}, 40, "/patternProperties/a"),
+    ({"patternProperties": []}, 40, "/patternProperties"),
+    ({"patternProperties": {"a": {"patternProperties": {"(": {}}}}}, 40, "/patternProperties/a/patternProperties/("),
+    ({"patternProperties": {"a": {"$ref": "#/$defs/b"}}}, 42, "/patternProperties/a/$ref"),
+    ({"$anchor": "a"}, 41, "/$anchor"),
     ({"unevaluatedItems": False}, 41, "/unevaluatedItems"), ({"$dynamicRef": "#a"}, 41, "/$dynamicRef"),
     ({"$ref": "#a"}, 42, "/$ref"), ({"$ref": "#/properties/a"}, 42, "/$ref"),
     ({"$ref": "#/allOf/0", "allOf": [{}]}, 42, "/$ref"),
     ({"dependentSchemas": {"a": {"$ref": "#/$defs/b"}}}, 42, "/dependentSchemas/a/$ref"),
     ({"dependentSchemas": {"a": {"$ref": "#"}}}, 43, ""),
     ({"allOf": [{"pattern": "a"}] * 65}, 44, "/allOf/64/pattern"), ({"pattern": "a" * 4097}, 44, "/pattern"),
+    ({"patternProperties": {f"a{number}": True for number in range(65)}}, 44, "/patternProperties/a64"),
+    ({"patternProperties": {"a": {"pattern": "b"}}, "allOf": [{"pattern": "a"}] * 63}, 44, "/allOf/62/pattern"),
+    ({"patternProperties": {"a" * 4097: True}}, 44, "/patternProperties/" + "a" * 4097),
     ({"pattern": "\u00e9" * 2049}, 44, "/pattern"),
 ]
 
@@ -158,16 +169,19 @@ def test_the_faults_of_profile_3_are_told(schema, number, place):
 
 def test_what_profile_3_reads_has_no_fault():
     for schema in ({"pattern": "a" * 4096}, {"pattern": "\u00e9" * 2048}, {"allOf": [{"pattern": "a"}] * 64},
+                   {"patternProperties": {f"a{number}": {} for number in range(64)}, "additionalProperties": {}},
+                   {"patternProperties": {"^x": {"$ref": "#"}, "": True}}, {"patternProperties": {}},
                    {"default": {"pattern": "("}, "enum": [{"pattern": "("}], "properties": {"pattern": {}}},
                    {"dependentSchemas": {"a": {"properties": {"a": {"$ref": "#"}}}, "$ref": True}}):
         assert Schema.faults(schema, profile=3) == [], schema
 
 
 def test_the_faults_of_profile_2_name_the_format_that_reads_more():
-    faults = Schema.faults({"pattern": "(", "dependentSchemas": {"a": 5}, "patternProperties": {}})
+    faults = Schema.faults({"pattern": "(", "dependentSchemas": {"a": 5}, "patternProperties": {"(": 5},
+                            "$anchor": "a"})
     assert [(fault.number, fault.place) for fault in faults] == [
-        (41, "/pattern"), (41, "/dependentSchemas"), (41, "/patternProperties")]
-    assert ["needs a store of format 3" in fault.message for fault in faults] == [True, True, False]
+        (41, "/pattern"), (41, "/dependentSchemas"), (41, "/patternProperties"), (41, "/$anchor")]
+    assert ["needs a store of format 3" in fault.message for fault in faults] == [True, True, True, False]
 
 
 @pytest.mark.parametrize("profile", [2, 3])
@@ -193,3 +207,22 @@ def test_documents_are_explained_by_the_patterns_of_the_store():
     assert sorted((fault.place, fault.keyword) for fault in faults) == [
         ("", "/dependentSchemas/a/required"), ("", "/propertyNames/pattern"), ("/a", "/properties/a/pattern")]
     assert re.search("'Ax' does not match", faults[-1].message)
+
+
+def test_members_are_explained_by_the_patterns_of_their_names():
+    pytest.importorskip("jsonschema")
+    schema = {"properties": {"id": True}, "patternProperties": {"^[a-z&&[^a]]$": {"maximum": 3}, "/": False},
+              "additionalProperties": {"type": "null"}}
+    assert explain({"b": 3, "_": None, "id": 5}, schema) == explain("text", schema) == []
+    faults = explain({"b": 4, "bb": 1, "a/b": 1}, schema)
+    assert [(fault.place, fault.keyword) for fault in faults] == [
+        ("/a~1b", "/patternProperties/~1"), ("/b", "/patternProperties/^[a-z&&[^a]]$/maximum"),
+        ("/bb", "/additionalProperties/type")]
+    closed = {"patternProperties": {"^a": True, "^b": True}, "additionalProperties": False}
+    assert explain({"a": 1, "b": 2}, closed) == []
+    assert [fault.message for fault in explain({"x": 1, "y": 2}, closed)] == [
+        "'x', 'y' do not match any of the patterns '^a', '^b'"]
+    # What only the store's tables know is left to the store.
+    assert explain({"x": 1}, {"patternProperties": {r"\p{Script=Greek}": False}, "additionalProperties": False}) == []
+    assert [fault.message for fault in explain({"x": 1}, {"additionalProperties": False})] == [
+        "Additional properties are not allowed ('x' was unexpected)"]

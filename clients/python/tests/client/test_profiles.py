@@ -16,7 +16,14 @@ _ROWS = [
     ({"pattern": "a" * 4097}, 41, 44, "at `/pattern`: the pattern has 4,097 bytes, and may have 4,096"),
     ({"allOf": [{"pattern": "a"}] * 65}, 41, 44, "at `/allOf/64/pattern`: a schema has at most 64 patterns"),
     ({"dependentSchemas": {"a": 5}}, 41, 40, "at `/dependentSchemas/a`: 5 is no schema"),
-    ({"patternProperties": {}}, 41, 41, "at `/patternProperties`: `patternProperties` is not supported; "),
+    ({"patternProperties": {"a": False}}, 41, None, ""),
+    ({"type": "object", "patternProperties": {"a": False}}, 41, 45, ""),
+    ({"patternProperties": {"a{": {}}}, 41, 40, "at `/patternProperties/a{`: it is no pattern from character 2"),
+    ({"patternProperties": ["a"]}, 41, 40,
+     "at `/patternProperties`: `patternProperties` is [\"a\"], and must be an object of schemas by patterns"),
+    ({"patternProperties": {f"a{number:02}": True for number in range(65)}}, 41, 44,
+     "at `/patternProperties/a64`: a schema has at most 64 patterns"),
+    ({"unevaluatedItems": True}, 41, 41, "at `/unevaluatedItems`: `unevaluatedItems` is not supported; "),
 ]
 
 
@@ -78,8 +85,18 @@ def test_large_tables_are_told_with_what_helps(place):
     with place.store() as store:
         refused = raised(Refused, store.create, "d", "a", {"pattern": r"^\p{L}{1,1000}$"})
         assert refused.number == 63 and "by `maxLength`" in refused.advice
+        refused = raised(Refused, store.create, "d", {}, {"patternProperties": {r"^\p{L}{1,1000}$": True}})
+        assert refused.number == 63 and "by `maxLength`" in refused.advice
         store.create("d", "a", {"pattern": r"^\p{L}+$", "maxLength": 1000})
     assert "by `maxLength`" not in refusal_of({"number": 63, "error": "memory", "ok": False}, {"cmd": "list"}).advice
+
+
+def test_an_upgrade_is_advised_where_it_helps(place):
+    with place.made() as store:
+        for schema, helps in (({"pattern": "a"}, True), ({"patternProperties": {"a": {}}}, True),
+                              ({"unevaluatedItems": True}, False), ({"items": {"$id": "pattern"}}, False)):
+            refused = raised(Refused, store.create, "d", {}, schema)
+            assert (refused.number, "upgrade" in refused.advice) == (41, helps), refused.advice
 
 
 def test_a_dump_goes_into_format_3_alone(place):

@@ -18,6 +18,7 @@ def place(place, request):
     """A place with a store of each format."""
     place.format()
     upgrade_file(place.file, request.param, place.program)
+    place.version = request.param
     return place
 
 
@@ -81,11 +82,17 @@ def test_a_history_is_another_after_its_store_was_put_back(place, way):
 
 @pytest.mark.parametrize("after", [[], [put(1), put(2)]], ids=["at its beginning", "with changes"])
 def test_a_snapshot_that_was_not_noted_leaves_the_history(place, after):
-    # As of a hub that was killed before it noted it. In format 3 the last of the bytes before it had ridden.
+    # As of a hub that was killed before it noted it.
     first = noted(place, [create("d", {"n": 0})], after)
     elsewhere(place, snapshot)
     history = opened(place)
-    assert told(history) == dict(enumerate([create("d", {"n": 0}), *after], 1))
+    made = dict(enumerate([create("d", {"n": 0}), *after], 1))
+    if place.version == 3:
+        # The opening wrote over the slot that had the last bytes before the snapshot: so it is another history.
+        assert all(made[number] == change for number, change in told(history).items())
+        assert not history.has(first.last, first.name)
+        return
+    assert told(history) == made
     assert history.has(first.last, first.name) and not history.has(first.last + 1, first.name)
 
 

@@ -43,6 +43,8 @@ pub struct Larger {
     folder: PathBuf,
     sectors: u64,
     format: u64,
+    /// How many bytes at the beginning of the other file say what is committed.
+    head: usize,
 }
 
 impl Larger {
@@ -55,7 +57,7 @@ impl Larger {
         check(&file, &old, sectors)?;
         remove_leftovers(&file);
         let folder = new_folder(&file).map_err(told)?;
-        Ok(Larger { file, old, folder, sectors, format: 0 })
+        Ok(Larger { file, old, folder, sectors, format: 0, head: 0 })
     }
 
     /// The larger file, until it has the other's name.
@@ -76,7 +78,7 @@ impl Larger {
     pub fn take(&mut self) -> Result<u64, Error> {
         let old = self.old.try_clone().map_err(|error| Error::of_path(&self.file, error))?;
         let found = Committed::in_file(old, &self.file)?;
-        self.format = found.format;
+        (self.format, self.head) = (found.format, found.head.len());
         let base = self.base();
         let told = |error| Error::of_path(&base, error);
         remove_if_there(&base).map_err(told)?;
@@ -115,7 +117,7 @@ impl Larger {
             return Err(Fault::Unsettled(told));
         }
         // If that fails, the other file keeps what it had, and no name leads to it.
-        let _ = self.old.write_all_at(&[0; SECTOR as usize], 0);
+        let _ = self.old.write_all_at(&vec![0; self.head], 0);
         Ok(())
     }
 }
@@ -189,12 +191,12 @@ fn give_rights(old: &File, made: &File) -> io::Result<()> {
     made.set_permissions(Permissions::from_mode(told.mode() & 0o777))
 }
 
-/// Writes the commit sector and the committed bytes to where they are in the other file.
+/// Writes the commit sector, or the slots, and the committed bytes to where they are in the other file.
 fn fill(made: &File, found: &Committed, path: &Path) -> Result<(), Error> {
     let told = |error| Error::of_path(path, error);
     made.set_len(found.sectors * SECTOR).map_err(told)?;
-    made.write_all_at(&found.sector, 0).map_err(told)?;
-    let mut place = found.begin();
+    made.write_all_at(&found.head, 0).map_err(told)?;
+    let mut place = found.begin;
     found.pieces(found.settled(), |piece| {
         made.write_all_at(piece, place).map_err(told)?;
         place += piece.len() as u64;

@@ -1,17 +1,16 @@
 //! The committed bytes and frames of the store's file, as `docs/inside/FORMAT.md` lays them out; this only reads.
 
+use super::slots::{begin_of, capacity_of, counting, SLOTS};
 use crate::error::Error;
 use std::collections::VecDeque;
 use std::fs::File;
+use std::io;
 use std::os::unix::fs::{FileExt, MetadataExt};
 use std::path::{Path, PathBuf};
 
 /// The bytes of a sector.
 pub const SECTOR: u64 = 512;
 const LETTERS: &[u8] = b"JPSTORE1";
-
-/// Before the riding bytes the commit sector has fields of this length.
-const FIELDS: usize = 56;
 
 /// A frame is the length of its body, its seq, and the body.
 const HEAD: usize = 12;
@@ -29,12 +28,12 @@ pub fn frame_of(seq: u64, text: &[u8]) -> Vec<u8> {
     [&(text.len() as u32).to_be_bytes(), &seq.to_be_bytes()[..], text].concat()
 }
 
-/// What the commit sector says. Nobody may write the file while the committed bytes are read.
+/// What the commit sector says, or the slot that counts. Nobody may write the file while the committed bytes are read.
 pub struct Committed {
     file: File,
     path: PathBuf,
-    /// The sector as it is.
-    pub sector: [u8; SECTOR as usize],
+    /// The commit sector, or all slots, which begin the file.
+    pub head: Vec<u8>,
     /// The number of the format.
     pub format: u64,
     /// The sectors of the file.
@@ -51,8 +50,16 @@ pub struct Committed {
     pub capacity: u64,
     /// Tells this file from another that takes its name.
     pub inode: u64,
-    /// The last committed bytes, if they are in the commit sector too.
-    riding: Vec<u8>,
+    /// Where the half in force begins in the file.
+    pub begin: u64,
+    /// The last committed bytes, which format 3 has in the slot.
+    tail: Vec<u8>,
+}
+
+fn first_bytes(file: &File, count: usize) -> io::Result<Vec<u8>> {
+    let mut bytes = vec![0; count];
+    file.read_exact_at(&mut bytes, 0)?;
+    Ok(bytes)
 }
 
 fn number(sector: &[u8], begin: usize, end: usize) -> u64 {
@@ -60,7 +67,7 @@ fn number(sector: &[u8], begin: usize, end: usize) -> u64 {
 }
 
 impl Committed {
-    /// What the commit sector of a file says; an error if it is no store of format 2 or 3.
+    /// What is committed in a file; an error if it is no store of format 2 or 3.
     pub fn of(path: &Path) -> Result<Committed, Error> {
         let file = File::open(path).map_err(|error| Error::of_path(path, error))?;
         Committed::in_file(file, path)
@@ -69,44 +76,63 @@ impl Committed {
     /// The same of an open file, which has this path.
     pub fn in_file(file: File, path: &Path) -> Result<Committed, Error> {
         let inode = file.metadata().map_err(|error| Error::of_path(path, error))?.ino();
-        let mut sector = [0; SECTOR as usize];
-        let is_whole = file.read_exact_at(&mut sector, 0).is_ok();
-        if !is_whole || &sector[..8] != LETTERS || !matches!(number(&sector, 8, 12), 2 | 3) {
-            return Err(Error::new(format!("{} is not a store of format 2 or 3", path.display())));
+        let sector = first_bytes(&file, SECTOR as usize).unwrap_or_default();
+        if sector.starts_with(LETTERS) && number(&sector, 8, 12) == 2 {
+            return Ok(Committed::by_sector(file, path, inode, sector));
         }
-        // In format 3 it is one more than the number of riding bytes, in format 2 zero.
-        let count = (number(&sector, 48, 56).saturating_sub(1) as usize).min(sector.len() - FIELDS);
-        let sectors = number(&sector, 40, 48);
-        Ok(Committed {
+        let slots = first_bytes(&file, SLOTS).unwrap_or_default();
+        Committed::by_slots(file, path, inode, slots)
+            .ok_or_else(|| Error::new(format!("{} is not a store of format 2 or 3", path.display())))
+    }
+
+    fn by_sector(file: File, path: &Path, inode: u64, sector: Vec<u8>) -> Committed {
+        let (half, sectors) = (number(&sector, 12, 16), number(&sector, 40, 48));
+        let capacity = SECTOR * (sectors.saturating_sub(1) / 2);
+        Committed {
             file,
             path: path.to_owned(),
-            sector,
-            format: number(&sector, 8, 12),
+            format: 2,
             sectors,
-            half: number(&sector, 12, 16),
+            half,
             length: number(&sector, 16, 24),
             seq: number(&sector, 24, 32),
             opens: number(&sector, 32, 40),
-            capacity: SECTOR * (sectors.saturating_sub(1) / 2),
+            capacity,
             inode,
-            riding: sector[FIELDS..FIELDS + count].to_vec(),
+            begin: SECTOR + half * capacity,
+            tail: Vec::new(),
+            head: sector,
+        }
+    }
+
+    fn by_slots(file: File, path: &Path, inode: u64, slots: Vec<u8>) -> Option<Committed> {
+        let found = counting(&slots)?;
+        Some(Committed {
+            file,
+            path: path.to_owned(),
+            head: slots,
+            format: 3,
+            sectors: found.sectors,
+            half: found.half,
+            length: found.length,
+            seq: found.seq,
+            opens: found.opens,
+            capacity: capacity_of(found.sectors),
+            inode,
+            begin: begin_of(found.half, found.sectors),
+            tail: found.tail,
         })
     }
 
-    /// The same, of `length` bytes of the other half, in which nothing rides.
-    pub fn of_other_half(mut self, half: u64, length: u64) -> Committed {
-        (self.half, self.length, self.riding) = (half, length, Vec::new());
-        self
+    /// The same, of `length` bytes of the other half. None in format 3, whose slots don't keep what was there.
+    pub fn of_other_half(mut self, half: u64, length: u64) -> Option<Committed> {
+        (self.half, self.length, self.begin) = (half, length, SECTOR + half * self.capacity);
+        (self.format == 2).then(|| self)
     }
 
-    /// Where the half in force begins in the file.
-    pub fn begin(&self) -> u64 {
-        SECTOR + self.half * self.capacity
-    }
-
-    /// How many of the committed bytes aren't in the commit sector.
+    /// How many of the committed bytes are in the half.
     pub fn settled(&self) -> u64 {
-        self.length.saturating_sub(self.riding.len() as u64)
+        self.length.saturating_sub(self.tail.len() as u64)
     }
 
     /// The committed bytes from `begin` on, at most `count`.
@@ -114,10 +140,10 @@ impl Committed {
         let held = self.settled();
         let settled = held.saturating_sub(begin).min(count);
         let mut bytes = vec![0; settled as usize];
-        self.file.read_exact_at(&mut bytes, self.begin() + begin).map_err(|_| self.too_short())?;
+        self.file.read_exact_at(&mut bytes, self.begin + begin).map_err(|_| self.too_short())?;
         let (from, to) = (begin.saturating_sub(held), (begin + count).saturating_sub(held));
-        let end = (to as usize).min(self.riding.len());
-        bytes.extend_from_slice(self.riding.get(from as usize..end).unwrap_or(&[]));
+        let end = (to as usize).min(self.tail.len());
+        bytes.extend_from_slice(self.tail.get(from as usize..end).unwrap_or(&[]));
         Ok(bytes)
     }
 
@@ -157,7 +183,7 @@ impl Frame {
 
 /// The last frames in the half in force, `most` at most.
 pub struct Journal {
-    /// What the commit sector says.
+    /// What is committed.
     pub committed: Committed,
     frames: VecDeque<Frame>,
     /// Whether there are others before them, and a frame among those that is no creation.

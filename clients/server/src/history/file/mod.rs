@@ -7,6 +7,7 @@
 
 mod journal;
 mod saved;
+mod slots;
 
 use super::{Change, History, MOST_BYTES, MOST_CHANGES};
 use crate::error::Error;
@@ -136,12 +137,12 @@ impl Trace {
         digest_of(&found, position.used)
     }
 
-    /// The digest of the bytes up to a position in the half that isn't in force.
+    /// The digest of the bytes up to a position in the half that isn't in force, if they are there.
     ///
-    /// A snapshot leaves all that was there, also what rode in the commit sector before it, until the next one begins.
-    fn of_other_half(&self, position: &Position) -> Result<String, Error> {
+    /// A snapshot leaves all that was there until the next one begins, but in format 3 the next commits write over the tail.
+    fn of_other_half(&self, position: &Position) -> Result<Option<String>, Error> {
         let left = Committed::of(&self.path)?.of_other_half(position.half, position.used);
-        Ok(told(&digest_of(&left, position.used)?))
+        left.map(|left| Ok(told(&digest_of(&left, position.used)?))).transpose()
     }
 }
 
@@ -180,7 +181,7 @@ pub fn open(store: &Path) -> Result<(History, Recorder), Error> {
     Ok((history, recorder))
 }
 
-/// The position that the commit sector tells.
+/// The position that the store's file tells.
 fn position_in(found: &Committed) -> Position {
     Position {
         half: found.half,
@@ -203,7 +204,7 @@ fn is_of_this_store(noted: &Position, journal: &Journal, trace: &mut Trace) -> R
     if noted.half != found.half {
         // Nothing but a snapshot came after it, such as one of a server that was killed before it noted that.
         let may_be = noted.seq == found.seq && noted.used <= found.capacity;
-        return Ok(may_be && noted.digest == trace.of_other_half(noted)?);
+        return Ok(may_be && Some(&noted.digest) == trace.of_other_half(noted)?.as_ref());
     }
     Ok(noted.seq <= found.seq && noted.used <= found.length && noted.digest == trace.after(&[], noted)?)
 }
