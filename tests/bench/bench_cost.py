@@ -167,6 +167,9 @@ def kinds_of(doc):
         "add and remove at the list's end": [
             {"op": "add", "path": end, "value": {"a": 1}}, {"op": "remove", "path": end},
         ],
+        "add and remove at the list's front": [
+            {"op": "add", "path": "/items/0", "value": {"a": 1}}, {"op": "remove", "path": "/items/0"},
+        ],
         "move there and back": [
             {"op": "move", "from": "/last", "path": "/there"}, {"op": "move", "from": "/there", "path": "/last"},
         ],

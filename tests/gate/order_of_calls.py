@@ -83,6 +83,20 @@ HAND_OVERS = {
 }
 
 
+def hand_overs_of_slots(size):
+    """The same in format 3, after two writes of the opening and two of the first group. A second group of two changes fills a block
+    first, and the first slot that is whole has it."""
+    at = 5 if size == 1 else 6
+    return {
+        **({} if size == 1 else {"pwrite64:error=EIO:when=5": (False,), "pwrite64:error=ENOSPC:when=5+": (False,)}),
+        f"pwrite64:error=EIO:when={at}": (False, True),
+        f"pwrite64:error=ENOSPC:when={at}+": (False,),
+        f"pwrite64:error=EIO:when={at + 1}": (True,),
+        f"pwrite64:error=ENOSPC:when={at + 1}+": (True,),
+        "fdatasync:error=EIO:when=5": (True,),
+    }
+
+
 # Errors of the system as a file is opened, and the cause that `--why` names for each, with its number.
 OPENING_FAULTS = {"EROFS": ("read-only", 30), "EMFILE": ("descriptors", 24), "ENFILE": ("descriptors", 23), "EIO": ("other", 5)}
 
@@ -211,7 +225,7 @@ def try_failed_hand_over(program, version, size, second=(False,), **failing):
     names = "abcd"[:2 * size]
     with tempfile.TemporaryDirectory() as folder:
         file = os.path.join(folder, "store")
-        subprocess.run([program, "format", file, "--sectors", "64", "--format", version], check=True, stdout=subprocess.DEVNULL)
+        subprocess.run([program, "format", file, "--sectors", "192", "--format", version], check=True, stdout=subprocess.DEVNULL)
         given = [*map(large, names), large("e")]
         replies = served(program, file, given, ["--batch", str(size)] if size > 1 else [], **failing)
         refused = ['{"error":"device","number":61,"ok":false}\n'] * size + ['{"error":"broken","number":62,"ok":false}\n']
@@ -320,13 +334,20 @@ def try_copying(program):
 
 
 def try_upgrading(program):
-    """To format 3, and back: then a sync comes first."""
+    """To format 3, by a snapshot into half 1, two slots, and two more; and back: the commit sector, and zeros over the other slots."""
     with tempfile.TemporaryDirectory() as folder:
-        subprocess.run([program, "format", "store", "--sectors", "16"], check=True, cwd=folder, stdout=subprocess.DEVNULL)
-        named = [("pwrite64", "store"), ("fdatasync", "store"), ("write", "output")]
-        for words, wanted in ((["3"], OPENED + named), (["2"], OPENED + [("fdatasync", "store")] + named)):
+        subprocess.run([program, "format", "store", "--sectors", "300"], check=True, cwd=folder, stdout=subprocess.DEVNULL)
+        write, sync = ("pwrite64", "store"), ("fdatasync", "store")
+        reads = ("pread64", "store")
+        opened = [*OPENED[:2], reads, write, sync]
+        up = [*opened, sync, write, sync, sync, reads, write, write, sync, write, write, sync]
+        # Zeros over 120 sectors, 32 of them at once.
+        down = [*opened, write, sync, sync, write, sync, write, write, write, write, sync]
+        for words, wanted in ((["3"], up), (["2"], down)):
             calls = calls_of(folder, [program, "upgrade", "store", "--format", *words], 0, stdout=subprocess.DEVNULL)
-            if calls != wanted:
+            # How many sectors a read takes at once is no matter.
+            calls = [call for before, call in zip([None, *calls], calls) if call != reads or before != reads]
+            if calls != [*wanted, ("write", "output")]:
                 raise Wrong("upgrade --format %s calls %s" % (*words, calls))
 
 
@@ -365,10 +386,13 @@ def main():
     rows["a batch of 64 changes"] = lambda: try_group(program)
     for version, size in itertools.product("23", (1, 2)):
         group, fails = " of %d in format %s" % (size, version), functools.partial(try_failed_hand_over, program, version, size)
-        for fault, second in HAND_OVERS.items():
+        for fault, second in (HAND_OVERS if version == "2" else hand_overs_of_slots(size)).items():
             rows["a group" + group + " fails: " + fault] = functools.partial(fails, second, fault=fault)
-        # Half 0 begins at sector 1, and a change takes some 2.5 sectors: the second group is written in part.
-        rows["a group" + group + " is written in part"] = functools.partial(fails, limit=(3 + 2 * size) * SECTOR_BYTES)
+        # Half 0 begins at sector 1, and a change takes some 2.5 sectors: the second group is written in part. In format 3 it begins at
+        # sector 128, and only the block that two groups of two fill is there.
+        most = 3 + 2 * size if version == "2" else 132
+        if version == "2" or size == 2:
+            rows["a group" + group + " is written in part"] = functools.partial(fails, limit=most * SECTOR_BYTES)
     rows["a store of format 1 is opened"] = lambda: try_migration(program)
     rows["a store is made"] = lambda: try_making(program, [], MADE)
     rows["a sparse store is made"] = lambda: try_making(program, ["--sparse"], MADE_SPARSE)

@@ -90,12 +90,12 @@ def parts_of_format():
 
 def a_store_has_the_bytes_that_format_shows(place):
     second, third, _ = parts_of_format()
-    assert (len(second), len(third)) == (9, 5)
-    for option, shown in (("", second), (" --format 3", {**second, **third})):
+    assert (len(second), len(third)) == (9, 9)
+    for sectors, option, shown in ((16, "", second), (160, " --format 3", {**third, **{at + 32 * SECTOR: row for at, row in third.items()}})):
         place.store().unlink(missing_ok=True)
-        assert place.run(f"jpstore format store --sectors 16{option} && jpstore serve store", CREATE).returncode == 0
+        assert place.run(f"jpstore format store --sectors {sectors}{option} && jpstore serve store", CREATE).returncode == 0
         contents = place.store().read_bytes()
-        assert len(contents) == 16 * SECTOR
+        assert len(contents) == sectors * SECTOR
         for at, row in shown.items():
             assert contents[at:at + 16] == row, option + hex(at)
 

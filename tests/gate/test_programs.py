@@ -21,6 +21,9 @@ import tempfile
 CREATE = '{"cmd":"create","doc":{"a":1},"name":"d","schema":true}\n'
 DONE = '{"ok":true,"seq":1}\n'
 SIXTEEN = ["--sectors", "16"]
+# Enough for both formats at once.
+BOTH = ["--sectors", "300"]
+SLOTS = [0, 32, 64, 96]
 # A store as the program made it when it wrote format 1, by six changes: d was made, patched and put under another schema,
 # and so has the value {"a":1,"b":[1,2]}; e was made with ["x"]; f was made and deleted.
 ROOT = os.path.dirname(os.path.dirname(os.path.dirname(os.path.abspath(__file__))))
@@ -85,10 +88,14 @@ class Jpstore:
             file.write(contents)
 
 
-def status_line(documents, opens, seq, used, half=0):
+# A half of 16 sectors has 7, and one of 300 sectors 149, in format 2. In format 3 it has 80: ten blocks, of which one is kept free.
+CAPACITIES = {(16, 2): 7 * 512, (300, 2): 149 * 512, (300, 3): 9 * 4096}
+
+
+def status_line(documents, opens, seq, used, half=0, sectors=16, version=2):
     return (
-        f'{{"broken":false,"capacity":3584,"documents":{documents},"half":{half},"ok":true,"opens":{opens},'
-        f'"sectors":16,"seq":{seq},"used":{used}}}\n'
+        f'{{"broken":false,"capacity":{CAPACITIES[sectors, version]},"documents":{documents},"half":{half},"ok":true,"opens":{opens},'
+        f'"sectors":{sectors},"seq":{seq},"used":{used}}}\n'
     )
 
 
@@ -384,7 +391,7 @@ def upgraded(now, before):
 
 
 def a_store_is_brought_to_format_3_and_back(jpstore):
-    jpstore.run("format", jpstore.file, *SIXTEEN)
+    jpstore.run("format", jpstore.file, *BOTH)
     # A document over two sectors, and a small change after it.
     large = CREATE.replace('"d"', '"e"').replace('{"a":1}', f'"{"x" * 600}"')
     jpstore.run("serve", jpstore.file, given=CREATE + large + '{"cmd":"patch","name":"d","ops":[]}\n')
@@ -392,21 +399,28 @@ def a_store_is_brought_to_format_3_and_back(jpstore):
     answers = '{"names":["d","e"],"ok":true}\n{"ok":true,"rev":3}\n{"ok":true,"rev":2}\n{"ok":true,"value":{"a":1}}\n'
     for words, now, before in (([], 3, 2), (["--format", "3"], 3, 3), (["--format=2"], 2, 3), (["--format", "2"], 2, 2)):
         jpstore.shows("upgrade", jpstore.file, *words, output=upgraded(now, before))
-        sector = jpstore.contents()[:512]
-        # In format 3 bytes 48 to 55 are one more than the bytes that ride, none after an upgrade to it, and 456 after an opening in it.
-        riding = 0 if now == 2 else 1 if before == 2 else 457
-        if sector[8:12] != bytes([0, 0, 0, now]) or int.from_bytes(sector[48:56], "big") != riding:
-            raise Wrong(f"the commit sector isn't of format {now}")
+        # In format 2 none of the four slots of format 3 is left, of which the first begins with the commit sector.
+        begins = [jpstore.contents()[at * 512:at * 512 + 12] for at in SLOTS]
+        commit = b"JPSTORE1" + bytes([0, 0, 0, now])
+        if begins != ([commit] * 4 if now == 3 else [commit] + [bytes(12)] * 3):
+            raise Wrong(f"the commit sectors aren't of format {now}")
         jpstore.shows("serve", jpstore.file, given=questions, output=answers)
     # The opening of the first session, of four upgrades, of four sessions and of this. On the way back it was written anew: 67 and 662 bytes.
-    jpstore.shows("check", jpstore.file, output=status_line(2, 10, 3, 729, half=1))
+    jpstore.shows("check", jpstore.file, output=status_line(2, 10, 3, 729, half=1, sectors=300))
 
 
 def a_store_of_format_1_is_brought_to_format_3(jpstore):
     with open(FORMAT_1, "rb") as file:
-        jpstore.put(file.read())
-    jpstore.shows("upgrade", jpstore.file, output=upgraded(3, 2))
+        small = file.read()
+    # Both formats have no room in 16 sectors: it is opened and brought to format 2, and stays there.
+    jpstore.put(small)
+    jpstore.fails("upgrade", jpstore.file, errors="jpstore: no-room (74)\n")
     jpstore.shows("check", jpstore.file, output=status_line(2, 3, 6, 168, half=1))
+    os.unlink(jpstore.file)
+    # The same bytes are a store of 300 sectors, if it says so: half 0 is in force.
+    jpstore.put(small[:40] + (300).to_bytes(8, "big") + small[48:] + bytes((300 - 16) * 512))
+    jpstore.shows("upgrade", jpstore.file, output=upgraded(3, 2))
+    jpstore.shows("check", jpstore.file, output=status_line(2, 3, 6, 168, half=0, sectors=300, version=3))
 
 
 # Schemas with the numbers by which a document that is the text `a` is refused under them in format 2 and in format 3, by PROTOCOL.md;
@@ -419,7 +433,12 @@ PROFILES = [
     ({"dependentSchemas": {"b": False}}, 41, 0), ({"dependentSchemas": {"b": 5}}, 41, 40), ({"dependentSchemas": []}, 41, 40),
     ({"dependentSchemas": {"b": {"pattern": "("}}}, 41, 40), ({"dependentSchemas": {"b": {"$ref": "#"}}}, 41, 43),
     ({"default": {"pattern": "("}, "enum": ["a"]}, 0, 0), ({"properties": {"pattern": {"maxLength": 0}}}, 0, 0),
-    ({"patternProperties": {}}, 41, 41), ({"unevaluatedItems": False}, 41, 41), ({"$anchor": "a"}, 41, 41),
+    ({"patternProperties": {}}, 41, 0), ({"patternProperties": {"(": True}}, 41, 40), ({"patternProperties": {"a": 5}}, 41, 40),
+    ({"patternProperties": []}, 41, 40), ({"patternProperties": {"a": {"$ref": "x"}}}, 41, 42), ({"patternProperties": {"a": {"$ref": "#"}}}, 41, 0),
+    ({"patternProperties": {"a" * 4096: True}}, 41, 0), ({"patternProperties": {"a" * 4097: True}}, 41, 44),
+    ({"patternProperties": {f"a{number}": True for number in range(64)}}, 41, 0),
+    ({"patternProperties": {f"a{number}": True for number in range(64)}, "pattern": "a"}, 41, 44),
+    ({"type": "object", "patternProperties": {"a": True}}, 41, 45), ({"unevaluatedItems": False}, 41, 41), ({"$anchor": "a"}, 41, 41),
     ({"$ref": "#/allOf/0", "allOf": [True]}, 42, 42),
     ({"items": {"$id": "a"}}, 41, 41), ({"title": "x" * 262131}, 0, 0), ({"title": "x" * 262132, "pattern": "("}, 44, 44),
 ]
@@ -443,7 +462,7 @@ def formats_read_their_keywords(jpstore):
 
 
 def a_schema_of_profile_3_stays_in_format_3(jpstore):
-    for schema in ('{"dependentSchemas":{"a":{"maxProperties":1}}}', '{"pattern":"^a"}'):
+    for schema in ('{"dependentSchemas":{"a":{"maxProperties":1}}}', '{"pattern":"^a"}', '{"patternProperties":{"^a":true}}'):
         stays_in_format_3(jpstore, schema)
         os.unlink(jpstore.file)
 
@@ -451,7 +470,7 @@ def a_schema_of_profile_3_stays_in_format_3(jpstore):
 def stays_in_format_3(jpstore, schema):
     new = os.path.join(jpstore.folder, "new")
     newer = CREATE.replace("true", schema)
-    jpstore.run("format", jpstore.file, *SIXTEEN)
+    jpstore.run("format", jpstore.file, *BOTH)
     jpstore.shows("serve", jpstore.file, given=newer, output='{"error":"schema-keyword","number":41,"ok":false}\n')
     jpstore.shows("upgrade", jpstore.file, output=upgraded(3, 2))
     jpstore.shows("serve", jpstore.file, given=newer, output=DONE)
@@ -466,7 +485,7 @@ def stays_in_format_3(jpstore, schema):
 
 def upgrades_that_fail(jpstore):
     jpstore.fails("upgrade", jpstore.file, errors="jpstore: file\n")
-    jpstore.run("format", jpstore.file, *SIXTEEN)
+    jpstore.run("format", jpstore.file, *BOTH)
     with subprocess.Popen([jpstore.program, "serve", jpstore.file], stdin=subprocess.PIPE, stdout=subprocess.PIPE) as served:
         served.stdin.write(CREATE.encode())
         served.stdin.flush()

@@ -1,12 +1,14 @@
 #!/usr/bin/env python3
 """Compares the built program with other readings of the standards, on random documents.
 
-    differential.py PROGRAM [patches|schemas|changes|schemas-3|changes-3|queries ..] [--rounds N] [--seed S]
+    differential.py PROGRAM [patches|schemas|changes|sequences|schemas-3|changes-3|sequences-3|queries ..] [--rounds N] [--seed S]
 
 - patches: what a patch makes of a document, or which operation refuses it, by RFC 6902 and 6901 as this file reads them;
 - schemas: whether a document is valid under a schema, by the Python package `jsonschema` (draft 2020-12);
 - changes: the same of what a patch makes of a document that is valid under a schema;
-- schemas-3, changes-3: the same in a store of format 3, with `dependentSchemas` and `pattern`, which Python's `re` judges;
+- sequences: the same of two to eight operations, each of which can be made, through documents that may not be valid;
+- schemas-3, changes-3, sequences-3: the same in a store of format 3, with `dependentSchemas`, and with `pattern` and
+  `patternProperties`, which Python's `re` judges;
 - queries: the nodelist of a query with its normalized paths, by RFC 9535 as this file reads it.
 
 None of the expected values is the program's own. It prints each difference with the lines that show it, and ends with
@@ -174,6 +176,12 @@ def random_operation(choose, root):
     return operation
 
 
+def moves_in(operation):
+    """Whether a value is moved into itself."""
+    at, to = tokens_of(operation.get("from", "")), tokens_of(operation["path"])
+    return operation["op"] == "move" and len(to) > len(at) and to[: len(at)] == at
+
+
 def random_patch(choose, root, most):
     """Some operations, what they make of the document, and which of them is at fault, if one is."""
     made, fault, operations = copy.deepcopy(root), None, []
@@ -185,12 +193,8 @@ def random_patch(choose, root, most):
         except Refused:
             fault = number
             break
-    moves_in = [
-        number for number, each in enumerate(operations)
-        if each["op"] == "move" and len(tokens_of(each["path"])) > len(tokens_of(each["from"]))
-        and tokens_of(each["path"])[: len(tokens_of(each["from"]))] == tokens_of(each["from"])
-    ]
-    return operations, made, moves_in[0] if moves_in else fault
+    into_themselves = [number for number, each in enumerate(operations) if moves_in(each)]
+    return operations, made, into_themselves[0] if into_themselves else fault
 
 
 def patch_lines(schema, root, operations):
@@ -219,7 +223,10 @@ def patch_case(choose):
 TYPES = ["null", "boolean", "integer", "string", "array", "object", "number"]
 
 # The keywords of profile 3 alone.
-NEWER = ("dependentSchemas", "pattern")
+NEWER = ("dependentSchemas", "pattern", "patternProperties")
+
+# What is chosen beside `patternProperties`: its keywords are those of the same members.
+BESIDE = ("properties", "additionalProperties", "propertyNames", "required", "maxProperties")
 
 # Patterns of the store, each with one of Python's module `re` that finds the same, by what both say of themselves.
 PATTERNS = {
@@ -235,11 +242,28 @@ def judge(schema):
     """The judge of documents under a schema, from outside."""
     from jsonschema import Draft202012Validator, ValidationError, validators
 
+    def matches(pattern, text):
+        return re.search(PATTERNS[pattern], text)
+
     def pattern(_validator, pattern, doc, _schema):
-        if isinstance(doc, str) and not re.search(PATTERNS[pattern], doc):
+        if isinstance(doc, str) and not matches(pattern, doc):
             yield ValidationError("no match")
 
-    return validators.extend(Draft202012Validator, {"pattern": pattern})(schema)
+    def members(doc):
+        return doc.items() if isinstance(doc, dict) else ()
+
+    def pattern_properties(validator, schemas, doc, _schema):
+        for name, value in members(doc):
+            for pattern in filter(lambda each: matches(each, name), schemas):
+                yield from validator.descend(value, schemas[pattern], path=name)
+
+    def additional_properties(validator, other, doc, schema):
+        for name, value in members(doc):
+            if name not in schema.get("properties", {}) and not any(matches(each, name) for each in schema.get("patternProperties", {})):
+                yield from validator.descend(value, other, path=name)
+
+    keywords = {"pattern": pattern, "patternProperties": pattern_properties, "additionalProperties": additional_properties}
+    return validators.extend(Draft202012Validator, keywords)(schema)
 
 
 def random_schema(choose, levels, profile=2):
@@ -248,7 +272,8 @@ def random_schema(choose, levels, profile=2):
     keywords = random_keywords(choose, lambda: random_schema(choose, levels - 1, profile))
     newer = [choose.choice(NEWER)] if profile > 2 else []
     count = choose.randrange(3) if newer else choose.randrange(1, 5)
-    return {keyword: keywords[keyword]() for keyword in newer + choose.sample(sorted(keywords.keys() - NEWER), count)}
+    others = BESIDE if "patternProperties" in newer and choose.random() < 0.7 else sorted(keywords.keys() - NEWER)
+    return {keyword: keywords[keyword]() for keyword in newer + choose.sample(others, count)}
 
 
 def random_keywords(choose, inner):
@@ -279,6 +304,7 @@ def random_keywords(choose, inner):
         "allOf": several, "anyOf": several, "oneOf": several, "not": inner,
         "if": inner, "then": inner, "else": inner, "$ref": lambda: "#/$defs/d",
         "dependentSchemas": members, "pattern": lambda: choose.choice(list(PATTERNS)),
+        "patternProperties": lambda: {pattern: inner() for pattern in choose.sample(list(PATTERNS), choose.randrange(4))},
     }
 
 
@@ -303,13 +329,18 @@ def schema_case(choose, profile=2):
     return lines + [{"cmd": "delete", "name": f"d{number}"} for number in range(len(documents))], fits
 
 
+def valid_pair(choose, profile, levels):
+    """A random schema, and a random document of at most this many levels that it accepts."""
+    while True:
+        schema = with_definitions(random_schema(choose, 3, profile), random_schema(choose, 2, profile))
+        root = document(choose, levels)
+        if judge(schema).is_valid(root):
+            return schema, root
+
+
 def change_case(choose, profile=2):
     """The lines of a patch under a schema that accepts the document. What it makes has to be valid too."""
-    root, is_accepted = None, False
-    while not is_accepted:
-        schema = with_definitions(random_schema(choose, 3, profile), random_schema(choose, 2, profile))
-        root = document(choose, 3)
-        is_accepted = judge(schema).is_valid(root)
+    schema, root = valid_pair(choose, profile, 3)
     # Most of them are at fault, and a few of these are enough.
     tries = [random_patch(choose, root, 3) for _ in range(6)]
     operations, made, fault = next((it for it in tries if it[2] is None), tries[0])
@@ -319,6 +350,36 @@ def change_case(choose, profile=2):
         number = 45 if fault is None else replies[1].get("number")
         answered = replies[1]["ok"] if is_made else replies[1].get("number") == number and replies[1].get("op") == fault
         return answered and same(replies[2]["value"], made if is_made else root)
+
+    return patch_lines(schema, root, operations), fits
+
+
+def sequence_case(choose, profile=2):
+    """The lines of a patch of two to eight operations that can all be made. What the last makes has to be valid."""
+    schema, root = True, None
+    while schema in (True, {}) or not isinstance(root, (list, dict)):
+        schema, root = valid_pair(choose, profile, 4)
+    made, operations, tries = copy.deepcopy(root), [], 0
+    count = choose.randrange(2, 9)
+    while len(operations) < count and tries < 200:
+        tries += 1
+        operation = random_operation(choose, made)
+        # The root is seldom replaced, since that ends what the others did.
+        if moves_in(operation) or operation["path"] == "" and choose.random() < 0.9:
+            continue
+        try:
+            after = applied(copy.deepcopy(made), copy.deepcopy(operation))
+        except Refused:
+            continue
+        # Most steps lead to another document that is valid.
+        if judge(schema).is_valid(after) or choose.random() < 0.3:
+            made = after
+            operations.append(operation)
+    is_valid = judge(schema).is_valid(made)
+
+    def fits(replies):
+        answered = replies[1]["ok"] if is_valid else replies[1].get("number") == 45
+        return answered and same(replies[2]["value"], made if is_valid else root)
 
     return patch_lines(schema, root, operations), fits
 
@@ -512,8 +573,9 @@ def query_case(choose):
 
 
 CASES = {
-    "patches": patch_case, "schemas": schema_case, "changes": change_case, "schemas-3": functools.partial(schema_case, profile=3),
-    "changes-3": functools.partial(change_case, profile=3), "queries": query_case,
+    "patches": patch_case, "schemas": schema_case, "changes": change_case, "sequences": sequence_case, "schemas-3": functools.partial(schema_case, profile=3),
+    "changes-3": functools.partial(change_case, profile=3), "sequences-3": functools.partial(sequence_case, profile=3),
+    "queries": query_case,
 }
 
 

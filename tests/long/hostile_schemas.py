@@ -153,7 +153,14 @@ def dependent(depth):
     return made
 
 
+def by_patterns(count, schema):
+    return {'patternProperties': {'^%s.*%d$' % (short(i)[1:], i % 10): schema for i in range(count)}}
+
+
 MEGABYTE = 1000000
+MEMBERS = {'%s%d' % (short(i), i % 10): 0 for i in range(46656)}
+OTHER_MEMBERS = {'-%s' % name: 0 for name in MEMBERS}
+MEMBER_PATCHES = [{'cmd': 'patch', 'name': 'd', 'ops': [{'op': 'add', 'path': '/a%d' % i, 'value': 1}]} for i in range(200)]
 
 # The same of patterns, in stores of format 3. A text of 1 MB is searched for what takes the most steps.
 PATTERN_CASES = [
@@ -188,6 +195,21 @@ PATTERN_CASES = [
     ('the same pattern for 100,000 texts', {'items': patterned('^(a|b)*c$')}, ['abc'] * 100000, [], OK),
     ('64 patterns for 10,000 texts', {'items': {'allOf': [patterned('^(a|b)*c$')] * 64}}, ['abc'] * 10000, [], OK),
     ('a name of 1 MB', {'propertyNames': {'not': patterned('(a|aa)+$')}}, {'a' * (MEGABYTE - 10) + 'b': 0}, [], OK),
+    ('64 patterns of members, 46,656 members', by_patterns(64, {'type': 'integer'}), MEMBERS, [], OK),
+    ('the same, other members refused', {**by_patterns(64, True), 'additionalProperties': False}, MEMBERS, [], INVALID),
+    ('64 patterns, 46,656 other members', {**by_patterns(64, False), 'additionalProperties': {'type': 'integer'}}, OTHER_MEMBERS, [], OK),
+    ('200 patches of a member among 46,656', by_patterns(64, {'type': 'integer'}), MEMBERS, MEMBER_PATCHES, OK),
+    ('65 patterns of members', by_patterns(65, True), {}, [], TOO_LARGE),
+    ('10,000 patterns of members', {'patternProperties': {'a%d' % i: True for i in range(10000)}}, {}, [], TOO_LARGE),
+    ('64 times one pattern of members', {'allOf': [{'patternProperties': {'^(a|b|c)*0$': {'type': 'integer'}}}] * 64}, MEMBERS, [], OK),
+    ('10,000 names, 63 patterns and no others', {'properties': dict.fromkeys(list(OTHER_MEMBERS)[:10000], True), **by_patterns(63, True), 'additionalProperties': False},
+     dict.fromkeys(list(OTHER_MEMBERS)[:10000], 0), [], OK),
+    ('twice below each name by two patterns, 62 high', {'patternProperties': {'x': {'$ref': '#'}, '^.$': {'$ref': '#'}}}, nest(62), [], OK),
+    ('the same, with others', {'patternProperties': {'x': {'$ref': '#'}, 'y': {'$ref': '#'}}, 'additionalProperties': {'$ref': '#'},
+                               'propertyNames': {'$ref': '#'}}, nest(62), [], OK),
+    ('10,000 objects of four members by 64 patterns', {'items': by_patterns(64, {'type': 'integer'})}, [{'aa0': 0, 'ab1': 1, 'b': 2, 'c': 3}] * 10000, [], OK),
+    ('a name of 1 MB by a pattern', {'patternProperties': {'(a|aa)+$': False}}, {'a' * (MEGABYTE - 10) + 'b': 0}, [], OK),
+    ('a name of 1 MB by 64 patterns', {'patternProperties': {'(%s|aa)+$' % ('a' * (i + 1)): False for i in range(64)}}, {'a' * (MEGABYTE - 10) + 'b': 0}, [], OK),
     ('31 schemas that depend on one name', dependent(31), {'a': 0}, [], OK),
     ('20,000 names with a schema each', {'dependentSchemas': {name: False for name in REQUIRED[:20000]}}, {name: 0 for name in REQUIRED[20000:20500]}, [], OK),
     ('200 patches of a text of 100,000 letters', patterned('^(a|aa)+$'), 'a' * 100000, [{'cmd': 'patch', 'name': 'd', 'ops': []}] * 200, OK),
