@@ -99,6 +99,7 @@ fn has_version(rt: &impl Abort, journal: &Journal<MemDisk>, version: u32) {
 
 /// Brings a journal to format 2, with that frame.
 fn migrate(rt: &impl Abort, journal: &mut Journal<MemDisk>) {
+    assert!(rt; !journal.rides());
     assert!(rt; FORMAT_2.len() as u64 <= journal.capacity());
     journal.migrate(FORMAT_2).expect(rt, "migrated");
     assert_eq!(rt; (journal.active_half(), journal.opens()), (1, 1));
