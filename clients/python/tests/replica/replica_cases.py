@@ -430,7 +430,8 @@ def full_store(folder, program):
     """A change without room is refused by the log at every node, and none of them ends; a delete makes room again."""
     capacity = 66_000
     room = room_of(capacity)
-    with cluster(folder, program, (300, 600, 4096), capacity) as nodes:
+    # The first file has little more room than that.
+    with cluster(folder, program, ({2: 300, 3: 416}[FORMAT[0]], 600, 4096), capacity) as nodes:
         text, made = "x" * 3000, 0
         replies = nodes.ask("a", *[create(f"n{number}", text) for number in range(30)])
         made = sum(reply["ok"] for reply in replies)
@@ -586,7 +587,8 @@ def found_by_comparing(folder, program, old, new):
         states(nodes)
         for node in NODES:
             nodes.stop(node)
-        changed_file(nodes.file("c"), old, new)
+        with in_format_2(nodes, "c"):
+            changed_file(nodes.file("c"), old, new)
         for node in NODES:
             nodes.start(node, "--compare", "1")
         assert nodes.ended("c") == 12, nodes.output("c")
@@ -594,6 +596,18 @@ def found_by_comparing(folder, program, old, new):
         assert [nodes.processes[node].poll() for node in "ab"] == [None, None]
         nodes.start("c")
         assert nodes.ended("c") == 12 and "has left the log" in nodes.output("c")
+
+
+@contextlib.contextmanager
+def in_format_2(nodes, node):
+    """A node's file is in format 2 meanwhile: in format 3 its bytes have checksums."""
+    words = [nodes.program, "upgrade", nodes.file(node), "--format"]
+    number = FORMAT[0]
+    if number != 2:
+        subprocess.run([*words, "2"], check=True, stdout=subprocess.DEVNULL)
+    yield
+    if number != 2:
+        subprocess.run([*words, str(number)], check=True, stdout=subprocess.DEVNULL)
 
 
 def changed_file(path, old, new):
