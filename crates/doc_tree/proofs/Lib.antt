@@ -11,3 +11,4 @@ pub mod Soundness
 pub mod Stripping
 pub mod Events
 pub mod Cursors
+pub mod Matching

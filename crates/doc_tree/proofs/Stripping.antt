@@ -1,23 +1,11 @@
 -- What bytes begin with, part by part.
-use Rattle.std.proofs.Common.{◌≡◌, ℕ, ◌+◌, Bool, true, false, List, ◌∷◌, ◌++◌, append_assoc, length, take, drop, sym, ap, ◌∙◌}
-use Rattle.std.proofs.Common.{Option, None, Some, MatchOption, IfSome}
+use Rattle.std.proofs.Common.{◌≡◌, ℕ, Bool, true, List, ◌∷◌, ◌++◌, append_assoc, sym, ap, ◌∙◌}
+use Rattle.std.proofs.Common.{Option, None, Some, IfSome}
 use denote.Ref.{Bor}
-use Rattle.std.proofs.lemmas.Bool.Decides.{Decides-eqb}
-use Rattle.std.proofs.lemmas.Slice.Eq.{strip_prefix_is}
-use Rattle.std.specs.Cmp.Lexicographic.{pointwise}
-use lib.Dec.{eqb}
 use Rattle.json.specs.Print.{quoted}
 use Rattle.serde_json.specs.Written.{comma_if}
 use Rattle.doc_tree.specs.Doc.{Doc, Elements, element, Members, member}
 use Rattle.doc_tree.specs.Text.{text_of, elements_text, members_text_of}
-
--- what `strip_prefix` says of bytes
-pub stripped : (s p : List ℕ) (r : Option (Bor (List ℕ)))
-    → MatchOption r (pointwise eqb (take (length p) s) p ≡ false) (λ x. (pointwise eqb (take (length p) s) p ≡ true)
-    × (x.now ≡ drop (length p) s) × (length x.now + length p ≡ length s))
-    → IfSome r (λ x. s ≡ p ++ x.now)
-stripped s p None h = tt
-stripped s p (Some x) h = strip_prefix_is Decides-eqb s p (Some x) h
 
 -- one element, and what follows it
 pub one_element : (later : Bool) (d : Doc) (ds : Elements) (a b e more : List ℕ) → a ≡ comma_if later ++ b → b ≡ text_of d ++ e

@@ -9,4 +9,5 @@ pub mod Text
 pub mod Read
 pub mod Fault
 pub mod Sound
+pub mod Spans
 pub mod Rows

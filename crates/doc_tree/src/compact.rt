@@ -4,11 +4,12 @@
 //! read with `Tree::read` if nothing is answered. So all that is proved here is that it ends and never panics, whatever
 //! the bytes are.
 use crate::alike;
+use crate::plain::plain_len;
 use crate::strip::strip_byte;
 use crate::tree::Tree;
 use name_map::NameMap;
+use simdutf8::basic::from_utf8;
 use std::alloc::Global;
-use std::str;
 
 // How deep lists and objects may nest: as deep as `Tree::read` reads.
 const MOST_LEVELS: u32 = 127;
@@ -38,10 +39,9 @@ pub fn read_unescaped(alloc: Global, bytes: &[u8]) -> Option<(String, &[u8])> {
 // The same as a part of the bytes.
 fn unescaped(bytes: &[u8]) -> Option<(&str, &[u8])> {
     let inside = strip_byte(b'"', bytes)?;
-    let end = inside.iter().position(|byte| ends_plain(*byte))?;
-    let (plain, rest) = inside.split_at(end);
+    let (plain, rest) = inside.split_at(plain_len(inside));
     let rest = strip_byte(b'"', rest)?;
-    Some((str::from_utf8(plain).ok()?, rest))
+    Some((from_utf8(plain).ok()?, rest))
 }
 
 // `like` is a tree that may look like the one to be read, and then shares its names with it.
@@ -126,7 +126,10 @@ fn members<'b>(
 
 fn comes_after(name: &[u8], last: Option<&[u8]>) -> bool {
     match last {
-        Some(last) => last < name,
+        Some(last) => match (last.first(), name.first()) {
+            (Some(before), Some(first)) if before != first => before < first,
+            _ => last < name,
+        },
         None => true,
     }
 }
@@ -156,9 +159,4 @@ fn value_of(digits: &[u8]) -> Option<i64> {
         size = size * 10 + u64::from(digit.saturating_sub(b'0'));
     }
     i64::try_from(size).ok()
-}
-
-// Whether the byte ends a text, or is written with an escape.
-fn ends_plain(byte: u8) -> bool {
-    byte < 32 || byte == b'"' || byte == b'\\'
 }

@@ -2,11 +2,11 @@
 ghost use Rattle.std.specs.Fmt.{signed_decimal};
 ghost use Rattle.std.specs.Prelude.{◌≡◌, ◌+◌, ◌<◌, ◌≤◌, false, length, MatchOption};
 ghost use Rattle.std.specs.Option.{SomeIff};
-ghost use Rattle.std.specs.Bool.{OnTrue};
-ghost use Rattle.json.specs.Print.{quoted, escape, escape_byte};
+ghost use Rattle.json.specs.Print.{quoted, escape_byte};
 ghost use Rattle.doc_tree.specs.Text.{text_of, elements_text, members_text_of};
 ghost use Rattle.doc_tree.specs.TreeView.{view, elements_view, members_view};
 
+use crate::plain::is_plain;
 use crate::tree::Tree;
 use name_map::NameMap;
 
@@ -92,24 +92,6 @@ fn room_after_quoted(text: &str, room: u64) -> Option<u64>
         left = left.checked_sub(escaped_len(*byte))?;
     }
     Some(left)
-}
-
-// Whether no byte takes an escape. No byte ends the loop, so that it goes over many at once.
-fn is_plain(bytes: &[u8]) -> bool
-    ensures { OnTrue result (length (escape bytes.now) ≡ length bytes.now) }
-{
-    let mut plain = true;
-    for byte in bytes {
-        plain &= takes_no_escape(*byte);
-    }
-    plain
-}
-
-#[tactic(auto, unfolding(json::specs::Print::escape_byte))]
-fn takes_no_escape(byte: u8) -> bool
-    ensures { OnTrue result (length (escape_byte byte) ≡ 1) }
-{
-    (byte >= 32) & (byte != b'"') & (byte != b'\\')
 }
 
 #[tactic(auto, unfolding(json::specs::Print::escape_byte))]

@@ -1,12 +1,14 @@
 //! The comparison of bytes with the compact text of a document, with no text made.
 ghost use Rattle.std.specs.Fmt.{signed_decimal};
-ghost use Rattle.std.specs.Prelude.{◌≡◌, ◌∷◌, ◌++◌, [], true, false, IfSome};
-ghost use Rattle.json.specs.Print.{quoted, escape, escape_byte};
+ghost use Rattle.std.specs.Prelude.{◌≡◌, ◌∷◌, ◌++◌, false, IfSome};
+ghost use Rattle.json.specs.Print.{quoted};
 ghost use Rattle.serde_json.specs.Written.{comma_if};
 ghost use Rattle.doc_tree.specs.Sound.{IsSound};
 ghost use Rattle.doc_tree.specs.Text.{text_of, elements_text, members_text_of};
 ghost use Rattle.doc_tree.specs.TreeView.{view, elements_view, members_view};
 
+use crate::front::is_same;
+use crate::plain::is_plain;
 use crate::tree::Tree;
 use name_map::NameMap;
 
@@ -40,10 +42,19 @@ pub fn strip_quoted<'b>(text: &str, bytes: &'b [u8]) -> Option<&'b [u8]>
 pub fn strip_bytes<'b>(first: &[u8], bytes: &'b [u8]) -> Option<&'b [u8]>
     ensures { IfSome result (λ rest. bytes.now ≡ first.now ++ rest.now) }
 {
-    bytes.strip_prefix(first)
+    if bytes.len() < first.len() {
+        return None;
+    }
+    let (front, rest) = bytes.split_at(first.len());
+    if is_same(first, front) {
+        Some(rest)
+    } else {
+        None
+    }
 }
 
 /// What follows that byte, in bytes that begin with it.
+#[inline]
 pub(crate) fn strip_byte(byte: u8, bytes: &[u8]) -> Option<&[u8]>
     ensures { IfSome result (λ rest. bytes.now ≡ byte ∷ rest.now) }
 {
@@ -111,23 +122,4 @@ fn after_int(n: i64, bytes: &[u8]) -> Option<&[u8]>
 {
     let mut buffer = itoa::Buffer::new();
     strip_bytes(buffer.format(n).as_bytes(), bytes)
-}
-
-// Whether each byte is written as it is.
-fn is_plain(text: &[u8]) -> bool
-    ensures { result ≡ true → escape text.now ≡ text.now }
-{
-    for byte in text {
-        if !is_plain_byte(*byte) {
-            return false;
-        }
-    }
-    true
-}
-
-#[tactic(auto, unfolding(json::specs::Print::escape_byte))]
-fn is_plain_byte(byte: u8) -> bool
-    ensures { result ≡ true → escape_byte byte ≡ byte ∷ [] }
-{
-    byte >= 32 && byte != b'"' && byte != b'\\'
 }
