@@ -11,7 +11,7 @@ use Rattle.schema_rules.specs.declared.keyword.Shape.TheVariants.{One, Several, 
 use Rattle.doc_schema.specs.Positions.{Position, position, offered_in, offered_each, offered_named, offered_below, offered_positions}
 use Rattle.doc_schema.specs.Defects.{has_defect, is_defective, is_root, HasDefect}
 use Rattle.schema_rules.specs.Profiles.{offered}
-use Rattle.schema_rules.specs.Schemas as alone
+use Rattle.schema_rules.specs.Subschemas as alone
 use Rattle.schema_rules.specs.declared.profile.Profile.{Profile}
 use Rattle.doc_schema.specs.declared.defects.Defect.{Defect}
 

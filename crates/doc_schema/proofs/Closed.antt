@@ -14,53 +14,16 @@ use Rattle.schema_rules.specs.declared.keyword.Keyword.TheVariants.{AllOf, AnyOf
 use Rattle.schema_rules.specs.declared.keyword.Shape.{Shape}
 use Rattle.schema_rules.specs.declared.keyword.Shape.TheVariants.{Plain, One, Several, Named}
 use Rattle.schema_rules.specs.Profiles.{offered}
-use Rattle.schema_rules.specs.Schemas as alone
 use Rattle.schema_rules.specs.declared.profile.Profile.{Profile}
 use Rattle.schema_rules.specs.declared.profile.Profile.TheVariants.{Three}
 use Rattle.doc_schema.specs.Positions.{Position, position, positions, positions_in, positions_each, positions_named, positions_below, offered_in, offered_each, offered_named, offered_below, offered_positions}
 use Rattle.doc_schema.specs.Loops.{target_location, elements_at, members_at, led_by, led_by_members, leads}
 use Rattle.doc_schema.specs.Schemas.{schemas, schemas_in, schemas_each, schemas_named, schemas_below, held_in, held_by, applied_by, applied_by_members, applied}
 use Rattle.doc_schema.proofs.Mapped.{In-map, of_map}
-use Rattle.doc_schema.proofs.Placed.{within, closed, found_below, defs_is}
-
-abbrev pub schema_of : Position → Doc
-schema_of p = p.schema
-
--- ---- the schemas of the positions
-
-two : (xs ys : List Position) (ds es : List Doc) → map schema_of xs ≡ ds → map schema_of ys ≡ es → map schema_of (xs ++ ys) ≡ ds ++ es
-two xs ys ds es e f = map-append schema_of xs ys ∙ ap₂ (λ a b. a ++ b) e f
-
-module _ (profile : Profile) where
-  mutual
-    schemas_are_in : (h : Shape) (here : List Place) (v : Doc) → map schema_of (offered_in profile h here v) ≡ alone.offered_in profile h v
-    schemas_are_in One here (object ms) = ap (λ l. object ms ∷ l) (schemas_are_below here ms)
-    schemas_are_in One here null = refl
-    schemas_are_in One here (boolean b) = refl
-    schemas_are_in One here (int z) = refl
-    schemas_are_in One here (text s) = refl
-    schemas_are_in One here (list ds) = refl
-    schemas_are_in Several here (list ds) = schemas_are_each here 0 ds
-    schemas_are_in Named here (object ms) = schemas_are_named here ms
-    schemas_are_in _ here _ = refl
-
-    schemas_are_each : (here : List Place) (n : ℕ) (ds : Elements) → map schema_of (offered_each profile here n ds) ≡ alone.offered_each profile ds
-    schemas_are_each here n no_elements = refl
-    schemas_are_each here n (element d ds) = two _ _ _ _ (schemas_are_in One (here ++ index n ∷ []) d) (schemas_are_each here (suc n) ds)
-
-    schemas_are_named : (here : List Place) (ms : Members) → map schema_of (offered_named profile here ms) ≡ alone.offered_named profile ms
-    schemas_are_named here no_members = refl
-    schemas_are_named here (member k d ms) = two _ _ _ _ (schemas_are_in One (here ++ name k ∷ []) d) (schemas_are_named here ms)
-
-    schemas_are_below : (here : List Place) (ms : Members) → map schema_of (offered_below profile here ms) ≡ alone.offered_below profile ms
-    schemas_are_below here no_members = refl
-    schemas_are_below here (member k d ms) = two _ _ _ _ (schemas_are_in (shape_of (offered profile (keyword_of k))) (here ++ name k ∷ []) d) (schemas_are_below here ms)
-
-  pub offered_are : (root : Doc) → map schema_of (offered_positions profile root) ≡ alone.offered_in profile One root
-  offered_are root = schemas_are_in One [] root
-
-pub schemas_are : (root : Doc) → map schema_of (positions root) ≡ schemas root
-schemas_are root = offered_are Three root
+use Rattle.schema_references.proofs.Kept.{defs_is}
+use Rattle.doc_schema.proofs.Placed.{within, closed, found_below}
+use Rattle.doc_schema.proofs.Bare.{two, schemas_are_below, schemas_are_named}
+pub use Rattle.doc_schema.proofs.Bare.{schema_of, offered_are, schemas_are}
 
 pub as_many : (root : Doc) → length (schemas root) ≡ length (positions root)
 as_many root = ap length (sym (schemas_are root)) ∙ length-map (positions root) schema_of
@@ -88,7 +51,7 @@ led_are root here If v = refl
 led_are root here Then v = refl
 led_are root here Else v = refl
 led_are root here DependentSchemas v = by_name_are here (members_in v)
-led_are root here Ref v = targets_are (target_location v) (target root v)
+led_are root here Ref v = targets_are (target_location root v) (target root v)
 led_are root here _ v = refl
 
 members_are : (root : Doc) (here : List Place) (ms : Members) → map schema_of (led_by_members root here ms) ≡ applied_by_members root ms

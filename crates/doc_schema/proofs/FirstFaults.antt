@@ -10,11 +10,10 @@ use Rattle.doc_tree.proofs.Sameness.{same-Decides}
 use Rattle.schema_graph.specs.Walks.{In, Walk, depth}
 use Rattle.schema_graph.proofs.Ranks.{any_length, front, long_walk, node_at, over_edge, walk_of}
 use Rattle.schema_graph.proofs.Rounds.{any_walk}
-use Rattle.schema_pattern.specs.Tables.{are_patterns}
 use Rattle.schema_rules.specs.PatternTexts.{offered_texts}
 use Rattle.schema_rules.specs.declared.profile.Profile.{Profile}
 use Rattle.doc_schema.specs.Defects.{HasDefect}
-use Rattle.doc_schema.specs.Faults.{IsFaultless, IsFirstFault, IsMalformed, IsTooLarge, IsTooLong, are_too_large, too_large, malformed, left_out, dangling, looped, is_malformed, is_too_large, is_too_long, is_marred, is_looped, first_number, first_fault}
+use Rattle.doc_schema.specs.Faults.{IsFaultless, IsFirstFault, IsMalformed, IsTooLarge, IsTooLong, are_too_large, too_large, malformed, left_out, dangling, looped, is_malformed, is_too_large, is_too_long, is_marred, is_looped, texts_fit, first_number, first_fault}
 use Rattle.doc_schema.specs.Loops.{HasSchemaLoop}
 use Rattle.doc_schema.specs.Schemas.{applied, schemas}
 use Rattle.doc_schema.specs.declared.defects.Defect.{Defect}
@@ -60,7 +59,7 @@ marred : (profile : Profile) (defect : Defect) (s : Doc) → Decides (is_marred 
 marred profile defect s = (λ e. told profile defect s (sym e), λ h. unless_false (is_marred profile defect s) (λ e. untold profile defect s (sym e) h))
 
 malformed_is : (profile : Profile) (s : Doc) → Decides (is_malformed profile s) (IsMalformed profile s)
-malformed_is profile s = either (is_marred profile Form s) (not (are_patterns (offered_texts profile s))) (marred profile Form s) (none_of (are_patterns (offered_texts profile s)))
+malformed_is profile s = either (is_marred profile Form s) (not (texts_fit profile s)) (marred profile Form s) (none_of (texts_fit profile s))
 
 -- a walk is no longer than the longest
 reaches : (s : Doc) (k : ℕ) (a b : Doc) → Walk (applied s) a b k → k ≤ depth (applied s) k a

@@ -1,8 +1,11 @@
 pub mod Mapped
+pub mod Bare
+mod Fitting
 pub mod Placed
 pub mod Asked
 pub mod Closed
 pub mod Fuel
+mod EarlierPlaces
 mod ProfileRows
 mod Offered
 pub mod FirstProfile
@@ -19,4 +22,5 @@ mod Thirteenths
 pub mod Reading
 mod DefectsBelow
 mod Searchless
+mod Near
 mod Collecting

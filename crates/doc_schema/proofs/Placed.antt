@@ -1,22 +1,27 @@
 -- Where a position leads are positions.
-use Rattle.std.proofs.Common.{◌≡◌, ℕ, suc, ◌⊎◌, inl, inr, ⊎_elim, Bool, true, false, if◌then◌else◌, List, [], ◌∷◌, ◌++◌, Option, Some, None, Ordering, Less, Equal, Greater, nat_cmp, refl, sym, subst, codes}
+use Rattle.std.proofs.Common.{◌≡◌, ℕ, suc, ◌⊎◌, inl, inr, ⊎_elim, Bool, true, false, if◌then◌else◌, List, [], ◌∷◌, ◌++◌, Option, Some, None, Ordering, Less, Equal, Greater, nat_cmp, decimal, map, refl, sym, ap, subst, ◌∙◌, append-nil, append_assoc}
 use Rattle.std.proofs.lemmas.Map.Lookups.{exact_bytes}
 use Rattle.std.specs.Cmp.Lexicographic.{slice_cmp}
-use Rattle.std.specs.Option.{option_to_list}
+use Rattle.std.specs.Option.{option_and_then, option_to_list}
 use Rattle.std.specs.Ordering.{match_ordering}
 use Rattle.std.specs.Str.{bytes_eq}
 use Rattle.doc_tree.specs.Doc.{Doc, null, boolean, int, text, list, object, Elements, no_elements, element, Members, no_members, member, get_member, Place, name, index}
 use Rattle.schema_graph.specs.Walks.{In, first, later}
 use Rattle.schema_graph.proofs.Among.{In-left, In-right, In-parts, none_in}
-use Rattle.schema_rules.specs.Keywords.{keyword_of, shape_of, for_any, for_numbers, for_sizes, for_children, in_place, of_core}
-use Rattle.schema_rules.specs.Parts.{elements_in, members_in, or_null, beside}
-use Rattle.schema_rules.specs.References.{target, definition, is_name, without_front}
+use Rattle.schema_rules.specs.Keywords.{keyword_of, shape_of}
+use Rattle.schema_rules.specs.Parts.{elements_in, members_in}
+use Rattle.schema_rules.specs.Pointers.{held_at, shape_at, walk}
+use Rattle.schema_rules.specs.References.{reached, spelled_by, target, tokens_to}
+use Rattle.schema_rules.specs.Anchors.{anchor_of, is_this, with_anchor}
+use Rattle.schema_references.proofs.Walked.{walk_step}
+use Rattle.doc_pointer.specs.Place.{element_named}
 use Rattle.schema_rules.specs.declared.keyword.Keyword.{Keyword}
-use Rattle.schema_rules.specs.declared.keyword.Keyword.TheVariants.{AllOf, AnyOf, OneOf, Not, If, Then, Else, DependentSchemas, Ref, Defs}
+use Rattle.schema_rules.specs.declared.keyword.Keyword.TheVariants.{AllOf, AnyOf, OneOf, Not, If, Then, Else, DependentSchemas, Ref}
 use Rattle.schema_rules.specs.declared.keyword.Shape.{Shape}
-use Rattle.schema_rules.specs.declared.keyword.Shape.TheVariants.{One, Several, Named}
+use Rattle.schema_rules.specs.declared.keyword.Shape.TheVariants.{Plain, One, Several, Named}
 use Rattle.doc_schema.specs.Positions.{Position, position, positions, positions_in, positions_each, positions_named, positions_below}
-use Rattle.doc_schema.specs.Loops.{definition_location, target_location, targets, elements_at, members_at, led_by, led_by_members, leads}
+use Rattle.doc_schema.specs.Loops.{after_place, index_named, place_at, places_along, location_by, place_with_anchor, target_location, targets, elements_at, members_at, led_by, led_by_members, leads}
+use Rattle.doc_schema.proofs.Bare.{schema_of, schemas_are}
 use Rattle.doc_schema.proofs.Mapped.{of_map}
 
 -- a schema is a position of itself
@@ -88,41 +93,77 @@ found_named here k (member l m ms) v e = by_order l m ms (slice_cmp nat_cmp k l)
         let is : v ≡ m = cc in
         In-left _ _ _ (subst (λ x. In (position (here ++ name k ∷ []) v) (positions_in One (here ++ name x ∷ []) m)) named (subst (λ x. In (position (here ++ name k ∷ []) v) (positions_in One (here ++ name k ∷ []) x)) is (itself (here ++ name k ∷ []) v)))
 
-pub defs_is : keyword_of (codes "$defs") ≡ Defs
-unfolding keyword_of for_any for_numbers for_sizes for_children in_place of_core
-defs_is = refl
+-- what is in an element that a token names is in the list
+found_each : (here : List Place) (n : ℕ) (k : List ℕ) (ds : Elements) (v : Doc) (q : Position) → element_named n k ds ≡ Some v → In q (positions_in One (here ++ index (index_named n k ds) ∷ []) v) → In q (positions_each here n ds)
+found_each here n k no_elements v q e i = absurd cc
+found_each here n k (element d ds) v q e i = by_test (bytes_eq (decimal n) k) e i (λ f j. found_each here (suc n) k ds v q f j)
+  where
+    by_test : (b : Bool) → (if b then Some d else element_named (suc n) k ds) ≡ Some v → In q (positions_in One (here ++ index (if b then n else index_named (suc n) k ds) ∷ []) v) → (element_named (suc n) k ds ≡ Some v → In q (positions_in One (here ++ index (index_named (suc n) k ds) ∷ []) v) → In q (positions_each here (suc n) ds)) → In q (positions_in One (here ++ index n ∷ []) d ++ positions_each here (suc n) ds)
+    by_test true f j rest = let is : v ≡ d = cc in In-left q _ _ (subst (λ x. In q (positions_in One (here ++ index n ∷ []) x)) is j)
+    by_test false f j rest = In-right q (positions_in One (here ++ index n ∷ []) d) _ (rest f j)
 
-in_defs : (ms : Members) (d : Doc) (n : List ℕ) (o : Option Doc) → get_member (codes "$defs") ms ≡ o → get_member n (members_in (or_null o)) ≡ Some d → In (position (name (codes "$defs") ∷ name n ∷ []) d) (positions_below [] ms)
-in_defs ms d n (Some (object dm)) e f =
-    found_below [] (codes "$defs") ms (object dm) (position (name (codes "$defs") ∷ name n ∷ []) d) e
-    (subst (λ k. In (position (name (codes "$defs") ∷ name n ∷ []) d) (positions_in (shape_of k) (name (codes "$defs") ∷ []) (object dm))) (sym defs_is) (found_named (name (codes "$defs") ∷ []) n dm d f))
-in_defs ms d n _ e f = absurd cc
+-- what is in the value that a token leads to is in the value before it
+held_placed : (h : Shape) (here : List Place) (k : List ℕ) (d v : Doc) (q : Position) → held_at h k d ≡ Some v → In q (positions_in (shape_at h k) (here ++ place_at h k d ∷ []) v) → In q (positions_in h here d)
+held_placed One here k (object ms) v q e i = later (found_below here k ms v q e i)
+held_placed Several here k (list ds) v q e i = found_each here 0 k ds v q e i
+held_placed Named here k (object ms) v q e i = within_named here ms (position (here ++ name k ∷ []) v) q (found_named here k ms v e) i
+held_placed One here k null v q e i = absurd cc
+held_placed One here k (boolean b) v q e i = absurd cc
+held_placed One here k (int z) v q e i = absurd cc
+held_placed One here k (text s) v q e i = absurd cc
+held_placed One here k (list ds) v q e i = absurd cc
+held_placed Several here k null v q e i = absurd cc
+held_placed Several here k (boolean b) v q e i = absurd cc
+held_placed Several here k (int z) v q e i = absurd cc
+held_placed Several here k (text s) v q e i = absurd cc
+held_placed Several here k (object ms) v q e i = absurd cc
+held_placed Named here k null v q e i = absurd cc
+held_placed Named here k (boolean b) v q e i = absurd cc
+held_placed Named here k (int z) v q e i = absurd cc
+held_placed Named here k (text s) v q e i = absurd cc
+held_placed Named here k (list ds) v q e i = absurd cc
+held_placed Plain here k d v q e i = absurd cc
 
--- a definition of the root is a position
-pub defined : (root d : Doc) (n : List ℕ) → get_member n (members_in (beside (codes "$defs") (members_in root))) ≡ Some d → In (position (name (codes "$defs") ∷ name n ∷ []) d) (positions root)
-defined (object ms) d n e = later (in_defs ms d n (get_member (codes "$defs") ms) refl e)
-defined _ d n e = absurd cc
+-- the schema at the end of the tokens is a position at the location that they lead to
+walk_placed : (ks : List (List ℕ)) (h : Shape) (here : List Place) (d q : Doc) → walk h ks d ≡ Some q → In (position (here ++ places_along h ks d) q) (positions_in h here d)
+walk_placed [] One here d q e =
+    let is : d ≡ q = cc in
+    subst (λ l. In (position l q) (positions_in One here d)) (sym (append-nil here)) (subst (λ x. In (position here x) (positions_in One here d)) is (itself here d))
+walk_placed [] Several here d q e = absurd cc
+walk_placed [] Named here d q e = absurd cc
+walk_placed [] Plain here d q e = absurd cc
+walk_placed (k ∷ ks) h here d q e = by_held (held_at h k d) refl (sym (walk_step h k ks d) ∙ e) (λ v f. walk_placed ks (shape_at h k) (here ++ place_at h k d ∷ []) v q f)
+  where
+    by_held : (o : Option Doc) → held_at h k d ≡ o → option_and_then (walk (shape_at h k) ks) o ≡ Some q → ((v : Doc) → walk (shape_at h k) ks v ≡ Some q → In (position ((here ++ place_at h k d ∷ []) ++ places_along (shape_at h k) ks v) q) (positions_in (shape_at h k) (here ++ place_at h k d ∷ []) v)) → In (position (here ++ place_at h k d ∷ after_place (places_along (shape_at h k) ks) (held_at h k d)) q) (positions_in h here d)
+    by_held None is f below = absurd cc
+    by_held (Some v) is f below =
+        let p = place_at h k d in
+        let rest = places_along (shape_at h k) ks v in
+        let there = below v f in
+        let moved = subst (λ l. In (position l q) (positions_in (shape_at h k) (here ++ p ∷ []) v)) (append_assoc here (p ∷ []) rest) there in
+        subst (λ o. In (position (here ++ p ∷ after_place (places_along (shape_at h k) ks) o) q) (positions_in h here d)) (sym is) (held_placed h here k d v (position (here ++ p ∷ rest) q) is moved)
 
-of_name : (root d : Doc) (n : List ℕ) (b : Bool) → (if b then get_member n (members_in (beside (codes "$defs") (members_in root))) else None) ≡ Some d → In (position (name (codes "$defs") ∷ name n ∷ []) d) (positions root)
-of_name root d n true e = defined root d n e
-of_name root d n false e = absurd cc
+-- the first schema that has an anchor is that of the first position
+anchor_placed : (s : List ℕ) (ps : List Position) (d : Doc) → with_anchor s (map schema_of ps) ≡ Some d → In (position (place_with_anchor s ps) d) ps
+anchor_placed s [] d e = absurd cc
+anchor_placed s (p ∷ ps) d e = by_test (is_this s (anchor_of p.schema)) e (λ f. anchor_placed s ps d f)
+  where
+    by_test : (b : Bool) → (if b then Some p.schema else with_anchor s (map schema_of ps)) ≡ Some d → (with_anchor s (map schema_of ps) ≡ Some d → In (position (place_with_anchor s ps) d) ps) → In (position (if b then p.location else place_with_anchor s ps) d) (p ∷ ps)
+    by_test true f rest = let is : p.schema ≡ d = cc in subst (λ x. In (position p.location x) (p ∷ ps)) is first
+    by_test false f rest = later (rest f)
 
-of_rest : (root d : Doc) (o : Option (List ℕ)) → definition root o ≡ Some d → In (position (definition_location o) d) (positions root)
-of_rest root d None e = absurd cc
-of_rest root d (Some n) e = of_name root d n (is_name n) e
-
-of_text : (root d : Doc) (b : Bool) (o : Option (List ℕ)) → (if b then Some root else definition root o) ≡ Some d → In (position (if b then [] else definition_location o) d) (positions root)
-of_text root d true o e = let is : root ≡ d = cc in subst (λ x. In (position [] x) (positions root)) is (itself [] root)
-of_text root d false o e = of_rest root d o e
-
-pub target_placed : (root v d : Doc) → target root v ≡ Some d → In (position (target_location v) d) (positions root)
-target_placed root (text s) d e = of_text root d (bytes_eq s (codes "#")) (without_front (codes "#/$defs/") s) e
-target_placed root _ d e = absurd cc
+pub target_placed : (root v d : Doc) → target root v ≡ Some d → In (position (target_location root v) d) (positions root)
+target_placed root v d e = by_tokens (tokens_to root v) (spelled_by root v) e
+  where
+    by_tokens : (o : Option (List (List ℕ))) (anchor : Option (List ℕ)) → reached root o anchor ≡ Some d → In (position (location_by root o anchor) d) (positions root)
+    by_tokens (Some ks) anchor f = walk_placed ks One [] root d f
+    by_tokens None None f = absurd cc
+    by_tokens None (Some s) f = anchor_placed s (positions root) d (ap (with_anchor s) (schemas_are root) ∙ f)
 
 targets_placed : (root v : Doc) (q : Position) → In q (targets root v) → In q (positions root)
-targets_placed root v q i = by_target (target root v) (target_placed root v) (of_map (position (target_location v)) q (option_to_list (target root v)) i)
+targets_placed root v q i = by_target (target root v) (target_placed root v) (of_map (position (target_location root v)) q (option_to_list (target root v)) i)
   where
-    by_target : (o : Option Doc) → ((d : Doc) → o ≡ Some d → In (position (target_location v) d) (positions root)) → (d : Doc) × In d (option_to_list o) × (position (target_location v) d ≡ q) → In q (positions root)
+    by_target : (o : Option Doc) → ((d : Doc) → o ≡ Some d → In (position (target_location root v) d) (positions root)) → (d : Doc) × In d (option_to_list o) × (position (target_location root v) d ≡ q) → In q (positions root)
     by_target None h r = none_in r.0 r.1
     by_target (Some s) h r = subst (λ x. In x (positions root)) r.2 (h r.0 (only s r.0 r.1))
       where

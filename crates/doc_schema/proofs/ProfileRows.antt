@@ -9,9 +9,12 @@ use Rattle.schema_rules.specs.Forms.{is_type, is_text, is_list_of_distinct, has_
 use Rattle.schema_rules.specs.Keywords.{keyword_of, shape_of, found, or_else, or_unknown, for_any, for_numbers, for_sizes, for_children, in_place, of_core, not_offered}
 use Rattle.schema_rules.specs.Parts.{elements_in, members_in, after, beside}
 use Rattle.schema_rules.specs.References.{is_dangling, target}
+use Rattle.schema_rules.specs.declared.profile.Profile.TheVariants.{Two}
+use Rattle.schema_references.proofs.Kept.{same_target}
+use Rattle.doc_schema.proofs.EarlierPlaces.{targets_alike}
 use Rattle.schema_rules.specs.Rules.{Ask, ask, asks, joins, at_each, of_each, by_place, by_name, each_named, if_named, of_others}
 use Rattle.schema_rules.specs.declared.keyword.Keyword.{Keyword}
-use Rattle.schema_rules.specs.declared.keyword.Keyword.TheVariants.{OfType, Enumeration, Constant, MultipleOf, Minimum, Maximum, ExclusiveMinimum, ExclusiveMaximum, MinLength, MaxLength, MinItems, MaxItems, UniqueItems, MinProperties, MaxProperties, Required, DependentRequired, Properties, AdditionalProperties, PropertyNames, PrefixItems, Items, Contains, MinContains, MaxContains, AllOf, AnyOf, OneOf, Not, If, Then, Else, Pattern, PatternProperties, DependentSchemas, Defs, Ref, Id, Dialect, LeftOut}
+use Rattle.schema_rules.specs.declared.keyword.Keyword.TheVariants.{OfType, Enumeration, Constant, MultipleOf, Minimum, Maximum, ExclusiveMinimum, ExclusiveMaximum, MinLength, MaxLength, MinItems, MaxItems, UniqueItems, MinProperties, MaxProperties, Required, DependentRequired, Properties, AdditionalProperties, PropertyNames, PrefixItems, Items, Contains, MinContains, MaxContains, AllOf, AnyOf, OneOf, Not, If, Then, Else, Pattern, PatternProperties, DependentSchemas, Anchor, Defs, Ref, Id, Dialect, LeftOut}
 use Rattle.doc_schema.specs.Loops.{led_by, elements_at}
 use Rattle.doc_schema.specs.Positions.{position}
 use Rattle.doc_schema.specs.Profile1Forms.{is_type_1, is_text_1, is_list_of_distinct_1, has_form_1, is_left_out_1, is_dangling_1}
@@ -33,6 +36,7 @@ demoted Else = LeftOut
 demoted Pattern = LeftOut
 demoted PatternProperties = LeftOut
 demoted DependentSchemas = LeftOut
+demoted Anchor = LeftOut
 demoted k = k
 
 abbrev Demoted : (List ℕ → Option Keyword) → (List ℕ → Option Keyword) → Type 0
@@ -76,7 +80,7 @@ core_demoted s = found_demoted ((codes "$defs", Defs) ∷ (codes "$ref", Ref) �
 
 not_offered_demoted : Demoted not_offered_1 not_offered
 unfolding not_offered_1 not_offered
-not_offered_demoted s = found_demoted ((codes "pattern", Pattern) ∷ (codes "patternProperties", PatternProperties) ∷ (codes "unevaluatedItems", LeftOut) ∷ (codes "unevaluatedProperties", LeftOut) ∷ (codes "dependentSchemas", DependentSchemas) ∷ (codes "$anchor", LeftOut) ∷ (codes "$dynamicRef", LeftOut) ∷ (codes "$dynamicAnchor", LeftOut) ∷ (codes "$vocabulary", LeftOut) ∷ []) s
+not_offered_demoted s = found_demoted ((codes "pattern", Pattern) ∷ (codes "patternProperties", PatternProperties) ∷ (codes "unevaluatedItems", LeftOut) ∷ (codes "unevaluatedProperties", LeftOut) ∷ (codes "dependentSchemas", DependentSchemas) ∷ (codes "$anchor", Anchor) ∷ (codes "$dynamicRef", LeftOut) ∷ (codes "$dynamicAnchor", LeftOut) ∷ (codes "$vocabulary", LeftOut) ∷ []) s
 
 or_else_demoted : (a b : Option Keyword) {a₁ b₁ : Option Keyword} → a₁ ≡ option_map demoted a → b₁ ≡ option_map demoted b → or_else_1 a₁ b₁ ≡ option_map demoted (or_else a b)
 or_else_demoted a b e f = ap₂ or_else_1 e f ∙ by_first a
@@ -135,6 +139,7 @@ same_form at_root MaxContains v w = absurd cc
 same_form at_root Pattern v w = absurd cc
 same_form at_root PatternProperties v w = absurd cc
 same_form at_root DependentSchemas v w = absurd cc
+same_form at_root Anchor v w = absurd cc
 same_form at_root OfType v w = ap₂ (λ a b. a || b) (type_alike v) (distinct_alike is_type_1 is_type type_alike v)
 same_form at_root Required v w = distinct_alike is_text_1 is_text text_alike v
 same_form true _ v w = refl
@@ -144,7 +149,7 @@ pub same_left_out : (at_root : Bool) (k : Keyword) (v : Doc) → is_left_out_1 a
 same_left_out true _ v = refl
 same_left_out false _ v = refl
 
-pub same_dangling : (root : Doc) (k : Keyword) (v : Doc) → is_dangling_1 root k v ≡ is_dangling root k v
+pub same_dangling : (root : Doc) (k : Keyword) (v : Doc) → is_dangling_1 root k v ≡ is_dangling Two root k v
 same_dangling root _ v = refl
 
 -- ---- assertions
@@ -239,23 +244,23 @@ of_others_alike known s (member k t ts) = by_test (is_some (get_member k known))
     by_test true same = same
     by_test false same = ap (λ l. ask s t ∷ l) same
 
-pub same_asks : (root : Doc) (ms : Members) (k : Keyword) (v t : Doc) → names_list (members_in (beside (codes "patternProperties") ms)) ≡ [] → WasOne k → asks_1 root ms k v t ≡ asks root ms k v t
-same_asks root ms PropertyNames v t none w = absurd cc
-same_asks root ms Contains v t none w = absurd cc
-same_asks root ms MaxContains v t none w = absurd cc
-same_asks root ms Then v t none w = absurd cc
-same_asks root ms Else v t none w = absurd cc
-same_asks root ms PatternProperties v t none w = absurd cc
-same_asks root ms DependentSchemas v t none w = absurd cc
-same_asks root ms Properties v t none w = each_named_alike v (members_in t)
-same_asks root ms AdditionalProperties v t none w = of_others_alike (members_in (beside (codes "properties") ms)) v (members_in t) ∙ sym (ap (λ ps. of_others (members_in (beside (codes "properties") ms)) ps v (members_in t)) none)
-same_asks root ms PrefixItems v t none w = by_place_alike (elements_in v) (elements_in t)
-same_asks root ms Items v t none w = of_each_alike v (after (length (elements_list (elements_in (beside (codes "prefixItems") ms)))) (elements_in t))
-same_asks root ms AllOf v t none w = at_each_alike (elements_in v) t
-same_asks root ms AnyOf v t none w = at_each_alike (elements_in v) t
-same_asks root ms OneOf v t none w = at_each_alike (elements_in v) t
-same_asks root ms Ref v t none w = if_named_alike (target root v) t []
-same_asks root ms _ v t none w = refl
+pub same_asks : (root : Doc) (ms : Members) (k : Keyword) (v t : Doc) → names_list (members_in (beside (codes "patternProperties") ms)) ≡ [] → WasOne k → is_dangling_1 root k v ≡ false → asks_1 root ms k v t ≡ asks root ms k v t
+same_asks root ms PropertyNames v t none w e = absurd cc
+same_asks root ms Contains v t none w e = absurd cc
+same_asks root ms MaxContains v t none w e = absurd cc
+same_asks root ms Then v t none w e = absurd cc
+same_asks root ms Else v t none w e = absurd cc
+same_asks root ms PatternProperties v t none w e = absurd cc
+same_asks root ms DependentSchemas v t none w e = absurd cc
+same_asks root ms Properties v t none w e = each_named_alike v (members_in t)
+same_asks root ms AdditionalProperties v t none w e = of_others_alike (members_in (beside (codes "properties") ms)) v (members_in t) ∙ sym (ap (λ ps. of_others (members_in (beside (codes "properties") ms)) ps v (members_in t)) none)
+same_asks root ms PrefixItems v t none w e = by_place_alike (elements_in v) (elements_in t)
+same_asks root ms Items v t none w e = of_each_alike v (after (length (elements_list (elements_in (beside (codes "prefixItems") ms)))) (elements_in t))
+same_asks root ms AllOf v t none w e = at_each_alike (elements_in v) t
+same_asks root ms AnyOf v t none w e = at_each_alike (elements_in v) t
+same_asks root ms OneOf v t none w e = at_each_alike (elements_in v) t
+same_asks root ms Ref v t none w e = ap (λ o. if_named_1 o t []) (same_target root v e) ∙ if_named_alike (target root v) t []
+same_asks root ms _ v t none w e = refl
 
 pub same_joins : (ms : Members) (k : Keyword) (v t : Doc) (bs : List Bool) → WasOne k → joins_1 k v t bs ≡ joins ms k v t bs
 same_joins ms Properties v t bs w = refl
@@ -283,12 +288,13 @@ elements_at_alike : (here : List Place) (n : ℕ) (ds : Elements) → elements_a
 elements_at_alike here n no_elements = refl
 elements_at_alike here n (element d ds) = ap (λ l. position (here ++ index n ∷ []) d ∷ l) (elements_at_alike here (suc n) ds)
 
-pub same_led : (root : Doc) (here : List Place) (k : Keyword) (v : Doc) → WasOne k → led_by_1 root here k v ≡ led_by root here k v
-same_led root here If v w = absurd cc
-same_led root here Then v w = absurd cc
-same_led root here Else v w = absurd cc
-same_led root here DependentSchemas v w = absurd cc
-same_led root here AllOf v w = elements_at_alike here 0 (elements_in v)
-same_led root here AnyOf v w = elements_at_alike here 0 (elements_in v)
-same_led root here OneOf v w = elements_at_alike here 0 (elements_in v)
-same_led root here _ v w = refl
+pub same_led : (root : Doc) (here : List Place) (k : Keyword) (v : Doc) → WasOne k → is_dangling_1 root k v ≡ false → led_by_1 root here k v ≡ led_by root here k v
+same_led root here If v w e = absurd cc
+same_led root here Then v w e = absurd cc
+same_led root here Else v w e = absurd cc
+same_led root here DependentSchemas v w e = absurd cc
+same_led root here AllOf v w e = elements_at_alike here 0 (elements_in v)
+same_led root here AnyOf v w e = elements_at_alike here 0 (elements_in v)
+same_led root here OneOf v w e = elements_at_alike here 0 (elements_in v)
+same_led root here Ref v w e = targets_alike root v e
+same_led root here _ v w e = refl

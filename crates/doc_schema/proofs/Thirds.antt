@@ -87,7 +87,7 @@ formed s none d i = by_form (lacks_form Form d) refl
     by_form true e =
         let p = to_position s d i in
         let lacks : lacks_form Form p.0.schema ≡ true = ap (lacks_form Form) p.2 ∙ e in
-        absurd (none (p.0, p.1, ap (λ b. b || some_member Three (is_wrong Form s (is_root p.0.location)) (members_in p.0.schema)) lacks))
+        absurd (none (p.0, p.1, ap (λ b. b || some_member Three (is_wrong Three Form s (is_root p.0.location)) (members_in p.0.schema)) lacks))
 
 pub thirds : (s : Doc) → (HasDefect Three Form s → ⊥) → 3 * length (schemas s) ≤ size s + 1
 thirds s none = third_in One s (formed s none)

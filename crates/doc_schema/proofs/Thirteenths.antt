@@ -80,7 +80,7 @@ core_long k = found_long ((codes "$defs", keywords.Defs) ∷ (codes "$ref", keyw
 
 left_long : (k : List ℕ) → Long k (not_offered k)
 unfolding not_offered escape_byte
-left_long k = found_long ((codes "pattern", keywords.Pattern) ∷ (codes "patternProperties", keywords.PatternProperties) ∷ (codes "unevaluatedItems", keywords.LeftOut) ∷ (codes "unevaluatedProperties", keywords.LeftOut) ∷ (codes "dependentSchemas", keywords.DependentSchemas) ∷ (codes "$anchor", keywords.LeftOut) ∷ (codes "$dynamicRef", keywords.LeftOut) ∷ (codes "$dynamicAnchor", keywords.LeftOut) ∷ (codes "$vocabulary", keywords.LeftOut) ∷ []) k refl
+left_long k = found_long ((codes "pattern", keywords.Pattern) ∷ (codes "patternProperties", keywords.PatternProperties) ∷ (codes "unevaluatedItems", keywords.LeftOut) ∷ (codes "unevaluatedProperties", keywords.LeftOut) ∷ (codes "dependentSchemas", keywords.DependentSchemas) ∷ (codes "$anchor", keywords.Anchor) ∷ (codes "$dynamicRef", keywords.LeftOut) ∷ (codes "$dynamicAnchor", keywords.LeftOut) ∷ (codes "$vocabulary", keywords.LeftOut) ∷ []) k refl
 
 name_long : (k : List ℕ) → is_long k (keyword_of k) ≡ true
 unfolding keyword_of

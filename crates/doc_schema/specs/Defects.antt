@@ -9,15 +9,17 @@ use Rattle.schema_rules.specs.Profiles.{offered}
 use Rattle.schema_rules.specs.References.{is_dangling}
 use Rattle.schema_rules.specs.declared.keyword.Keyword.{Keyword}
 use Rattle.schema_rules.specs.declared.profile.Profile.{Profile}
+use Rattle.schema_rules.specs.declared.profile.Profile.TheVariants.{Two}
 use Rattle.doc_schema.specs.Positions.{Position, offered_positions}
 use Rattle.doc_schema.specs.declared.defects.Defect.{Defect}
-use Rattle.doc_schema.specs.declared.defects.Defect.TheVariants.{Form, LeftOut, Reference}
+use Rattle.doc_schema.specs.declared.defects.Defect.TheVariants.{Form, LeftOut, Reference, ByPointer}
 
--- a member of a schema object is wrong: its value hasn't the keyword's form, it is left out, or it is a reference that names no schema
-abbrev pub is_wrong : Defect → Doc → Bool → Keyword → Doc → Bool
-is_wrong Form root at_root k v = not (has_form at_root k v)
-is_wrong LeftOut root at_root k v = is_left_out at_root k v
-is_wrong Reference root at_root k v = is_dangling root k v
+-- a member of a schema object is wrong: its value hasn't the keyword's form, it is left out, or it is a reference that names no schema (in the profile, or in profile 2)
+abbrev pub is_wrong : Profile → Defect → Doc → Bool → Keyword → Doc → Bool
+is_wrong profile Form root at_root k v = not (has_form at_root k v)
+is_wrong profile LeftOut root at_root k v = is_left_out at_root k v
+is_wrong profile Reference root at_root k v = is_dangling profile root k v
+is_wrong profile ByPointer root at_root k v = is_dangling Two root k v
 
 -- some member passes the test, a keyword that the profile doesn't offer as one that is left out
 abbrev pub some_member : Profile → (Keyword → Doc → Bool) → Members → Bool
@@ -33,7 +35,7 @@ lacks_form _ _ = false
 
 -- a schema, at the root or below it, has the defect: by itself or by a member
 abbrev pub is_defective : Profile → Defect → Doc → Bool → Doc → Bool
-is_defective profile defect root at_root s = lacks_form defect s || some_member profile (is_wrong defect root at_root) (members_in s)
+is_defective profile defect root at_root s = lacks_form defect s || some_member profile (is_wrong profile defect root at_root) (members_in s)
 
 abbrev pub is_root : List Place → Bool
 is_root [] = true

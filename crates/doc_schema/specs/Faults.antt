@@ -1,5 +1,5 @@
 -- The number that refuses a schema: that of the first of these faults that it has.
-use Rattle.std.specs.Prelude.{◌≡◌, ◌<◌, ◌⊎◌, ℕ, List, [], ◌∷◌, length, Bool, true, false, not, ◌||◌, nat_lt, nat_le, if◌then◌else◌, Option, Some, None}
+use Rattle.std.specs.Prelude.{◌≡◌, ◌<◌, ◌⊎◌, ℕ, List, [], ◌∷◌, length, Bool, true, false, not, ◌&&◌, ◌||◌, nat_lt, nat_le, if◌then◌else◌, Option, Some, None}
 use Rattle.std.specs.List.{list_any}
 use Rattle.doc_tree.specs.Doc.{Doc, height}
 use Rattle.doc_tree.specs.Text.{text_of}
@@ -8,6 +8,7 @@ use Rattle.doc_tree.specs.declared.tree.Tree.{Tree}
 use Rattle.refusals.specs.declared.numbers.TheConstants.{MEMORY, SCHEMA_FORM, SCHEMA_KEYWORD, SCHEMA_REF, SCHEMA_LOOP, SCHEMA_SIZE}
 use Rattle.schema_graph.specs.Walks.{depth}
 use Rattle.schema_pattern.specs.Tables.{are_patterns}
+use Rattle.schema_rules.specs.Anchors.{are_different, offered_anchors}
 use Rattle.schema_rules.specs.PatternTexts.{offered_texts}
 use Rattle.schema_rules.specs.declared.profile.Profile.{Profile}
 use Rattle.schema_rules.specs.declared.profile.Profile.TheVariants.{Three}
@@ -31,9 +32,13 @@ are_too_large ps = nat_lt 64 (length ps) || list_any (λ p. nat_lt 4_096 (length
 abbrev pub IsTooLarge : Profile → Doc → Type 0
 IsTooLarge profile s = IsTooLong s ⊎ (are_too_large (offered_texts profile s) ≡ true)
 
--- a value hasn't its form, or the text of a pattern is none
+-- the texts of patterns are patterns, and no two anchors are equal
+abbrev pub texts_fit : Profile → Doc → Bool
+texts_fit profile s = are_patterns (offered_texts profile s) && are_different (offered_anchors profile s)
+
+-- a value hasn't its form, the text of a pattern is none, or two anchors are equal
 abbrev pub IsMalformed : Profile → Doc → Type 0
-IsMalformed profile s = HasDefect profile Form s ⊎ (are_patterns (offered_texts profile s) ≡ false)
+IsMalformed profile s = HasDefect profile Form s ⊎ (texts_fit profile s ≡ false)
 
 -- nothing is wrong with the schema in the profile
 pub record IsFaultless (profile : Profile) (s : Doc) : Type 0 where
@@ -72,7 +77,7 @@ abbrev pub is_marred : Profile → Defect → Doc → Bool
 is_marred profile defect s = list_any (has_defect profile defect s) (offered_positions profile s)
 
 abbrev pub is_malformed : Profile → Doc → Bool
-is_malformed profile s = is_marred profile Form s || not (are_patterns (offered_texts profile s))
+is_malformed profile s = is_marred profile Form s || not (texts_fit profile s)
 
 -- from some schema a walk along those that apply to the instance itself has as many edges as there are schemas: it meets one twice
 abbrev pub is_looped : Doc → Bool

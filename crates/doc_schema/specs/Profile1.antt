@@ -54,7 +54,7 @@ positions_1 root = positions_in_1 One [] root
 abbrev pub is_wrong_1 : Defect → Doc → Bool → Keyword → Doc → Bool
 is_wrong_1 Form root at_root k v = not (has_form_1 at_root k v)
 is_wrong_1 Omitted root at_root k v = is_left_out_1 at_root k v
-is_wrong_1 Reference root at_root k v = is_dangling_1 root k v
+is_wrong_1 _ root at_root k v = is_dangling_1 root k v
 
 -- a schema was a boolean or an object (Core, section 4.3)
 abbrev pub lacks_form_1 : Defect → Doc → Bool

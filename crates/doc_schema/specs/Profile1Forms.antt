@@ -7,7 +7,7 @@ use Rattle.std.specs.Str.{bytes_eq}
 use Rattle.doc_tree.specs.Doc.{Doc, boolean, int, text, list, object, element}
 use Rattle.doc_tree.specs.Lists.{elements_list}
 use Rattle.schema_rules.specs.Assertions.{are_distinct}
-use Rattle.schema_rules.specs.References.{target}
+use Rattle.schema_rules.specs.EarlierReferences.{earlier_target}
 use Rattle.schema_rules.specs.declared.keyword.Keyword.{Keyword}
 use Rattle.schema_rules.specs.declared.keyword.Keyword.TheVariants.{OfType, Enumeration, MultipleOf, Minimum, Maximum, ExclusiveMinimum, ExclusiveMaximum, MinLength, MaxLength, MinItems, MaxItems, UniqueItems, MinProperties, MaxProperties, Required, Properties, PrefixItems, AllOf, AnyOf, OneOf, Defs, Ref, Id, Dialect, LeftOut}
 
@@ -94,5 +94,5 @@ is_left_out_1 at_root _ v = false
 
 -- the member is a reference that names no schema (Core, section 8.2.3.1)
 abbrev pub is_dangling_1 : Doc → Keyword → Doc → Bool
-is_dangling_1 root Ref v = is_none (target root v)
+is_dangling_1 root Ref v = is_none (earlier_target root v)
 is_dangling_1 root _ v = false

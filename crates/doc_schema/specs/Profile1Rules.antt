@@ -1,20 +1,20 @@
 -- The answers of the keywords of profile 1 on an instance: rows of its own, of which a later profile has no part.
 -- Shared are plain words about documents and answers: their parts, when two are equal, how many of some answers are
 -- true, which schema a reference names and at which location.
-use Rattle.std.specs.Prelude.{ℕ, suc, pos, int_le, int_lt, int_rem, ◌==◌, List, [], ◌∷◌, ◌++◌, length, Bool, true, false, not, ◌||◌, if◌then◌else◌, Option, Some, None, is_some, codes}
+use Rattle.std.specs.Prelude.{ℕ, suc, pos, int_le, int_lt, int_rem, ◌==◌, List, [], ◌∷◌, ◌++◌, length, map, Bool, true, false, not, ◌||◌, if◌then◌else◌, Option, Some, None, is_some, codes}
 use Rattle.std.specs.List.{list_any, list_all}
+use Rattle.std.specs.Option.{option_to_list}
 use Rattle.std.specs.Ordering.{int_eq}
 use Rattle.std.specs.Str.{bytes_eq, chars}
-use Rattle.doc_tree.specs.Doc.{Doc, null, boolean, int, text, list, object, Elements, no_elements, element, Members, no_members, member, get_member, Place, index}
+use Rattle.doc_tree.specs.Doc.{Doc, null, boolean, int, text, list, object, Elements, no_elements, element, Members, no_members, member, get_member, Place, name as place_named, index}
 use Rattle.doc_tree.specs.Lists.{elements_list, names_list}
 use Rattle.doc_tree.specs.Same.{same}
 use Rattle.schema_rules.specs.Assertions.{are_distinct}
 use Rattle.schema_rules.specs.Parts.{elements_in, members_in, after, beside}
-use Rattle.schema_rules.specs.References.{target}
+use Rattle.schema_rules.specs.EarlierReferences.{earlier_target, without_front}
 use Rattle.schema_rules.specs.Rules.{Ask, ask, every, some, how_many}
 use Rattle.schema_rules.specs.declared.keyword.Keyword.{Keyword}
 use Rattle.schema_rules.specs.declared.keyword.Keyword.TheVariants.{OfType, Enumeration, Constant, MultipleOf, Minimum, Maximum, ExclusiveMinimum, ExclusiveMaximum, MinLength, MaxLength, MinItems, MaxItems, UniqueItems, MinProperties, MaxProperties, Required, Properties, AdditionalProperties, PrefixItems, Items, AllOf, AnyOf, OneOf, Not, Ref}
-use Rattle.doc_schema.specs.Loops.{targets}
 use Rattle.doc_schema.specs.Positions.{Position, position}
 
 -- ---- what a keyword asserted by itself (Validation, section 6)
@@ -117,7 +117,7 @@ asks_1 root ms AllOf v t = at_each_1 (elements_in v) t
 asks_1 root ms AnyOf v t = at_each_1 (elements_in v) t
 asks_1 root ms OneOf v t = at_each_1 (elements_in v) t
 asks_1 root ms Not v t = ask v t ∷ []
-asks_1 root ms Ref v t = if_named_1 (target root v) t []
+asks_1 root ms Ref v t = if_named_1 (earlier_target root v) t []
 asks_1 root ms _ v t = []
 
 -- ---- how the answers were joined (Core, sections 8.2.3.1 and 10)
@@ -142,11 +142,24 @@ abbrev pub elements_at_1 : List Place → ℕ → Elements → List Position
 elements_at_1 here n no_elements = []
 elements_at_1 here n (element d ds) = position (here ++ index n ∷ []) d ∷ elements_at_1 here (suc n) ds
 
+-- the location of a definition of that name
+abbrev pub definition_location_1 : Option (List ℕ) → List Place
+definition_location_1 None = []
+definition_location_1 (Some n) = place_named (codes "$defs") ∷ place_named n ∷ []
+
+-- the location of the schema that a reference named, if it named one
+abbrev pub target_location_1 : Doc → List Place
+target_location_1 (text s) = if bytes_eq s (codes "#") then [] else definition_location_1 (without_front (codes "#/$defs/") s)
+target_location_1 _ = []
+
+abbrev pub targets_1 : Doc → Doc → List Position
+targets_1 root v = map (position (target_location_1 v)) (option_to_list (earlier_target root v))
+
 -- the schemas, with the location of the keyword's value (Core, sections 8.2.3.1 and 10.2)
 abbrev pub led_by_1 : Doc → List Place → Keyword → Doc → List Position
 led_by_1 root here AllOf v = elements_at_1 here 0 (elements_in v)
 led_by_1 root here AnyOf v = elements_at_1 here 0 (elements_in v)
 led_by_1 root here OneOf v = elements_at_1 here 0 (elements_in v)
 led_by_1 root here Not v = position here v ∷ []
-led_by_1 root here Ref v = targets root v
+led_by_1 root here Ref v = targets_1 root v
 led_by_1 root here _ v = []

@@ -1,6 +1,7 @@
-//! The judgement of an instance under a schema without patterns, by recursion over both. No memory is taken.
+//! The judgement of an instance under a schema without patterns, whose references are those of profile 2, by recursion
+//! over both. No memory is taken.
 
-ghost use Rattle.std.specs.Prelude.{◌≡◌, [], ◌==◌, Some, option_map, codes, if◌then◌else◌};
+ghost use Rattle.std.specs.Prelude.{◌≡◌, [], ◌==◌, Some, false, is_none, option_map, codes, if◌then◌else◌};
 ghost use Rattle.doc_tree.specs.Doc.{get_member, object};
 ghost use Rattle.doc_tree.specs.Lists.{names_list};
 ghost use Rattle.doc_tree.specs.TreeView.{view, elements_view, members_view};
@@ -9,7 +10,10 @@ ghost use Rattle.schema_rules.specs.Instances.{seen};
 ghost use Rattle.schema_rules.specs.Assertions.{at_least, at_most, on_list};
 ghost use Rattle.schema_rules.specs.Parts.{beside, elements_in, members_in};
 ghost use Rattle.schema_rules.specs.Rules.{asks, at_each, by_each, of_each, by_place, by_name, each_named, of_names, of_others, of_contained, at_target, after_if, every, some, how_many, where_true, where_false, where_present, with_if, with_schema, or_one};
+ghost use Rattle.schema_rules.specs.EarlierReferences.{earlier_target};
 ghost use Rattle.schema_rules.specs.PatternTexts.{texts_of};
+ghost use Rattle.schema_rules.specs.References.{is_dangling, target};
+ghost use Rattle.schema_rules.specs.declared.profile.Profile.TheVariants.{Two};
 ghost use Rattle.doc_schema.specs.Schemas.{schemas, IsPlain};
 ghost use Rattle.doc_schema.specs.Steps.{verdict, all_hold, holds, told, ArePlaced};
 
@@ -18,7 +22,9 @@ use crate::parts::{
 };
 use doc_tree::Tree;
 use name_map::NameMap;
-use schema_rules::{Instance, Keyword, asserts, has_member, keyword_named, member_named, target};
+use schema_rules::{
+    Instance, Keyword, asserts, earlier_target, has_member, keyword_named, member_named,
+};
 
 /// Whether the instance passes a schema of the whole one, `root`.
 #[cycle(judge)]
@@ -63,6 +69,7 @@ fn member_holds(
     requires plain { IsPlain (view root.now) }
     requires placed { ArePlaced (view root.now) (asks (view root.now) (members_view siblings.now.entries) keyword (view value.now) (seen instance)) }
     requires searchless { texts_of keyword (view value.now) ≡ [] }
+    requires near { is_dangling Two (view root.now) keyword (view value.now) ≡ false }
     requires unpatterned { names_list (members_in (beside (codes "patternProperties") (members_view siblings.now.entries))) ≡ [] }
     ensures { result ≡ holds (verdict (view root.now)) (view root.now) (members_view siblings.now.entries) keyword (view value.now) (seen instance.entry) }
 {
@@ -102,11 +109,19 @@ fn member_holds(
             Tree::Object(schemas) => present_accept(root, schemas, instance),
             _ => true,
         },
-        Keyword::Ref => found_accepts(root, target(root, value), instance),
+        Keyword::Ref => found_accepts(root, near_target(root, value), instance),
         Keyword::Pattern => true,
         Keyword::PatternProperties => true,
         _ => asserts(keyword, value, instance),
     }
+}
+
+// The schema that a reference of profile 2 names.
+fn near_target<'t>(root: &'t Tree, value: &Tree) -> Option<&'t Tree>
+    requires { is_none (earlier_target (view root.now) (view value.now)) ≡ false }
+    ensures { option_map (λ t. view t.now) result ≡ target (view root.now) (view value.now) }
+{
+    earlier_target(root, value)
 }
 
 // Whether each schema accepts.

@@ -1,7 +1,7 @@
 //! Laws of the definitions: most functions do nothing, and their contract is the law. `judge_source` judges by the schema's
 //! own tree, with nothing compiled.
 
-ghost use Rattle.std.specs.Prelude.{◌≡◌, ◌↔◌, ℕ, [], Bool, MatchOption, true, None, Some};
+ghost use Rattle.std.specs.Prelude.{◌≡◌, ◌↔◌, ℕ, [], Bool, IfOk, MatchOption, true, None, Some};
 ghost use Rattle.doc_tree.specs.Doc.{Doc, at};
 ghost use Rattle.doc_tree.specs.Sound.{IsSound};
 ghost use Rattle.schema_graph.specs.Walks.{In, IsLooped};
@@ -9,6 +9,8 @@ ghost use Rattle.doc_tree.specs.TreeView.{view};
 ghost use Rattle.schema_rules.specs.PatternTexts.{pattern_texts};
 ghost use Rattle.schema_rules.specs.declared.profile.Profile.{Profile};
 ghost use Rattle.schema_rules.specs.declared.profile.Profile.TheVariants.{Two, Three};
+ghost use Rattle.doc_schema.specs.Defects.{HasDefect};
+ghost use Rattle.doc_schema.specs.declared.defects.Defect.TheVariants.{ByPointer};
 ghost use Rattle.doc_schema.specs.Faults.{IsFaultless, IsFirstFault, first_fault};
 ghost use Rattle.doc_schema.specs.Judge.{IsSettledFor, Judges, judge};
 ghost use Rattle.doc_schema.specs.Loops.{HasSchemaLoop, leads};
@@ -19,10 +21,13 @@ ghost use Rattle.doc_schema.specs.Profile1.{IsFaultless_1, Judges_1};
 ghost use Rattle.doc_schema.specs.Schemas.{IsLoopedSchema};
 ghost use Rattle.doc_schema.specs.Steps.{verdict};
 
+use crate::defects::{Defect, some_position_has};
 use crate::judge::accepts_at;
 use crate::schema::Schema;
 use doc_tree::Tree;
-use schema_rules::Instance;
+use schema_references::Whole;
+use schema_rules::{Instance, Profile};
+use std::alloc::{AllocError, Global};
 
 /// For a schema without a loop the judgement is decided with steps that are enough, and every larger number agrees.
 pub fn enough_steps_decide()
@@ -89,15 +94,21 @@ pub fn changes_are_judged_where_they_reach()
 {}
 
 /// Whether the instance is valid under the schema, by recursion over the schema's tree: what `Schema::accepts` answers by
-/// what was compiled. None if the schema has patterns. Takes no memory. Its calls nest as deep as the instance's height
-/// times the longest chain of schemas, and it may judge a schema of a value more than once: for short schemas, and to
-/// compare with.
-pub fn judge_source(schema: &Schema, doc: &Tree) -> Option<bool>
-    ensures { MatchOption result (pattern_texts (view schema.now) ≡ [] → ⊥) (Judges (view schema.now) (view doc.now)) }
+/// what was compiled. None if the schema has patterns, or a reference that profile 2 hasn't. Its calls nest as deep as the
+/// instance's height times the longest chain of schemas, and it may judge a schema of a value more than once: for short
+/// schemas, and to compare with. An error means that memory ran out.
+pub fn judge_source(schema: &Schema, doc: &Tree, alloc: Global) -> Result<Option<bool>, AllocError>
+    ensures { IfOk result (λ found. MatchOption found
+        (pattern_texts (view schema.now) ≡ [] → (HasDefect Three ByPointer (view schema.now) → ⊥) → ⊥)
+        (Judges (view schema.now) (view doc.now))) }
 {
     if schema.has_patterns() {
-        return None;
+        return Ok(None);
     }
     let source = schema.source();
-    Some(accepts_at(source, source, Instance::Value(doc)))
+    let whole = Whole::of(source, alloc)?;
+    if some_position_has(Profile::Three, Defect::ByPointer, &whole, alloc)? {
+        return Ok(None);
+    }
+    Ok(Some(accepts_at(source, source, Instance::Value(doc))))
 }

@@ -1,6 +1,6 @@
 //! A schema that was read, and what it accepts.
 
-ghost use Rattle.std.specs.Prelude.{◌≡◌, ◌↔◌, [], IfErr, IfOk, IsTrue, MatchOption, false, map, true};
+ghost use Rattle.std.specs.Prelude.{◌≡◌, ◌↔◌, [], IfErr, IfOk, IsTrue, MatchOption, false, map, not, true};
 ghost use Rattle.doc_tree.specs.Doc.{Doc};
 ghost use Rattle.doc_tree.specs.Place.{place_of};
 ghost use Rattle.doc_tree.specs.Sound.{IsSound};
@@ -11,6 +11,7 @@ ghost use Rattle.doc_schema.specs.Judge.{Judges};
 ghost use Rattle.schema_changes.specs.Agree.{AgreeButShifted, AgreeOff, AgreeOffEach};
 ghost use Rattle.schema_nodes.specs.Compiled.{IsFound};
 ghost use Rattle.schema_pattern.specs.Tables.{pattern_sources, sources};
+ghost use Rattle.schema_rules.specs.Anchors.{are_different, offered_anchors};
 ghost use Rattle.schema_rules.specs.PatternTexts.{offered_texts, pattern_texts};
 ghost use Rattle.schema_rules.specs.declared.profile.Profile.TheVariants.{Two, Three};
 
@@ -25,6 +26,7 @@ use schema_changes::{passes_after, passes_again, passes_shifted};
 use schema_levels::passes;
 use schema_nodes::{Compiled, compile};
 use schema_pattern::{Pattern, Search, searches_of};
+use schema_references::Whole;
 use schema_rules::{Instance, Profile};
 use std::alloc::{AllocError, Global};
 use std::marker::Model;
@@ -289,21 +291,37 @@ fn check<'s>(profile: Profile, source: &'s Tree, alloc: Global) -> Result<Checke
             number: SCHEMA_SIZE,
         });
     }
-    if some_position_has(profile, Defect::Form, source) {
+    let whole = Whole::of(source, alloc)?;
+    if some_position_has(profile, Defect::Form, &whole, alloc)? {
         return Err(SchemaFault {
             number: SCHEMA_FORM,
         });
     }
     let patterns = patterns_of(&texts, alloc)?;
-    if some_position_has(profile, Defect::LeftOut, source) {
+    if has_equal_anchors(profile, &whole) {
+        return Err(SchemaFault {
+            number: SCHEMA_FORM,
+        });
+    }
+    if some_position_has(profile, Defect::LeftOut, &whole, alloc)? {
         return Err(SchemaFault {
             number: SCHEMA_KEYWORD,
         });
     }
-    if some_position_has(profile, Defect::Reference, source) {
+    if some_position_has(profile, Defect::Reference, &whole, alloc)? {
         return Err(SchemaFault { number: SCHEMA_REF });
     }
     Ok(Checked { texts, patterns })
+}
+
+// Whether two anchors that the profile offers are equal.
+fn has_equal_anchors(profile: Profile, whole: &Whole<'_>) -> bool
+    ensures { result ≡ not (are_different (offered_anchors profile (view whole.now))) }
+{
+    match profile {
+        Profile::Two => false,
+        Profile::Three => !whole.anchors_are_different(),
+    }
 }
 
 // Whether the text is too long, or it nests too deep.

@@ -10,7 +10,7 @@ use Rattle.schema_rules.specs.Schemas.{schemas}
 use Rattle.schema_levels.specs.declared.node.Node.{Node}
 use Rattle.schema_levels.specs.declared.run.TheConstants.{MOST_WORDS}
 use Rattle.schema_nodes.specs.declared.entries.Entry.{Entry}
-use Rattle.schema_nodes.specs.declared.rules.Targets.{Targets}
+use Rattle.schema_nodes.specs.declared.targets.Targets.{Targets}
 use Rattle.schema_nodes.specs.Compiled.{IsCompiled}
 use Rattle.schema_nodes.specs.Edges.{AreEdges}
 use Rattle.schema_nodes.specs.Entries.{doc_at, AreRows, AreEntries}
@@ -22,12 +22,12 @@ use Rattle.schema_nodes.proofs.Ordering.{ordered}
 use Rattle.schema_nodes.proofs.Searches.{HaveNumbers, all_searched}
 use Rattle.schema_nodes.proofs.RuleKinds.{schema_back, have_rows, within_entries}
 
-module _ (root : Doc) (es : List Entry) (whole : ℕ) (rows : List (Vec ℕ Global)) (ts : Targets) (are : AreEntries root es) (here : doc_at es whole ≡ Some root) (rows_are : AreRows (doc_at es) (members_in root) rows) (is : IsTargets root whole rows ts) where
+module _ (root : Doc) (es : List Entry) (whole : ℕ) (rows : List (Vec ℕ Global)) (ts : Targets) (are : AreEntries root es) (here : doc_at es whole ≡ Some root) (rows_are : AreRows (doc_at es) (members_in root) rows) (is : IsTargets root es whole rows ts) where
   -- whatever stands past the last
   pub targets_at : (x : Doc) → AreTargets (λ n. or_else x (doc_at es n)) root ts
   targets_at x =
       let same : (c : ℕ) (d : Doc) → doc_at es c ≡ Some d → or_else x (doc_at es c) ≡ d = λ c d h. ap (or_else x) h in
-      targets_are (λ n. or_else x (doc_at es n)) root whole rows ts is (have_rows (λ n. or_else x (doc_at es n)) es same (members_in root) rows rows_are) (same whole root here)
+      targets_are (λ n. or_else x (doc_at es n)) root es whole rows ts is (have_rows (λ n. or_else x (doc_at es n)) es same (members_in root) rows rows_are) are here same
 
   module _ (g : List (Vec ℕ Global)) (places ranks : List ℕ) (nodes : List Node) (edges : AreEdges ts root es g) (o : IsOrder g places ranks) (made : AreMade ts ranks root es places nodes)
       (many : length es ≡ length (schemas root)) (room : length (schemas root) ≤ 64 * MOST_WORDS) (patterns : patterns_of ts ≡ pattern_texts root) where
@@ -37,7 +37,7 @@ module _ (root : Doc) (es : List Entry) (whole : ℕ) (rows : List (Vec ℕ Glob
         let back = back_is g places ranks es many_edges o in
         let schema : ℕ → Doc = schema_of places es in
         let same = schema_back (boolean true) places ranks es back in
-        let targets : AreTargets (λ c. schema (at ranks c)) root ts = targets_are (λ c. schema (at ranks c)) root whole rows ts is (have_rows (λ c. schema (at ranks c)) es same (members_in root) rows rows_are) (same whole root here) in
+        let targets : AreTargets (λ c. schema (at ranks c)) root ts = targets_are (λ c. schema (at ranks c)) root es whole rows ts is (have_rows (λ c. schema (at ranks c)) es same (members_in root) rows rows_are) are here same in
         let bound : (c : ℕ) (d : Doc) → doc_at es c ≡ Some d → at ranks c < length places = λ c d h. (let lt = within_entries es c d h in let r = o.placed c (omega (arith, lt, many_edges)) in omega (arith, r.0, o.many_places)) in
         let all = made_many ts ranks root es places nodes made in
         let lt = bound whole root here in

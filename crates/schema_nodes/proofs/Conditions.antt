@@ -10,7 +10,7 @@ use Rattle.schema_graph.proofs.Among.{In-left, In-right, none_in}
 use Rattle.schema_rules.specs.Keywords.{keyword_of, shape_of}
 use Rattle.schema_rules.specs.Schemas.{held_in}
 use Rattle.schema_rules.specs.declared.keyword.Keyword.TheVariants as keywords
-use Rattle.schema_nodes.specs.declared.rules.Targets.{Targets}
+use Rattle.schema_nodes.specs.declared.targets.Targets.{Targets}
 use Rattle.schema_nodes.specs.Edges.{edges_at, edges_in}
 use Rattle.schema_nodes.specs.Fits.{single_number, if_found, row_named}
 use Rattle.schema_nodes.specs.Nodes.{Finds, HaveRows, Moved, AreMoved}

@@ -13,7 +13,11 @@ use Rattle.schema_rules.specs.Keywords.{keyword_of, shape_of}
 use Rattle.schema_rules.specs.Parts.{members_in, beside, or_null}
 use Rattle.doc_tree.proofs.Members.{get_member-first}
 use Rattle.schema_nodes.proofs.KeywordNames.{properties_name, get_later}
-use Rattle.schema_rules.specs.References.{target, definition, is_name, without_front}
+use Rattle.schema_rules.specs.EarlierReferences.{earlier_target, definition, is_name, without_front}
+use Rattle.schema_rules.specs.References.{reached as leads, spelled_by, target, tokens_to}
+use Rattle.schema_references.proofs.Kept.{stays}
+use Rattle.schema_nodes.specs.Entries.{doc_at}
+use Rattle.schema_nodes.proofs.Reaching.{by_schema, reached}
 use Rattle.schema_rules.specs.declared.keyword.Keyword.{Keyword}
 use Rattle.schema_rules.specs.declared.keyword.Keyword.TheVariants as keywords
 use Rattle.schema_rules.specs.Assertions.{asserts}
@@ -35,9 +39,9 @@ use Rattle.schema_levels.specs.Table.{rule_of}
 use Rattle.schema_levels.specs.declared.node.Node.{Node}
 use Rattle.schema_levels.specs.declared.node.Rule.{Rule}
 use Rattle.schema_levels.specs.declared.node.Rule.TheVariants.{Asserts, Then, Else}
-use Rattle.schema_nodes.specs.declared.rules.Targets.{Targets}
+use Rattle.schema_nodes.specs.declared.targets.Targets.{Targets}
 use Rattle.schema_nodes.specs.Nodes.{Suits, IsRule, IsNodeFor, Finds, HaveRows}
-use Rattle.schema_nodes.specs.Fits.{AreTargets, IsBuilt, IsMatch, number_in, pattern_number, patterns_of, number_by, if_found, target_number, first_of, IsReference, IsChoice, IsCount, IsLimit, AsksNoSchema, Around, Fits, FitAll, around, AreFitting, AsMany, AreSorted}
+use Rattle.schema_nodes.specs.Fits.{AreTargets, IsBuilt, IsMatch, number_in, pattern_number, patterns_of, number_by, number_at_end, unless_found, target_number, first_of, IsReference, IsChoice, IsCount, IsLimit, AsksNoSchema, Around, Fits, FitAll, around, AreFitting, AsMany, AreSorted}
 use Rattle.schema_nodes.proofs.Searches.{HaveNumbers}
 use Rattle.schema_nodes.proofs.Conditions.{contains_held, if_held, single_is}
 use Rattle.schema_nodes.proofs.RuleKinds.{is_all, is_any, is_one, is_dependent, is_not, is_then, is_no_then, is_else, is_no_else, is_reference, is_no_reference, is_match, is_no_match, is_assertion, is_nothing, is_properties, is_others, is_names, is_by_place, is_rest}
@@ -91,7 +95,7 @@ module _ (schema : ℕ → Doc) (root : Doc) (ts : Targets) (targets : AreTarget
   by_text true o d e = ap (λ x. Some x) targets.whole ∙ e
   by_text false o d e = by_name o d e
 
-  by_value : (v d : Doc) → target root v ≡ Some d → option_map schema (number_by ts v) ≡ Some d
+  by_value : (v d : Doc) → earlier_target root v ≡ Some d → option_map schema (number_by ts v) ≡ Some d
   by_value (text s) d e = by_text (bytes_eq s (codes "#")) (without_front (codes "#/$defs/") s) d e
   by_value null d e = absurd cc
   by_value (boolean b) d e = absurd cc
@@ -99,12 +103,17 @@ module _ (schema : ℕ → Doc) (root : Doc) (ts : Targets) (targets : AreTarget
   by_value (list ds) d e = absurd cc
   by_value (object ms) d e = absurd cc
 
+  by_end : (o : Option (List (List ℕ))) (name : Option (List ℕ)) → option_map schema (number_at_end ts root o name) ≡ leads root o name
+  by_end (Some ks) name = by_schema schema (doc_at targets.entries) _ _ targets.agree (reached root targets.entries targets.are ts.held.now targets.held ts.named.entries (Some ks) ts.whole targets.stands)
+  by_end None None = refl
+  by_end None (Some s) = targets.anchors s
+
   pub finds : (v : Doc) → option_map schema (target_number ts root v) ≡ target root v
-  finds v = by_target (target root v) refl
+  finds v = by_target (earlier_target root v) refl
     where
-      by_target : (o : Option Doc) → target root v ≡ o → option_map schema (if_found o (number_by ts v)) ≡ o
-      by_target None e = refl
-      by_target (Some d) e = by_value v d e
+      by_target : (o : Option Doc) → earlier_target root v ≡ o → option_map schema (unless_found o (number_by ts v) (number_at_end ts root (tokens_to root v) (spelled_by root v))) ≡ target root v
+      by_target None e = by_end (tokens_to root v) (spelled_by root v)
+      by_target (Some d) e = by_value v d e ∙ sym (stays root v d e)
 
 fuse : (schema : ℕ → Doc) (ranks : List ℕ) (o : Option ℕ) → option_map schema (option_map (at ranks) o) ≡ option_map (λ c. schema (at ranks c)) o
 fuse schema ranks None = refl
@@ -176,6 +185,7 @@ pub record Asserting (k : Keyword) : Type 0 where
   pub not_min_contains : k ≡ keywords.MinContains → ⊥
   pub not_if : k ≡ keywords.If → ⊥
   pub not_defs : k ≡ keywords.Defs → ⊥
+  pub not_anchor : k ≡ keywords.Anchor → ⊥
   pub not_id : k ≡ keywords.Id → ⊥
   pub not_dialect : k ≡ keywords.Dialect → ⊥
   pub not_left_out : k ≡ keywords.LeftOut → ⊥
@@ -185,6 +195,7 @@ pub asserts_alone : (k : Keyword) (v : Doc) (r : Rule) → Asserting k → (a : 
 asserts_alone keywords.MinContains v r is a e h = absurd (is.not_min_contains refl)
 asserts_alone keywords.If v r is a e h = absurd (is.not_if refl)
 asserts_alone keywords.Defs v r is a e h = absurd (is.not_defs refl)
+asserts_alone keywords.Anchor v r is a e h = absurd (is.not_anchor refl)
 asserts_alone keywords.Id v r is a e h = absurd (is.not_id refl)
 asserts_alone keywords.Dialect v r is a e h = absurd (is.not_dialect refl)
 asserts_alone keywords.LeftOut v r is a e h = absurd (is.not_left_out refl)
@@ -279,6 +290,7 @@ module _ (schema : ℕ → Doc) (ranks : List ℕ) (root : Doc) (ts : Targets) (
   fits_is keywords.MinContains v row r e p known h = subst (IsRule schema root ms keywords.MinContains v) (sym h) (is_nothing schema root ms v keywords.MinContains (plain keywords.MinContains refl) (λ t. refl))
   fits_is keywords.If v row r e p known h = subst (IsRule schema root ms keywords.If v) (sym h) (is_nothing schema root ms v keywords.If (plain keywords.If refl) (λ t. refl))
   fits_is keywords.Defs v row r e p known h = subst (IsRule schema root ms keywords.Defs v) (sym h) (is_nothing schema root ms v keywords.Defs (plain keywords.Defs refl) (λ t. refl))
+  fits_is keywords.Anchor v row r e p known h = subst (IsRule schema root ms keywords.Anchor v) (sym h) (is_nothing schema root ms v keywords.Anchor (plain keywords.Anchor refl) (λ t. refl))
   fits_is keywords.Id v row r e p known h = subst (IsRule schema root ms keywords.Id v) (sym h) (is_nothing schema root ms v keywords.Id (plain keywords.Id refl) (λ t. refl))
   fits_is keywords.Dialect v row r e p known h = subst (IsRule schema root ms keywords.Dialect v) (sym h) (is_nothing schema root ms v keywords.Dialect (plain keywords.Dialect refl) (λ t. refl))
   fits_is keywords.LeftOut v row r e p known h = subst (IsRule schema root ms keywords.LeftOut v) (sym h) (is_nothing schema root ms v keywords.LeftOut (plain keywords.LeftOut refl) (λ t. refl))

@@ -5,6 +5,9 @@ pub mod Patterning
 pub mod Counting
 pub mod KeywordNames
 pub mod Conditions
+pub mod Holding
+pub mod Reaching
+mod Anchoring
 pub mod Fitting
 pub mod Moving
 pub mod Naming

@@ -12,10 +12,11 @@ use Rattle.schema_rules.specs.declared.profile.Profile.TheVariants.{Three}
 use Rattle.schema_levels.specs.Nodes.{node_get}
 use Rattle.schema_levels.specs.declared.node.Node.{Node}
 use Rattle.schema_nodes.specs.declared.entries.Entry.{Entry}
-use Rattle.schema_nodes.specs.declared.rules.Targets.{Targets}
+use Rattle.schema_nodes.specs.declared.targets.Targets.{Targets}
 use Rattle.schema_nodes.specs.Entries.{doc_at, StandFor, EachEntry, AreEntries}
 use Rattle.schema_nodes.specs.Fits.{AreTargets, IsTargets, IsMade, AreMade, patterns_of}
 use Rattle.schema_nodes.specs.Nodes.{or_else, schema_of, HaveRows, IsNodeFor, AreNodesFor, AreNumbers}
+use Rattle.schema_nodes.proofs.Reaching.{by_schema}
 use Rattle.schema_nodes.proofs.Fitting.{built_node}
 use Rattle.schema_nodes.proofs.Searches.{HaveNumbers, has_number, texts_within}
 use Rattle.schema_nodes.proofs.RuleKinds.{Back, moved_rows, placed_at, rows_at, doc_is, within_entries}
@@ -87,8 +88,18 @@ numbers_are root places es h p = by_place (slice_get places p)
 
 -- ---- the numbers of the schemas that references name
 
-pub targets_are : (schema : ℕ → Doc) (root : Doc) (whole : ℕ) (rows : List (Vec ℕ Global)) (ts : Targets) → IsTargets root whole rows ts → HaveRows schema (members_in root) rows → schema whole ≡ root → AreTargets schema root ts
-targets_are schema root whole rows ts is have w = record { whole = ap schema is.whole ∙ w; named = is.named schema have }
+pub targets_are : (schema : ℕ → Doc) (root : Doc) (es : List Entry) (whole : ℕ) (rows : List (Vec ℕ Global)) (ts : Targets) → IsTargets root es whole rows ts → HaveRows schema (members_in root) rows → AreEntries root es → doc_at es whole ≡ Some root
+    → ((n : ℕ) (d : Doc) → doc_at es n ≡ Some d → schema n ≡ d) → AreTargets schema root ts
+targets_are schema root es whole rows ts is have are here agree = record {
+  whole = ap schema is.whole ∙ agree whole root here;
+  named = is.named schema have;
+  anchors = λ s. by_schema schema (doc_at es) _ _ agree (is.anchors s);
+  entries = es;
+  are = are;
+  held = is.held;
+  stands = ap (doc_at es) is.whole ∙ here;
+  agree = agree;
+}
 
 pub got_at : (places : List ℕ) (i : ℕ) → i < length places → slice_get places i ≡ Some (at places i)
 got_at [] i lt = absurd (omega arith)

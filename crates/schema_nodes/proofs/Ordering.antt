@@ -24,7 +24,7 @@ use Rattle.schema_levels.specs.declared.node.Node.{Node}
 use Rattle.schema_levels.specs.declared.node.Rule.{Rule}
 use Rattle.schema_levels.specs.declared.node.Rule.TheVariants.{Says, Asserts, Matches, All, Any, One, Then, Else, Dependent, Properties, Matching, Others, Names, ByPlace, Rest, Contains, AtLeast, AtMost}
 use Rattle.schema_nodes.specs.declared.entries.Entry.{Entry}
-use Rattle.schema_nodes.specs.declared.rules.Targets.{Targets}
+use Rattle.schema_nodes.specs.declared.targets.Targets.{Targets}
 use Rattle.schema_nodes.specs.Edges.{edges_at, edges_in, AreEdges}
 use Rattle.schema_nodes.specs.Entries.{doc_at, StandFor, AreRows, AreEntries}
 use Rattle.schema_nodes.specs.Fits.{pattern_number, patterns_of, target_number, first_of, IsMatch, IsReference, IsChoice, IsCount, IsLimit, Around, Fits, FitAll, AreMatching, around, single_number, AreFitting, IsBuilt, IsBuiltOf, AreMade}
@@ -252,6 +252,7 @@ module _ (ts : Targets) (ranks : List â„•) (root : Doc) (near : Around) (at' : â
   fits_of keywords.MinContains v row js r stand moved h = subst (OfRule ranks near.condition n []) (sym h) (asks_nothing (Says true) refl refl)
   fits_of keywords.If v row js r stand moved h = subst (OfRule ranks near.condition n row) (sym h) (asks_nothing_of row (Says true) refl refl)
   fits_of keywords.Defs v row js r stand moved h = subst (OfRule ranks near.condition n []) (sym h) (asks_nothing (Says true) refl refl)
+  fits_of keywords.Anchor v row js r stand moved h = subst (OfRule ranks near.condition n []) (sym h) (asks_nothing (Says true) refl refl)
   fits_of keywords.Id v row js r stand moved h = subst (OfRule ranks near.condition n []) (sym h) (asks_nothing (Says true) refl refl)
   fits_of keywords.Dialect v row js r stand moved h = subst (OfRule ranks near.condition n []) (sym h) (asks_nothing (Says true) refl refl)
   fits_of keywords.LeftOut v row js r stand moved h = subst (OfRule ranks near.condition n []) (sym h) (asks_nothing (Says true) refl refl)

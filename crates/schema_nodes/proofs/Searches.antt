@@ -25,7 +25,7 @@ use Rattle.schema_levels.specs.declared.node.Node.{Node}
 use Rattle.schema_levels.specs.declared.node.Rule.{Rule}
 use Rattle.schema_levels.specs.declared.node.Rule.TheVariants.{Says, Asserts, Matches, All, Any, One, Then, Else, Dependent, Refers, Others, ByPlace, Contains, AtLeast, AtMost}
 use Rattle.schema_nodes.specs.declared.entries.Entry.{Entry}
-use Rattle.schema_nodes.specs.declared.rules.Targets.{Targets}
+use Rattle.schema_nodes.specs.declared.targets.Targets.{Targets}
 use Rattle.schema_nodes.proofs.KeywordNames.{pattern_properties_is}
 use Rattle.schema_nodes.specs.Fits.{Around, Fits, FitAll, around, first_of, AreFitting, AreMatching, ArePatterns, IsNumbered, or_first, IsBuilt, IsChoice, IsCount, IsLimit, IsMatch, IsReference, AreMade, number_in, pattern_number, patterns_of, target_number}
 
@@ -226,6 +226,7 @@ module _ (ss : List (List ℕ)) (few : length ss ≤ 64) where
     of_member near known keywords.MinContains v row r h = same r (Says true) h tt refl
     of_member near known keywords.If v row r h = same r (Says true) h tt refl
     of_member near known keywords.Defs v row r h = same r (Says true) h tt refl
+    of_member near known keywords.Anchor v row r h = same r (Says true) h tt refl
     of_member near known keywords.Id v row r h = same r (Says true) h tt refl
     of_member near known keywords.Dialect v row r h = same r (Says true) h tt refl
     of_member near known keywords.LeftOut v row r h = same r (Says true) h tt refl

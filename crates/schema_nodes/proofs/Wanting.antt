@@ -13,7 +13,7 @@ use Rattle.schema_levels.specs.declared.node.Node.{Node}
 use Rattle.schema_levels.specs.declared.node.Rule.{Rule}
 use Rattle.schema_levels.specs.declared.node.Rule.TheVariants.{Says, Asserts, Matches, All, Any, One, Then, Else, Dependent, Refers, Properties, Matching, ByPlace, AtLeast, AtMost}
 use Rattle.schema_nodes.specs.declared.entries.Entry.{Entry}
-use Rattle.schema_nodes.specs.declared.rules.Targets.{Targets}
+use Rattle.schema_nodes.specs.declared.targets.Targets.{Targets}
 use Rattle.schema_nodes.specs.Entries.{entries_want}
 use Rattle.schema_nodes.specs.Fits.{Around, around, Fits, FitAll, AreFitting, AreMatching, IsBuilt, IsChoice, IsMatch, IsReference, AreMade, pattern_number, patterns_of, target_number}
 use Rattle.schema_nodes.specs.Wants.{keyword_wants, members_want}
@@ -78,6 +78,7 @@ module _ (ts : Targets) (ranks : List ℕ) (root : Doc) (near : Around) where
   fits_wants keywords.MinContains v row r h = is_none r (Says true) h refl
   fits_wants keywords.If v row r h = is_none r (Says true) h refl
   fits_wants keywords.Defs v row r h = is_none r (Says true) h refl
+  fits_wants keywords.Anchor v row r h = is_none r (Says true) h refl
   fits_wants keywords.Id v row r h = is_none r (Says true) h refl
   fits_wants keywords.Dialect v row r h = is_none r (Says true) h refl
   fits_wants keywords.LeftOut v row r h = is_none r (Says true) h refl

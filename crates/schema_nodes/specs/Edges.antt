@@ -10,7 +10,7 @@ use Rattle.schema_rules.specs.declared.keyword.Keyword.{Keyword}
 use Rattle.schema_rules.specs.declared.keyword.Keyword.TheVariants.{AllOf, AnyOf, OneOf, Not, If, Then, Else, DependentSchemas, Ref}
 use Rattle.schema_nodes.specs.Fits.{target_number}
 use Rattle.schema_nodes.specs.declared.entries.Entry.{Entry}
-use Rattle.schema_nodes.specs.declared.rules.Targets.{Targets}
+use Rattle.schema_nodes.specs.declared.targets.Targets.{Targets}
 
 -- the schemas that a keyword with this value applies, if these are the numbers of those that the value holds
 abbrev pub edges_at : Targets → Doc → Keyword → Doc → List ℕ → List ℕ

@@ -12,7 +12,14 @@ use Rattle.schema_rules.specs.Holds.{holds}
 use Rattle.schema_rules.specs.Assertions.{asserts}
 use Rattle.schema_rules.specs.Keywords.{keyword_of}
 use Rattle.schema_rules.specs.Parts.{elements_in, members_in, beside, or_null}
-use Rattle.schema_rules.specs.References.{target, without_front}
+use Rattle.schema_rules.specs.EarlierReferences.{earlier_target, without_front}
+use Rattle.schema_rules.specs.References.{spelled_by, tokens_to}
+use Rattle.schema_rules.specs.Anchors.{with_anchor}
+use Rattle.schema_rules.specs.Schemas.{schemas}
+use Rattle.schema_rules.specs.declared.keyword.Shape.TheVariants as shapes
+use Rattle.schema_nodes.specs.Entries.{AreEntries, doc_at}
+use Rattle.schema_nodes.specs.Holding.{AreHeld}
+use Rattle.schema_nodes.specs.Reaching.{Reached, number_to}
 use Rattle.schema_rules.specs.declared.assertion.Assertion.{Assertion}
 use Rattle.schema_rules.specs.declared.keyword.Keyword.{Keyword}
 use Rattle.schema_rules.specs.declared.keyword.Keyword.TheVariants as keywords
@@ -23,23 +30,32 @@ use Rattle.schema_levels.specs.declared.node.NamePattern.{NamePattern}
 use Rattle.schema_levels.specs.declared.node.Rule.{Rule}
 use Rattle.schema_levels.specs.declared.node.Rule.TheVariants.{Says, Asserts, Matches, All, Any, One, Not, Then, Else, Dependent, Refers, Properties, Matching, Others, Names, ByPlace, Rest, Contains, AtLeast, AtMost}
 use Rattle.schema_nodes.specs.declared.rules.Near.{Near}
-use Rattle.schema_nodes.specs.declared.rules.Targets.{Targets}
+use Rattle.schema_nodes.specs.declared.targets.Targets.{Targets}
 use Rattle.schema_graph.specs.Orders.{at}
 use Rattle.schema_nodes.specs.Nodes.{AreNamed, HaveRows, AreMoved}
 pub use Rattle.schema_nodes.specs.Entries.{AsMany}
+pub use Rattle.schema_nodes.specs.Reaching.{row_named}
 use Rattle.schema_nodes.specs.declared.entries.Entry.{Entry}
 use Rattle.schema_levels.specs.declared.node.Node.{Node}
 use Rattle.doc_tree.specs.Lists.{elements_list, names_list}
 
 -- the numbers of the schemas that references name: that of the whole one, and those in its row of definitions
-pub record IsTargets (root : Doc) (number : ℕ) (rows : List (Vec ℕ)) (ts : Targets) : Type 0 where
+pub record IsTargets (root : Doc) (es : List Entry) (number : ℕ) (rows : List (Vec ℕ)) (ts : Targets) : Type 0 where
+  pub held : AreHeld es ts.held.now
   pub whole : ts.whole ≡ number
   pub named : (schema : ℕ → Doc) → HaveRows schema (members_in root) rows → AreNamed schema ts.named.entries (members_in (beside (codes "$defs") (members_in root)))
+  pub anchors : (s : List ℕ) → Reached (doc_at es) (number_named s ts.anchors.entries) (with_anchor s (schemas root))
 
 -- the same, if it is known which schema each number is that of
 pub record AreTargets (schema : ℕ → Doc) (root : Doc) (ts : Targets) : Type 0 where
   pub whole : schema ts.whole ≡ root
   pub named : AreNamed schema ts.named.entries (members_in (beside (codes "$defs") (members_in root)))
+  pub anchors : (s : List ℕ) → option_map schema (number_named s ts.anchors.entries) ≡ with_anchor s (schemas root)
+  pub entries : List Entry
+  pub are : AreEntries root entries
+  pub held : AreHeld entries ts.held.now
+  pub stands : doc_at entries ts.whole ≡ Some root
+  pub agree : (n : ℕ) (d : Doc) → doc_at entries n ≡ Some d → schema n ≡ d
 
 abbrev pub number_by : Targets → Doc → Option ℕ
 number_by ts (text s) = if bytes_eq s (codes "#") then Some ts.whole else option_and_then (λ n. number_named n ts.named.entries) (without_front (codes "#/$defs/") s)
@@ -49,9 +65,19 @@ abbrev pub if_found : Option Doc → Option ℕ → Option ℕ
 if_found None o = None
 if_found (Some d) o = o
 
--- the number of the schema that a reference names, if it names one
+-- the second if the schema isn't there
+abbrev pub unless_found : Option Doc → Option ℕ → Option ℕ → Option ℕ
+unless_found (Some d) o others = o
+unless_found None o others = others
+
+-- the number of the schema at the end of the tokens that lead from the whole one; without tokens of the one that has this anchor
+abbrev pub number_at_end : Targets → Doc → Option (List (List ℕ)) → Option (List ℕ) → Option ℕ
+number_at_end ts root (Some ks) name = number_to ts.held.now shapes.One ks root (ts.whole ∷ []) ts.named.entries
+number_at_end ts root None name = option_and_then (λ s. number_named s ts.anchors.entries) name
+
+-- the number of the schema that a reference names, if it names one: of a definition by its name
 abbrev pub target_number : Targets → Doc → Doc → Option ℕ
-target_number ts root v = if_found (target root v) (number_by ts v)
+target_number ts root v = unless_found (earlier_target root v) (number_by ts v) (number_at_end ts root (tokens_to root v) (spelled_by root v))
 
 abbrev pub first_of : List ℕ → ℕ
 first_of [] = 0
@@ -136,6 +162,7 @@ abbrev pub AsksNoSchema : Keyword → Doc → Rule → Type 0
 AsksNoSchema keywords.MinContains v r = r ≡ Says true
 AsksNoSchema keywords.If v r = r ≡ Says true
 AsksNoSchema keywords.Defs v r = r ≡ Says true
+AsksNoSchema keywords.Anchor v r = r ≡ Says true
 AsksNoSchema keywords.Id v r = r ≡ Says true
 AsksNoSchema keywords.Dialect v r = r ≡ Says true
 AsksNoSchema keywords.LeftOut v r = r ≡ Says true
@@ -194,11 +221,6 @@ AreSorted no_members = ⊤
 AreSorted (member k v ms) = IsBefore k ms × AreSorted ms
 
 -- ---- names
-
--- the row beside a name, empty without
-abbrev pub row_named : List ℕ → Members → List (Vec ℕ) → List ℕ
-row_named n (member k v ms) (row ∷ rows) = if bytes_eq k n then row.items else row_named n ms rows
-row_named n _ _ = []
 
 -- the number of the schema of that name among these members
 abbrev pub single_number : List ℕ → Members → List (Vec ℕ) → Option ℕ

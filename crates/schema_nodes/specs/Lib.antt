@@ -2,6 +2,9 @@ pub mod Rules
 pub mod Wants
 pub mod Entries
 pub mod Nodes
+pub mod Holding
+pub mod Reaching
 pub mod Fits
 pub mod Edges
 pub mod Compiled
+pub mod Anchored

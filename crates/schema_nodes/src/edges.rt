@@ -6,7 +6,7 @@ ghost use Rattle.schema_rules.specs.Parts.{members_in};
 ghost use Rattle.schema_nodes.specs.Edges.{AreEdges, edges_at, edges_in};
 
 use crate::entries::Entry;
-use crate::rules::{Targets, target_number};
+use crate::targets::{Targets, target_number};
 use doc_tree::Tree;
 use name_map::NameMap;
 use schema_rules::{Keyword, keyword_named};
@@ -61,6 +61,7 @@ fn edges_in(
             targets,
             root,
             found,
+            alloc,
         )?;
     }
     Ok(found)
@@ -74,6 +75,7 @@ fn with_edges(
     targets: &Targets<'_>,
     root: &Tree,
     found: Vec<usize>,
+    alloc: Global,
 ) -> Result<Vec<usize>, AllocError>
     ensures { IfOk result (λ v. v.items ≡ found.items ++ edges_at targets.now (view root.now) keyword (view value.now) row.now) }
 {
@@ -86,7 +88,7 @@ fn with_edges(
         Keyword::Then => with_each(row, found),
         Keyword::Else => with_each(row, found),
         Keyword::DependentSchemas => with_each(row, found),
-        Keyword::Ref => with_number(target_number(targets, root, value), found),
+        Keyword::Ref => with_number(target_number(targets, root, value, alloc)?, found),
         _ => Ok(found),
     }
 }

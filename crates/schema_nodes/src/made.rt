@@ -9,7 +9,8 @@ ghost use Rattle.schema_nodes.specs.Fits.{AreMade, AsMany, IsBuilt, IsBuiltOf, I
 use crate::entries::Entry;
 use crate::names::{numbers_under, prefix_len};
 use crate::ranks::moved_rows;
-use crate::rules::{Targets, rules_of};
+use crate::rules::rules_of;
+use crate::targets::Targets;
 use doc_tree::Tree;
 use name_map::NameMap;
 use schema_levels::{Node, Rule};

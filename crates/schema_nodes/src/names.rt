@@ -31,7 +31,8 @@ pub(crate) fn numbers_under(
     }
 }
 
-fn numbers_in(
+/// The numbers of the schemas in a value by their names; none if it is no object.
+pub(crate) fn numbers_in(
     value: &Tree,
     row: &[usize],
     alloc: Global,
@@ -44,8 +45,12 @@ fn numbers_in(
     }
 }
 
-// The row of the member of that name.
-fn row_named<'r>(name: &str, members: &NameMap<Tree>, rows: &'r [Vec<usize>]) -> &'r [usize]
+/// The row of the member of that name; empty without.
+pub(crate) fn row_named<'r>(
+    name: &str,
+    members: &NameMap<Tree>,
+    rows: &'r [Vec<usize>],
+) -> &'r [usize]
     ensures { result.now ≡ row_named name.now (members_view members.now.entries) rows.now }
 {
     for ((key, _), row) in members.iter().zip(rows) {

@@ -5,30 +5,18 @@ ghost use Rattle.doc_tree.specs.Lists.{names_list};
 ghost use Rattle.doc_tree.specs.TreeView.{view, members_view};
 ghost use Rattle.schema_rules.specs.Parts.{members_in, or_null};
 ghost use Rattle.schema_rules.specs.declared.keyword.Keyword.TheVariants.{PatternProperties};
-ghost use Rattle.schema_rules.specs.References.{without_front};
 ghost use Rattle.schema_graph.specs.Orders.{at};
 ghost use Rattle.schema_levels.specs.Below.{number_named};
 ghost use Rattle.schema_nodes.specs.Fits.{Fits, FitAll, Follow, AreFitting, AreMatching, ArePatterns, IsNamePattern, IsOthers, or_first, AsMany, AreSorted, AreTargets, AsksNoSchema, IsCount, IsDependent, IsLimit, IsMatch, IsReference, around, first_of, known_near, number_by, number_in, pattern_number, target_number};
 
 use crate::names::single_number;
 use crate::ranks::rank_of;
+use crate::targets::{Targets, target_number};
 use doc_tree::Tree;
 use name_map::NameMap;
 use schema_levels::{NamePattern, Rule};
-use schema_rules::{Assertion, Keyword, keyword_named, member_named, target};
+use schema_rules::{Assertion, Keyword, keyword_named, member_named};
 use std::alloc::{AllocError, Global};
-use std::collections::BTreeMap;
-
-/// The numbers of the schemas that references name, and the patterns, each at its number.
-#[derive(Drop)]
-pub struct Targets<'s> {
-    /// The number of the whole schema.
-    pub whole: usize,
-    /// Those of its definitions.
-    pub named: BTreeMap<String, usize>,
-    /// The texts of the patterns, in the order of their numbers.
-    pub patterns: &'s [&'s str],
-}
 
 /// What a rule needs to know of the members beside its own.
 #[derive(Clone, Copy)]
@@ -145,7 +133,10 @@ fn rule_of(
         }),
         Keyword::DependentSchemas => dependent(value, row, alloc),
         Keyword::Pattern => matching(pattern_number(targets.patterns, value), value, alloc),
-        Keyword::Ref => Ok(reference(target_number(targets, root, value), ranks, alloc)),
+        Keyword::Ref => {
+            let number = target_number(targets, root, value, alloc)?;
+            Ok(reference(number, ranks, alloc))
+        },
         _ => alone(keyword, value, alloc),
     }
 }
@@ -158,6 +149,7 @@ fn alone(keyword: Keyword, value: &Tree, alloc: Global) -> Result<Rule, AllocErr
         Keyword::If
         | Keyword::MinContains
         | Keyword::Defs
+        | Keyword::Anchor
         | Keyword::Id
         | Keyword::Dialect
         | Keyword::LeftOut
@@ -377,47 +369,4 @@ fn copy(row: &[usize], alloc: Global) -> Result<Vec<usize>, AllocError>
         copied.push(*number)?;
     }
     Ok(copied)
-}
-
-/// The number of the schema that a reference names, if it names one.
-pub(crate) fn target_number(targets: &Targets<'_>, root: &Tree, value: &Tree) -> Option<usize>
-    ensures { result ≡ target_number targets.now (view root.now) (view value.now) }
-{
-    match target(root, value) {
-        Some(_) => number_by(targets, value),
-        None => None,
-    }
-}
-
-fn number_by(targets: &Targets<'_>, value: &Tree) -> Option<usize>
-    ensures { result ≡ number_by targets.now (view value.now) }
-{
-    match value {
-        Tree::Text(text) => number_of_text(targets, text.as_str()),
-        _ => None,
-    }
-}
-
-fn number_of_text(targets: &Targets<'_>, name: &str) -> Option<usize>
-    ensures { result ≡ number_by targets.now (text name.now) }
-{
-    if name == "#" {
-        return Some(targets.whole);
-    }
-    number_named(&targets.named, definition_name(name)?)
-}
-
-fn definition_name(name: &str) -> Option<&str>
-    ensures { option_map (λ s. s.now) result ≡ without_front (codes "#/$defs/") name.now }
-{
-    name.strip_prefix("#/$defs/")
-}
-
-fn number_named(named: &BTreeMap<String, usize>, name: &str) -> Option<usize>
-    ensures { result ≡ number_named name.now named.now.entries }
-{
-    match named.get(name) {
-        Some(number) => Some(*number),
-        None => None,
-    }
 }

@@ -4,9 +4,10 @@ use Rattle.std.specs.List.{list_all}
 use Rattle.std.specs.Str.{bytes_eq}
 use Rattle.doc_tree.specs.Doc.{Doc, boolean, int, text, list, object, element}
 use Rattle.doc_tree.specs.Lists.{elements_list, values_list}
+use Rattle.schema_rules.specs.Anchors.{is_anchor_text}
 use Rattle.schema_rules.specs.Assertions.{are_distinct}
 use Rattle.schema_rules.specs.declared.keyword.Keyword.{Keyword}
-use Rattle.schema_rules.specs.declared.keyword.Keyword.TheVariants.{OfType, Enumeration, MultipleOf, Minimum, Maximum, ExclusiveMinimum, ExclusiveMaximum, MinLength, MaxLength, Pattern, MinItems, MaxItems, UniqueItems, MinProperties, MaxProperties, Required, DependentRequired, Properties, PatternProperties, PrefixItems, MinContains, MaxContains, AllOf, AnyOf, OneOf, DependentSchemas, Defs, Ref, Id, Dialect, LeftOut}
+use Rattle.schema_rules.specs.declared.keyword.Keyword.TheVariants.{OfType, Enumeration, MultipleOf, Minimum, Maximum, ExclusiveMinimum, ExclusiveMaximum, MinLength, MaxLength, Pattern, MinItems, MaxItems, UniqueItems, MinProperties, MaxProperties, Required, DependentRequired, Properties, PatternProperties, PrefixItems, MinContains, MaxContains, AllOf, AnyOf, OneOf, DependentSchemas, Defs, Anchor, Ref, Id, Dialect, LeftOut}
 
 abbrev pub is_text : Doc → Bool
 is_text (text s) = true
@@ -86,6 +87,7 @@ has_form at_root AnyOf v = is_some_list v
 has_form at_root OneOf v = is_some_list v
 has_form at_root DependentSchemas v = is_object v
 has_form at_root Defs v = is_object v
+has_form at_root Anchor v = is_anchor_text v
 has_form at_root Ref v = is_text v
 has_form true Id v = is_text v
 has_form true Dialect v = is_text v

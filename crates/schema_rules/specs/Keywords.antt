@@ -2,7 +2,7 @@
 use Rattle.std.specs.Prelude.{ℕ, List, [], ◌∷◌, if◌then◌else◌, Option, Some, None, codes}
 use Rattle.std.specs.Str.{bytes_eq}
 use Rattle.schema_rules.specs.declared.keyword.Keyword.{Keyword}
-use Rattle.schema_rules.specs.declared.keyword.Keyword.TheVariants.{OfType, Enumeration, Constant, MultipleOf, Minimum, Maximum, ExclusiveMinimum, ExclusiveMaximum, MinLength, MaxLength, Pattern, MinItems, MaxItems, UniqueItems, MinProperties, MaxProperties, Required, DependentRequired, Properties, PatternProperties, AdditionalProperties, PropertyNames, PrefixItems, Items, Contains, MinContains, MaxContains, AllOf, AnyOf, OneOf, Not, If, Then, Else, DependentSchemas, Defs, Ref, Id, Dialect, LeftOut, Unknown}
+use Rattle.schema_rules.specs.declared.keyword.Keyword.TheVariants.{OfType, Enumeration, Constant, MultipleOf, Minimum, Maximum, ExclusiveMinimum, ExclusiveMaximum, MinLength, MaxLength, Pattern, MinItems, MaxItems, UniqueItems, MinProperties, MaxProperties, Required, DependentRequired, Properties, PatternProperties, AdditionalProperties, PropertyNames, PrefixItems, Items, Contains, MinContains, MaxContains, AllOf, AnyOf, OneOf, Not, If, Then, Else, DependentSchemas, Defs, Anchor, Ref, Id, Dialect, LeftOut, Unknown}
 use Rattle.schema_rules.specs.declared.keyword.Shape.{Shape}
 use Rattle.schema_rules.specs.declared.keyword.Shape.TheVariants.{Plain, One, Several, Named}
 
@@ -87,7 +87,7 @@ of_core name = found (
     ∷ (codes "$schema", Dialect)
     ∷ []) name
 
--- keywords that profile 2 refuses and never ignores: dynamic references, vocabularies, regular expressions, schemas that depend on a name, what other keywords left over (Core, sections 8, 10.2.2.4, 10.3.2.2 and 11; Validation, section 6.3.3). One that a later profile offers has its own keyword here
+-- keywords that profile 2 refuses and never ignores: anchors, dynamic references, vocabularies, regular expressions, schemas that depend on a name, what other keywords left over (Core, sections 8, 10.2.2.4, 10.3.2.2 and 11; Validation, section 6.3.3). One that a later profile offers has its own keyword here
 unfoldable pub not_offered : List ℕ → Option Keyword
 not_offered name = found (
     (codes "pattern", Pattern)
@@ -95,7 +95,7 @@ not_offered name = found (
     ∷ (codes "unevaluatedItems", LeftOut)
     ∷ (codes "unevaluatedProperties", LeftOut)
     ∷ (codes "dependentSchemas", DependentSchemas)
-    ∷ (codes "$anchor", LeftOut)
+    ∷ (codes "$anchor", Anchor)
     ∷ (codes "$dynamicRef", LeftOut)
     ∷ (codes "$dynamicAnchor", LeftOut)
     ∷ (codes "$vocabulary", LeftOut)

@@ -4,6 +4,11 @@ pub mod Profiles
 pub mod Assertions
 pub mod Holds
 pub mod Patterns
+pub mod EarlierReferences
+pub mod Fragments
+pub mod Subschemas
+pub mod Anchors
+pub mod Pointers
 pub mod References
 pub mod Forms
 pub mod Rules

@@ -1,42 +1,42 @@
--- The schema that a reference names: the root, or one of the root's definitions by name (JSON Schema Core, sections 8.2.3.1 and 8.2.4).
-use Rattle.std.specs.Prelude.{ℕ, nat_le, ◌==◌, List, [], ◌∷◌, Bool, false, ◌&&◌, ◌||◌, if◌then◌else◌, Option, Some, None, is_none, codes}
-use Rattle.std.specs.List.{list_all}
-use Rattle.std.specs.Str.{bytes_eq}
-use Rattle.doc_tree.specs.Doc.{Doc, text, get_member}
-use Rattle.schema_rules.specs.Parts.{members_in, beside}
+-- The schema that a reference names (JSON Schema Core, sections 8.2.1, 8.2.2 and 8.2.3.1).
+use Rattle.std.specs.Prelude.{ℕ, List, Bool, false, Option, Some, None, is_none, option_and_then}
+use Rattle.doc_tree.specs.Doc.{Doc, text}
+use Rattle.doc_pointer.specs.Reading.{pointer_of}
+use Rattle.schema_rules.specs.Anchors.{with_anchor}
+use Rattle.schema_rules.specs.EarlierReferences.{earlier_target}
+use Rattle.schema_rules.specs.Fragments.{fragment, spelled}
+use Rattle.schema_rules.specs.Pointers.{walk}
+use Rattle.schema_rules.specs.Subschemas.{schemas}
 use Rattle.schema_rules.specs.declared.keyword.Keyword.{Keyword}
 use Rattle.schema_rules.specs.declared.keyword.Keyword.TheVariants.{Ref}
+use Rattle.schema_rules.specs.declared.keyword.Shape.TheVariants.{One}
+use Rattle.schema_rules.specs.declared.profile.Profile.{Profile}
+use Rattle.schema_rules.specs.declared.profile.Profile.TheVariants.{Two, Three}
 
--- a letter, a digit, `_`, `-` or `.`
-abbrev pub is_name_byte : ℕ → Bool
-is_name_byte c = (nat_le 65 c && nat_le c 90) || (nat_le 97 c && nat_le c 122) || (nat_le 48 c && nat_le c 57) || c == 95 || c == 45 || c == 46
+-- the text that the fragment of a reference spells
+abbrev pub spelled_by : Doc → Doc → Option (List ℕ)
+spelled_by root (text s) = option_and_then spelled (fragment root s)
+spelled_by root _ = None
 
--- one such byte or more, so that no byte of the name is escaped in a pointer or a URI
-abbrev pub is_name : List ℕ → Bool
-is_name [] = false
-is_name (c ∷ cs) = list_all is_name_byte (c ∷ cs)
+-- the tokens that lead from the root to the schema that a reference names, if that text is a pointer
+abbrev pub tokens_to : Doc → Doc → Option (List (List ℕ))
+tokens_to root v = option_and_then pointer_of (spelled_by root v)
 
--- the rest of a text after this front, if it begins with that
-abbrev pub without_front : List ℕ → List ℕ → Option (List ℕ)
-without_front [] s = Some s
-without_front (c ∷ cs) [] = None
-without_front (c ∷ cs) (d ∷ s) = if c == d then without_front cs s else None
-
--- the root's definition of that name (Core, section 8.2.4)
-abbrev pub definition : Doc → Option (List ℕ) → Option Doc
-definition root None = None
-definition root (Some name) = if is_name name then get_member name (members_in (beside (codes "$defs") (members_in root))) else None
-
--- the root for `#`, a definition for `#/$defs/` and its name (Core, section 8.2.3.1)
-abbrev pub target_of : Doc → List ℕ → Option Doc
-target_of root name = if bytes_eq name (codes "#") then Some root else definition root (without_front (codes "#/$defs/") name)
+-- the schema at the end of the tokens; without tokens the one that has this anchor
+abbrev pub reached : Doc → Option (List (List ℕ)) → Option (List ℕ) → Option Doc
+reached root (Some ks) name = walk One ks root
+reached root None name = option_and_then (λ s. with_anchor s (schemas root)) name
 
 -- the schema that a reference names; none if it names none or is no text
 abbrev pub target : Doc → Doc → Option Doc
-target root (text name) = target_of root name
-target root _ = None
+target root v = reached root (tokens_to root v) (spelled_by root v)
 
--- the member is a reference that names no schema
-abbrev pub is_dangling : Doc → Keyword → Doc → Bool
-is_dangling root Ref v = is_none (target root v)
-is_dangling root _ v = false
+-- the same as a profile offers it
+abbrev pub offered_target : Profile → Doc → Doc → Option Doc
+offered_target Two root v = earlier_target root v
+offered_target Three root v = target root v
+
+-- the member is a reference that names no schema in the profile
+abbrev pub is_dangling : Profile → Doc → Keyword → Doc → Bool
+is_dangling profile root Ref v = is_none (offered_target profile root v)
+is_dangling profile root _ v = false

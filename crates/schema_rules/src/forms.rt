@@ -5,6 +5,7 @@ ghost use Rattle.doc_tree.specs.Lists.{elements_list, values_list};
 ghost use Rattle.doc_tree.specs.TreeView.{view, elements_view, members_view};
 ghost use Rattle.schema_rules.specs.Forms.{has_form, is_text, is_boolean, is_list, is_some_list, is_object, is_number, is_number_from, is_type, is_list_of_distinct, is_object_of};
 
+use crate::anchors::is_anchor_text;
 use crate::distinct::are_distinct;
 use crate::keyword::Keyword;
 use crate::types::is_type_name;
@@ -42,6 +43,7 @@ pub fn has_form(at_root: bool, keyword: Keyword, value: &Tree) -> bool
         Keyword::PrefixItems | Keyword::AllOf | Keyword::AnyOf | Keyword::OneOf => is_some_list(
             value,
         ),
+        Keyword::Anchor => is_anchor_text(value),
         Keyword::Pattern | Keyword::Ref => is_text(value),
         Keyword::Id | Keyword::Dialect => !at_root || is_text(value),
         _ => true,

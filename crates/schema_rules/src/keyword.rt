@@ -77,6 +77,8 @@ pub enum Keyword {
     DependentSchemas,
     /// `$defs`: Core, section 8.2.4.
     Defs,
+    /// `$anchor`: Core, section 8.2.2.
+    Anchor,
     /// `$ref`: Core, section 8.2.3.1.
     Ref,
     /// `$id`: Core, section 8.2.1.

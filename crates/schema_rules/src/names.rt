@@ -133,7 +133,7 @@ fn not_offered(name: &str) -> Option<Keyword>
         "unevaluatedItems" => Some(Keyword::LeftOut),
         "unevaluatedProperties" => Some(Keyword::LeftOut),
         "dependentSchemas" => Some(Keyword::DependentSchemas),
-        "$anchor" => Some(Keyword::LeftOut),
+        "$anchor" => Some(Keyword::Anchor),
         "$dynamicRef" => Some(Keyword::LeftOut),
         "$dynamicAnchor" => Some(Keyword::LeftOut),
         "$vocabulary" => Some(Keyword::LeftOut),

@@ -7,7 +7,7 @@ use crate::keyword::Keyword;
 /// Which schemas are accepted. Each profile accepts what those before it accept, with the same meaning.
 #[derive(Clone, Copy, Debug, Drop, PartialEq, Eq)]
 pub enum Profile {
-    /// Without `pattern`, `patternProperties` and `dependentSchemas`.
+    /// Without `pattern`, `patternProperties`, `dependentSchemas` and `$anchor`.
     Two,
     /// With all keywords that are read.
     Three,
@@ -21,7 +21,10 @@ impl Profile {
         match (self, keyword) {
             (
                 Profile::Two,
-                Keyword::Pattern | Keyword::PatternProperties | Keyword::DependentSchemas,
+                Keyword::Pattern
+                | Keyword::PatternProperties
+                | Keyword::DependentSchemas
+                | Keyword::Anchor,
             ) => Keyword::LeftOut,
             _ => keyword,
         }

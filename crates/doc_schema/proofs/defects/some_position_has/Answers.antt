@@ -1,18 +1,10 @@
-use Rattle.std.proofs.Common.{◌≡◌, false, ◌||◌, sym, ap, ◌∙◌}
+use Rattle.std.proofs.Common.{ap, ◌∙◌}
 use Rattle.std.specs.List.{list_any}
-use Rattle.doc_tree.specs.Doc.{object}
-use Rattle.doc_tree.specs.TreeView.{view, members_view}
-use Rattle.doc_tree.proofs.Views.{view-Object}
-use Rattle.doc_schema.specs.Defects.{has_defect, is_defective}
+use Rattle.std.proofs.lemmas.Result.{IfOk-weaker}
+use Rattle.doc_tree.specs.TreeView.{view}
+use Rattle.doc_schema.specs.Defects.{has_defect}
 use Rattle.doc_schema.specs.Positions.{offered_positions}
-use Rattle.schema_rules.specs.Schemas.{offered_below}
-use Rattle.doc_schema.proofs.Anywhere.{of_object}
 use Rattle.doc_schema.proofs.defects.some_position_has.Goals as goal
 
-pub returns-else-some_member_is_wrong : goal.returns-else-some_member_is_wrong
-returns-else-some_member_is_wrong c =
-    let d = c.args.defect in
-    let r = view c.args.root.now in
-    let ms = members_view c.in-Object.members.entries in
-    let is : r ≡ object ms = ap view c.in-Object.is ∙ view-Object c.in-Object.members in
-    c.defective_below.ensures ∙ ap (λ b. b || list_any (is_defective c.args.profile d r false) (offered_below c.args.profile ms)) c.if-some_member_is_wrong.ensures ∙ sym (of_object c.args.profile d r ms) ∙ sym (ap (λ x. list_any (has_defect c.args.profile d r) (offered_positions c.args.profile x)) is)
+pub returns : goal.returns
+returns c = IfOk-weaker c.defective_whole.result _ _ (λ b h. h ∙ ap (λ t. list_any (has_defect c.args.profile c.args.defect (view c.args.root.now)) (offered_positions c.args.profile (view t))) c.tree.ensures) c.defective_whole.ensures

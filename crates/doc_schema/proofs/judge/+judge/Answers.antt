@@ -12,7 +12,9 @@ use Rattle.schema_rules.specs.Parts.{beside, elements_in, members_in}
 use Rattle.schema_rules.specs.Rules.{Ask, asks, ask, at_each, by_each, of_each, by_place, by_name, each_named, of_names, of_others, of_contained, at_target, after_if, every, some, how_many, or_one, with_schema, with_if, where_true, where_false}
 use Rattle.doc_schema.specs.Steps.{verdict, passes, all_hold, holds, told, ArePlaced, steps, most}
 use Rattle.schema_rules.specs.PatternTexts.{texts_by, texts_of}
-use Rattle.schema_rules.specs.declared.profile.Profile.TheVariants.{Three}
+use Rattle.schema_rules.specs.References.{is_dangling}
+use Rattle.schema_rules.specs.declared.profile.Profile.TheVariants.{Two, Three}
+use Rattle.doc_schema.specs.Schemas.{AreNear}
 use Rattle.doc_schema.proofs.Searchless.{none_first, none_later, no_names, no_search, searchless_object, unpatterned}
 use Rattle.doc_schema.proofs.Fuel.{verdict_is, asked_by}
 use Rattle.doc_schema.proofs.Rest.{Rest, and_true, here, less, further, on, one_found, one_passed, no_place_left, begin_rest, at_item, of_item, place_next, member_next, each_next, presence, presence_next, name_next, other_named, other_next, found_placed, found_most, found_further, on_found, member_placed, member_most, next_among, left_among, next_holds, items_asked}
@@ -38,7 +40,8 @@ members_hold-member_holds-requires t c =
     let le = member_most r c.requires.plain.loops ms u c.requires.placed xs among in
     let same = ap (λ k. most r (asks r ms k v u)) k in
     let lt : 6 * most r (asks r ms c.keyword_named.result v u) + 3 < 6 * steps r (object ms) u + 4 = omega (arith, le, same) in
-    (search rules, (c.requires.plain, (subst (λ k. ArePlaced r (asks r ms k v u)) (sym k) (member_placed r c.requires.plain.loops ms u c.requires.placed xs among), (ap (λ w. texts_of w v) k ∙ none_first (texts_of (keyword_of (string_bytes c.in-Some.name.now)) v) _ (sym (ap (λ es. texts_by Three (members_view es)) c.in-Some.ensures.steps) ∙ c.loop-name.invariant.2), unpatterned ms (searchless_object r ms c.requires.placed c.requires.plain.patterns)))))
+    let near = subst (λ es. AreNear r (members_view es)) c.in-Some.ensures.steps c.loop-name.invariant.3 in
+    (search rules, (c.requires.plain, (subst (λ k. ArePlaced r (asks r ms k v u)) (sym k) (member_placed r c.requires.plain.loops ms u c.requires.placed xs among), (ap (λ w. texts_of w v) k ∙ none_first (texts_of (keyword_of (string_bytes c.in-Some.name.now)) v) _ (sym (ap (λ es. texts_by Three (members_view es)) c.in-Some.ensures.steps) ∙ c.loop-name.invariant.2), (ap (λ w. is_dangling Two r w v) k ∙ near.0, unpatterned ms (searchless_object r ms c.requires.placed c.requires.plain.patterns))))))
 
 pub members_hold-loop-name-preserved : goal.members_hold-loop-name-preserved
 members_hold-loop-name-preserved t c =
@@ -49,7 +52,7 @@ members_hold-loop-name-preserved t c =
     let k : c.keyword_named.result ≡ keyword_of (string_bytes c.in-Some.name.now) = c.keyword_named.ensures ∙ ap keyword_of c.as_str.ensures.value in
     let h = c.if-not-member_holds.ensures ∙ ap (λ k. holds (verdict r) r ms k v u) k in
     let e = c.in-Some.ensures.steps in
-    (sym (next_holds r ms u c.in-Some.name.now c.in-Some.value.now _ _ e (verdict r) h) ∙ c.loop-name.invariant.0, λ a i. c.loop-name.invariant.1 a (left_among r ms u c.in-Some.name.now c.in-Some.value.now _ _ e a i), none_later (texts_of (keyword_of (string_bytes c.in-Some.name.now)) v) _ (sym (ap (λ es. texts_by Three (members_view es)) e) ∙ c.loop-name.invariant.2))
+    (sym (next_holds r ms u c.in-Some.name.now c.in-Some.value.now _ _ e (verdict r) h) ∙ c.loop-name.invariant.0, λ a i. c.loop-name.invariant.1 a (left_among r ms u c.in-Some.name.now c.in-Some.value.now _ _ e a i), none_later (texts_of (keyword_of (string_bytes c.in-Some.name.now)) v) _ (sym (ap (λ es. texts_by Three (members_view es)) e) ∙ c.loop-name.invariant.2), (subst (λ es. AreNear r (members_view es)) e c.loop-name.invariant.3).1)
 
 pub member_holds-accepts_at-requires : goal.member_holds-accepts_at-requires
 member_holds-accepts_at-requires t c =

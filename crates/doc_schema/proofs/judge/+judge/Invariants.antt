@@ -8,6 +8,7 @@ use Rattle.schema_rules.specs.PatternTexts.{texts_by}
 use Rattle.schema_rules.specs.declared.profile.Profile.TheVariants.{Three}
 use Rattle.schema_rules.specs.Parts.{beside, elements_in, members_in}
 use Rattle.schema_rules.specs.Rules.{Ask, asks, at_each, by_each, of_each, by_place, by_name, each_named, of_names, of_others, of_contained, at_target, after_if, every, some, how_many, where_present}
+use Rattle.doc_schema.specs.Schemas.{AreNear}
 use Rattle.doc_schema.specs.Steps.{verdict, all_hold, told, steps, most}
 use Rattle.doc_schema.proofs.Fuel.{asked_by}
 use Rattle.doc_schema.proofs.Rest.{Rest, is_one}
@@ -71,6 +72,7 @@ abbrev pub invariant-members_hold-loop-name : goal.invariant-members_hold-loop-n
 invariant-members_hold-loop-name l = (all_hold (verdict (view l.root)) (view l.root) (members_view l.members.entries) (members_view l.name-iterator) (seen l.instance) ≡ all_hold (verdict (view l.root)) (view l.root) (members_view l.members.entries) (members_view l.members.entries) (seen l.instance))
     × ((a : Ask) → In a (asked_by (view l.root) (members_view l.members.entries) (members_view l.name-iterator) (seen l.instance)) → In a (asked_by (view l.root) (members_view l.members.entries) (members_view l.members.entries) (seen l.instance)))
     × (texts_by Three (members_view l.name-iterator) ≡ [])
+    × AreNear (view l.root) (members_view l.name-iterator)
 
 abbrev pub invariant-all_accept-loop-schema : goal.invariant-all_accept-loop-schema
 invariant-all_accept-loop-schema l = Rest (view l.root) (at_each (elements_view (drop l.schema-index l.schemas)) (seen l.instance)) (at_each (elements_view l.schemas) (seen l.instance))

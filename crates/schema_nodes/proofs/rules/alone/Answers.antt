@@ -8,6 +8,7 @@ returns-in_ok-new-in_default c = asserts_alone c.args.keyword (view c.args.value
   not_min_contains = c.in_default.not-MinContains;
   not_if = c.in_default.not-If;
   not_defs = c.in_default.not-Defs;
+  not_anchor = c.in_default.not-Anchor;
   not_id = c.in_default.not-Id;
   not_dialect = c.in_default.not-Dialect;
   not_left_out = c.in_default.not-LeftOut;

@@ -17,7 +17,7 @@ compile_entries-requires-clause-whole c =
     let r = view c.args.root.now in
     let g = c.in_ok-grown.grown in
     let stand : StandFor (doc_at g.entries.items) g.row.items (r ∷ []) = c.in_ok-grown.ensures.adds.row [] (subst (λ row. StandFor (doc_at c.new.result.items) row []) (sym c.new-2.ensures.items) tt) in
-    subst (λ l. doc_at l c.index.result.now ≡ Some r) (sym c.deref.ensures.value) (stand_first (doc_at g.entries.items) g.row.items r c.index.result.now stand c.index.ensures)
+    subst (λ l. doc_at l c.index.result.now ≡ Some r) (sym c.deref-2.ensures.value) (stand_first (doc_at g.entries.items) g.row.items r c.index.result.now stand c.index.ensures)
 
 pub compile_entries-requires-clause-within : goal.compile_entries-requires-clause-within
 compile_entries-requires-clause-within c =
@@ -25,4 +25,4 @@ compile_entries-requires-clause-within c =
     let g = c.in_ok-grown.grown in
     let stand : StandFor (doc_at g.entries.items) g.row.items (r ∷ []) = c.in_ok-grown.ensures.adds.row [] (subst (λ row. StandFor (doc_at c.new.result.items) row []) (sym c.new-2.ensures.items) tt) in
     let here = stand_first (doc_at g.entries.items) g.row.items r c.index.result.now stand c.index.ensures in
-    subst (λ l. c.index.result.now < length l) (sym c.deref.ensures.value) (within_entries g.entries.items c.index.result.now r here)
+    subst (λ l. c.index.result.now < length l) (sym c.deref-2.ensures.value) (within_entries g.entries.items c.index.result.now r here)

@@ -9,7 +9,8 @@ use Rattle.schema_nodes.specs.Compiled.{IsCompiled}
 use Rattle.schema_nodes.specs.Entries.{AreRows, doc_at}
 use Rattle.schema_nodes.specs.Fits.{AreMade, IsTargets}
 use Rattle.schema_nodes.specs.Nodes.{HaveRows}
-use Rattle.schema_nodes.specs.declared.rules.Targets.{Targets}
+use Rattle.schema_nodes.specs.declared.targets.Targets.{Targets}
+use Rattle.schema_nodes.proofs.Anchoring.{found_by}
 use Rattle.schema_nodes.proofs.Compiling.{targets_at, compiled}
 use Rattle.schema_nodes.proofs.Edging.{edges_many, graph_closed, graph_cyclic, order_is, loop_is}
 use Rattle.schema_nodes.proofs.Looping.{graph_looped}
@@ -26,8 +27,8 @@ order_of-requires c =
     let found : slice_get es c.args.whole ≡ Some e = slice_get_read es (length es) c.args.whole e refl c.requires.within c.index-entries-whole.is in
     let same = same_doc (view e.schema.now) r (sym (doc_is es c.args.whole e found) ∙ c.requires.whole) in
     let rows : AreRows (doc_at es) (members_in r) e.rows.items = subst (λ d. AreRows (doc_at es) (members_in d) e.rows.items) same (rows_at r (doc_at es) es c.args.whole e c.requires.are found) in
-    let ts : Targets = record { whole = c.args.whole; named = c.in_ok-definitions.field-0; patterns = c.args.patterns } in
-    let is : IsTargets r c.args.whole e.rows.items ts = record { whole = refl; named = λ schema have. c.in_ok-definitions.ensures schema (subst (HaveRows schema (members_in r)) (sym c.deref.ensures.value) have) } in
+    let ts : Targets = record { held = c.args.held; whole = c.args.whole; named = c.in_ok-definitions.field-0; anchors = c.in_ok-numbers_of_anchors.field-0; patterns = c.args.patterns } in
+    let is : IsTargets r es c.args.whole e.rows.items ts = record { held = c.requires.held; whole = refl; named = λ schema have. c.in_ok-definitions.ensures schema (subst (HaveRows schema (members_in r)) (sym c.deref.ensures.value) have); anchors = found_by r es c.requires.are c.args.whole c.requires.whole c.requires.anchors _ c.in_ok-numbers_of_anchors.ensures } in
     let g = c.in_ok-graph.graph.items in
     let targets = targets_at r es c.args.whole e.rows.items ts c.requires.are c.requires.whole rows is in
     subst IsClosed (sym c.deref-2.ensures.value) (graph_closed ts r es targets c.requires.are g c.in_ok-graph.ensures)
@@ -40,8 +41,8 @@ returns c =
     let found : slice_get es c.args.whole ≡ Some e = slice_get_read es (length es) c.args.whole e refl c.requires.within c.index-entries-whole.is in
     let same = same_doc (view e.schema.now) r (sym (doc_is es c.args.whole e found) ∙ c.requires.whole) in
     let rows : AreRows (doc_at es) (members_in r) e.rows.items = subst (λ d. AreRows (doc_at es) (members_in d) e.rows.items) same (rows_at r (doc_at es) es c.args.whole e c.requires.are found) in
-    let ts : Targets = record { whole = c.args.whole; named = c.in_ok-definitions.field-0; patterns = c.args.patterns } in
-    let is : IsTargets r c.args.whole e.rows.items ts = record { whole = refl; named = λ schema have. c.in_ok-definitions.ensures schema (subst (HaveRows schema (members_in r)) (sym c.deref.ensures.value) have) } in
+    let ts : Targets = record { held = c.args.held; whole = c.args.whole; named = c.in_ok-definitions.field-0; anchors = c.in_ok-numbers_of_anchors.field-0; patterns = c.args.patterns } in
+    let is : IsTargets r es c.args.whole e.rows.items ts = record { held = c.requires.held; whole = refl; named = λ schema have. c.in_ok-definitions.ensures schema (subst (HaveRows schema (members_in r)) (sym c.deref.ensures.value) have); anchors = found_by r es c.requires.are c.args.whole c.requires.whole c.requires.anchors _ c.in_ok-numbers_of_anchors.ensures } in
     let g = c.in_ok-graph.graph.items in
     let targets = targets_at r es c.args.whole e.rows.items ts c.requires.are c.requires.whole rows is in
     graph_cyclic ts r es targets c.requires.are g c.in_ok-graph.ensures (subst IsCyclic c.deref-2.ensures.value (loop_is c.deref-2.result.now c.in_ok-order.field-0 c.in_ok-order.ensures c.in-None.is))
@@ -54,8 +55,8 @@ nodes_of-requires-clause-within c =
     let found : slice_get es c.args.whole ≡ Some e = slice_get_read es (length es) c.args.whole e refl c.requires.within c.index-entries-whole.is in
     let same = same_doc (view e.schema.now) r (sym (doc_is es c.args.whole e found) ∙ c.requires.whole) in
     let rows : AreRows (doc_at es) (members_in r) e.rows.items = subst (λ d. AreRows (doc_at es) (members_in d) e.rows.items) same (rows_at r (doc_at es) es c.args.whole e c.requires.are found) in
-    let ts : Targets = record { whole = c.args.whole; named = c.in_ok-definitions.field-0; patterns = c.args.patterns } in
-    let is : IsTargets r c.args.whole e.rows.items ts = record { whole = refl; named = λ schema have. c.in_ok-definitions.ensures schema (subst (HaveRows schema (members_in r)) (sym c.deref.ensures.value) have) } in
+    let ts : Targets = record { held = c.args.held; whole = c.args.whole; named = c.in_ok-definitions.field-0; anchors = c.in_ok-numbers_of_anchors.field-0; patterns = c.args.patterns } in
+    let is : IsTargets r es c.args.whole e.rows.items ts = record { held = c.requires.held; whole = refl; named = λ schema have. c.in_ok-definitions.ensures schema (subst (HaveRows schema (members_in r)) (sym c.deref.ensures.value) have); anchors = found_by r es c.requires.are c.args.whole c.requires.whole c.requires.anchors _ c.in_ok-numbers_of_anchors.ensures } in
     let g = c.in_ok-graph.graph.items in
     let targets = targets_at r es c.args.whole e.rows.items ts c.requires.are c.requires.whole rows is in
     let o = c.in-Some.order in
@@ -70,7 +71,7 @@ pub counters_of-requires : goal.counters_of-requires
 counters_of-requires c =
     let r = view c.args.root.now in
     let es = c.args.entries.now in
-    let ts : Targets = record { whole = c.args.whole; named = c.in_ok-definitions.field-0; patterns = c.args.patterns } in
+    let ts : Targets = record { held = c.args.held; whole = c.args.whole; named = c.in_ok-definitions.field-0; anchors = c.in_ok-numbers_of_anchors.field-0; patterns = c.args.patterns } in
     let g = c.in_ok-graph.graph.items in
     let o = c.in-Some.order in
     let places = o.places.items in
@@ -90,8 +91,8 @@ returns-in-Some c =
     let found : slice_get es c.args.whole ≡ Some e = slice_get_read es (length es) c.args.whole e refl c.requires.within c.index-entries-whole.is in
     let same = same_doc (view e.schema.now) r (sym (doc_is es c.args.whole e found) ∙ c.requires.whole) in
     let rows : AreRows (doc_at es) (members_in r) e.rows.items = subst (λ d. AreRows (doc_at es) (members_in d) e.rows.items) same (rows_at r (doc_at es) es c.args.whole e c.requires.are found) in
-    let ts : Targets = record { whole = c.args.whole; named = c.in_ok-definitions.field-0; patterns = c.args.patterns } in
-    let is : IsTargets r c.args.whole e.rows.items ts = record { whole = refl; named = λ schema have. c.in_ok-definitions.ensures schema (subst (HaveRows schema (members_in r)) (sym c.deref.ensures.value) have) } in
+    let ts : Targets = record { held = c.args.held; whole = c.args.whole; named = c.in_ok-definitions.field-0; anchors = c.in_ok-numbers_of_anchors.field-0; patterns = c.args.patterns } in
+    let is : IsTargets r es c.args.whole e.rows.items ts = record { held = c.requires.held; whole = refl; named = λ schema have. c.in_ok-definitions.ensures schema (subst (HaveRows schema (members_in r)) (sym c.deref.ensures.value) have); anchors = found_by r es c.requires.are c.args.whole c.requires.whole c.requires.anchors _ c.in_ok-numbers_of_anchors.ensures } in
     let g = c.in_ok-graph.graph.items in
     let targets = targets_at r es c.args.whole e.rows.items ts c.requires.are c.requires.whole rows is in
     let o = c.in-Some.order in

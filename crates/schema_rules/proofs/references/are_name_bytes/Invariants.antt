@@ -1,6 +1,6 @@
 use Rattle.std.proofs.Common.{◌≡◌, drop}
 use Rattle.std.specs.List.{list_all}
-use Rattle.schema_rules.specs.References.{is_name_byte}
+use Rattle.schema_rules.specs.EarlierReferences.{is_name_byte}
 use Rattle.schema_rules.proofs.references.are_name_bytes.Given as goal
 
 abbrev pub invariant-loop-byte : goal.invariant-loop-byte

@@ -15,7 +15,7 @@ invariant_of-result c =
       faultless_stays c.args.profile s (faultless c.args.profile s c.in_ok-nodes.field-0 c.in-Some.nodes checked c.in_ok-nodes.ensures c.in-Some.is),
       compiled_is s c.in_ok-nodes.field-0 c.in-Some.nodes c.in_ok-nodes.ensures c.in-Some.is,
       counted_is s c.in_ok-nodes.field-0 c.in-Some.nodes c.in_ok-nodes.ensures c.in-Some.is,
-      c.in_ok-checked.ensures.patterns ∙ texts_same c.args.profile (view c.args.source.now) c.in_ok-checked.ensures.ok.keywords ∙ ap pattern_texts (sym c.in_ok-source.ensures.same),
+      c.in_ok-checked.ensures.patterns ∙ texts_same c.args.profile (view c.args.source.now) c.in_ok-checked.ensures.ok.keywords c.in_ok-checked.ensures.ok.references ∙ ap pattern_texts (sym c.in_ok-source.ensures.same),
     )
 
 pub returns-in-Some-clause-ok : goal.returns-in-Some-clause-ok
@@ -31,7 +31,7 @@ returns-in-None-clause-err c =
     inl (subst (λ d. IsFirstFault c.args.profile d SCHEMA_LOOP) c.in_ok-source.ensures.same (leads_back c.args.profile s c.in_ok-nodes.field-0 checked c.in_ok-nodes.ensures c.in-None.is))
 
 pub nodes_of-requires-clause-texts : goal.nodes_of-requires-clause-texts
-nodes_of-requires-clause-texts c = ap (map (λ s. s.now)) c.deref.ensures.value ∙ c.in_ok-checked.ensures.texts ∙ texts_same c.args.profile (view c.args.source.now) c.in_ok-checked.ensures.ok.keywords ∙ ap pattern_texts (sym c.in_ok-source.ensures.same)
+nodes_of-requires-clause-texts c = ap (map (λ s. s.now)) c.deref.ensures.value ∙ c.in_ok-checked.ensures.texts ∙ texts_same c.args.profile (view c.args.source.now) c.in_ok-checked.ensures.ok.keywords c.in_ok-checked.ensures.ok.references ∙ ap pattern_texts (sym c.in_ok-source.ensures.same)
 
 pub nodes_of-requires-clause-checked : goal.nodes_of-requires-clause-checked
 nodes_of-requires-clause-checked c =
