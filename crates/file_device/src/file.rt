@@ -70,8 +70,8 @@ impl Drop for FileDevice {
 impl FileDevice {
     ghost use Rattle.file_device.specs.File.{file_disk};
 
-    /// The sectors that lie whole within the first `length` bytes of `file`, which is open for reading and writing and
-    /// holds what `held` says. The file is not locked. `Err`: memory is refused.
+    /// The sectors that lie whole within the first `length` bytes of `file`, which is open for reading, and for writing
+    /// if it is to be written, and holds what `held` says. The file is not locked. `Err`: memory is refused.
     pub fn new(
         alloc: Global,
         file: File,
@@ -106,6 +106,23 @@ impl FileDevice {
         file.try_lock()?;
         let length = file.metadata()?.len();
         FileDevice::new(alloc, file, length, held)
+    }
+
+    /// The file at `path`, as `open` has it, for reading alone: each write fails. It may be one that this user can't
+    /// write. Other openings for reading may have it at the same time, and no other.
+    pub fn open_to_read<R: Files<File = File>>(
+        rt: &R,
+        alloc: Global,
+        path: &str,
+        held: Snapshot<Held>,
+    ) -> Result<FileDevice, FileFault>
+        ensures failures { IfOk result (λ device. (file_disk device).failures ≡ 0) }
+        ensures history { IfOk result (λ device. device.history ≡ Opened held) }
+    {
+        let file = apart_from_streams(File::open(rt, path)?)?;
+        file.try_lock_shared()?;
+        let metadata = file.metadata()?;
+        FileDevice::new(alloc, file, metadata.len(), held)
     }
 
     /// A new file at `path`, at which nothing may exist: `sectors` sectors of zeros, which are written to the disk if

@@ -1,7 +1,7 @@
 //! A file of the operating system as a device of sectors of 512 bytes. Writes of neighbouring sectors wait in memory,
 //! until a sync, a read, a write elsewhere or the drop hands them to the system by one call; a read fetches a run of
-//! sectors. `sync` hands over, and is then the system's sync of that file. No two openings have a file at one time, and
-//! no file takes the number of a standard stream. A new file is written full of zeros before it is used, unless it is
+//! sectors. `sync` hands over, and is then the system's sync of that file. No two openings have a file at one time,
+//! unless both only read it, and no file takes the number of a standard stream. A new file is written full of zeros before it is used, unless it is
 //! sparse, and has its rights before its first byte.
 //!
 //! Each call is noted in a history that only contracts read, a write when it is taken, and the file keeps to the disk

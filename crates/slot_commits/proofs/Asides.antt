@@ -1,11 +1,11 @@
 -- Sectors that are written aside.
-use Rattle.std.proofs.Common.{◌≡◌, ◌≢◌, ◌⊎◌, inl, inr, ℕ, ◌+◌, ◌*◌, ◌/◌, ◌%◌, ◌≤◌, ◌<◌, List, [], length, get_or, refl, ap, subst, sym, ◌∙◌, arith, Bool, Option, None, Some, length-take}
+use Rattle.std.proofs.Common.{inl, inr, ℕ, ◌+◌, ◌*◌, ◌/◌, ◌%◌, ◌≤◌, ◌<◌, List, length, get_or, ap, subst, sym, ◌∙◌, arith, Bool, Option, None, Some, length-take}
 use Rattle.sector_device.specs.Disk.{Image, Disk, LeavesOnly, IsCoherent, tearing}
 use Rattle.sector_device.specs.Sectors.{Over, OverSome, TornOver, TornSome, byte_at}
 use Rattle.sector_device.proofs.Moments.{leaves_weaker}
 use Rattle.commit_slots.specs.Sealed.{Verifies, number_of}
 use Rattle.commit_slots.specs.Slots.{IsHeld, IsSlotOf, block_start, slot_sector, slot_start}
-use Rattle.slot_commits.specs.Asides.{IsAside, IsNeeded, KeepsNeeded}
+use Rattle.slot_commits.specs.Asides.{IsAside, KeepsNeeded}
 use Rattle.slot_commits.specs.States.{HoldsBlocks, Stands, State, slot_of, tail_of}
 use Rattle.slot_commits.specs.Tears.{tearing_by}
 use Rattle.slot_commits.proofs.Puts.{wide_by}

@@ -9,8 +9,10 @@ use Rattle.sector_device.proofs.Charges.{failed_joined, failed_more, made_joined
 use Rattle.commit_slots.specs.Slots.{Counts, IsSlotOf, block_start, slots_capacity}
 use Rattle.commit_slots.specs.Finding.{IsFoundIn}
 use Rattle.commit_slots.specs.declared.counted.Counted.{Counted}
+use Rattle.commit_slots.specs.declared.slot.Slot.{Slot}
+use Rattle.commit_slots.proofs.Mixed.{one_counts}
 use Rattle.slot_commits.specs.Finds.{IsBeside, IsFound, IsNotice}
-use Rattle.slot_commits.specs.Loads.{Awaits, BlocksRefusal, HasNumbers, HasRead, IsDamaged, LoadFailed, LoadRefusal, NoStore, OnlyLoaded, load_calls, number_end, state_in}
+use Rattle.slot_commits.specs.Loads.{Awaits, BlocksRefusal, HasNumbers, HasRead, IsDamaged, IsNoticeOf, LoadFailed, LoadRefusal, NoStore, OnlyLoaded, load_calls, number_end, state_in}
 use Rattle.slot_commits.specs.States.{CarriesInSlots, State, tail_of}
 use Rattle.slot_commits.specs.declared.found.Found.{Found}
 use Rattle.slot_commits.specs.declared.found.LoadFault.{LoadFault}
@@ -110,9 +112,11 @@ module _ (old mid new : Disk) (found : Found) (counted : Counted) (is : found.co
     pub done_numbers : found.highest < number_end → new.honest → HasNumbers old.seen
     done_numbers left h = numbers_left old.seen found.highest (told (honest h)).fresh left
 
-    pub done_notice : (notice : Notice) → ((image : Image) → IsBeside image (Some counted) found.both found.other → IsNotice image counted.slot counted.tail.items notice) → new.honest → IsNotice old.seen counted.slot (tail_of (state_in counted.slot bytes)) notice
-    done_notice notice noticed h =
-        subst (λ (t : List ℕ). IsNotice old.seen counted.slot t notice) (sym read.last) (noticed old.seen (subst (λ (o : Option Counted). IsBeside old.seen o found.both found.other) is (told (honest h)).beside))
+    pub done_notice : (notice : Notice) → ((image : Image) → IsBeside image (Some counted) found.both found.other → IsNotice image counted.slot counted.tail.items notice) → new.honest → IsNoticeOf old.seen notice
+    done_notice notice noticed h slot tail copy counted_so =
+        let same = one_counts old.seen counted.slot slot counted.tail.items tail counted.copy copy (counts (honest h)) counted_so in
+        let said : IsNotice old.seen counted.slot counted.tail.items notice = noticed old.seen (subst (λ (o : Option Counted). IsBeside old.seen o found.both found.other) is (told (honest h)).beside) in
+        subst (λ (t : List ℕ). IsNotice old.seen slot t notice) same.1 (subst (λ (s : Slot). IsNotice old.seen s counted.tail.items notice) same.0 said)
 
     pub done_made : Made old new (load_calls counted.slot.blocks)
     done_made = made_joined old mid new 128 (8 * counted.slot.blocks) made read.made

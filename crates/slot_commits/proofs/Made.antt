@@ -1,5 +1,5 @@
 -- What a device carries while it is formatted.
-use Rattle.std.proofs.Common.{◌≡◌, ◌≢◌, ◌⊎◌, inl, inr, ℕ, ◌+◌, ◌*◌, ◌/◌, ◌%◌, ◌<◌, ◌≤◌, List, [], length, take, replicate, get_or, refl, ap, sym, subst, ◌∙◌, arith, Bool, Option, None, Some}
+use Rattle.std.proofs.Common.{◌≡◌, ◌≢◌, ◌⊎◌, ⊎_elim, inl, inr, ℕ, ◌+◌, ◌*◌, ◌/◌, ◌%◌, ◌<◌, ◌≤◌, List, [], length, take, replicate, get_or, refl, ap, sym, subst, ◌∙◌, arith, Bool, Option, None, Some}
 use Rattle.std.proofs.lemmas.Bool.{cases_eq, cases_lt}
 use Rattle.sector_device.specs.Disk.{Image}
 use Rattle.sector_device.specs.Sectors.{byte_at}
@@ -114,7 +114,7 @@ unbegun_unmade None image told unbegun = (unbegun_none None image told unbegun, 
     unmarked_now (inr (inl first)) = no_torn (take 12 (get_or image 32 []) ≡ beginning → ⊥) (unbegun.others 32 (inl refl)) first
     unmarked_now (inr (inr (inl second))) = no_torn (take 12 (get_or image 64 []) ≡ beginning → ⊥) (unbegun.others 64 (inr (inl refl))) second
     unmarked_now (inr (inr (inr third))) = no_torn (take 12 (get_or image 96 []) ≡ beginning → ⊥) (unbegun.others 96 (inr (inr refl))) third
-unbegun_unmade (Some t) image told unbegun = unbegun_none (Some t) image told unbegun
+unbegun_unmade (Some t) image told unbegun = (unbegun_none (Some t) image told unbegun, ⊎_elim inl (λ damage. inr (inr damage)) unbegun.zeroth)
 
 -- ---- the first sectors are being written: the others are settled
 
@@ -358,7 +358,7 @@ made_or_not None told slot tail base image of rests over c names tail_is holds =
 ]
 made_or_not (Some t) told slot tail base image of rests over c names tail_is holds = elim (either (Some t) told slot tail base image of rests over) [
   | inl some ↦ inr (is_made (Some t) told slot tail base image of rests over c names tail_is holds some)
-  | inr none ↦ inl (none_valid (Some t) told slot tail base image of rests over none)
+  | inr none ↦ inl (none_valid (Some t) told slot tail base image of rests over none, first_of (Some t) told slot tail base image of rests over c names tail_is holds)
 ]
 
 -- all of it, once each first sector is written

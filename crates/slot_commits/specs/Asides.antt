@@ -1,5 +1,5 @@
 -- Sectors that are written aside: no block of theirs has one that a commit needs.
-use Rattle.std.specs.Prelude.{◌≡◌, ◌≢◌, ◌⊎◌, ℕ, ◌+◌, ◌*◌, ◌/◌, ◌<◌, ◌≤◌, List, [], length, slice_index_or}
+use Rattle.std.specs.Prelude.{◌≡◌, ◌≢◌, ◌⊎◌, ℕ, ◌+◌, ◌*◌, ◌/◌, ◌<◌, ◌≤◌, [], length, slice_index_or}
 use Rattle.sector_device.specs.Disk.{Image}
 use Rattle.commit_slots.specs.Slots.{block_start}
 use Rattle.slot_commits.specs.States.{State}

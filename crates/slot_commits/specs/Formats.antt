@@ -13,14 +13,14 @@ use Rattle.slot_commits.specs.Tears.{IsTornBy, tearing_by}
 abbrev pub formatted : List ℕ → ℕ → ℕ → State
 formatted bytes seq opens = record { half = 0; bytes = bytes; seq = seq; opens = opens; blocks = length bytes / 4096 }
 
--- no store yet: no copy is valid, and, if no sector tears, nothing looks like one
-abbrev pub IsUnmade : Option (List ℕ → Bool) → Image → Type 0
-IsUnmade None image = HasNone image × (IsMarked image → ⊥)
-IsUnmade (Some torn) image = HasNone image
-
 -- sector 0 is no sector of another format: it doesn't begin as a store's, or as a slot, or is torn
 abbrev pub IsOfSlots : Option (List ℕ → Bool) → Image → Type 0
 IsOfSlots torn image = (take 8 (slice_index_or image 0 []) ≡ magic → ⊥) ⊎ (take 12 (slice_index_or image 0 []) ≡ beginning) ⊎ IsTornBy torn (slice_index_or image 0 [])
+
+-- no store yet: no copy is valid, and sector 0 is none of another format; if no sector tears, nothing looks like one
+abbrev pub IsUnmade : Option (List ℕ → Bool) → Image → Type 0
+IsUnmade None image = HasNone image × (IsMarked image → ⊥)
+IsUnmade (Some torn) image = HasNone image × IsOfSlots (Some torn) image
 
 -- the store, of a device that was just formatted
 pub record IsMade (torn : Option (List ℕ → Bool)) (c : State) (image : Image) : Type 0 where

@@ -12,6 +12,7 @@ use Rattle.slot_commits.specs.Finds.{IsNotice}
 use Rattle.slot_commits.specs.States.{CarriesInSlots, State, tail_of}
 use Rattle.slot_commits.specs.declared.found.LoadFault.{LoadFault}
 use Rattle.slot_commits.specs.declared.found.LoadFault.TheVariants.{NotAStore, Damaged, Device, Memory}
+use Rattle.slot_commits.specs.declared.found.Notice.{Notice}
 use Rattle.slot_commits.specs.declared.found.Recovered.{Recovered}
 
 -- the first number that an image may not have
@@ -33,6 +34,10 @@ pub record Awaits (number first : ℕ) (c : State) (image : Image) : Type 0 wher
   pub apart : slot_start carries.number carries.copy ≢ slot_start number first
   pub fits : number < 2 ^ 64
   pub fresh : IsFresh number image
+
+-- what the slots say beside the commit that counts
+abbrev pub IsNoticeOf : Image → Notice → Type 0
+IsNoticeOf image notice = (slot : Slot) (tail : List ℕ) (copy : ℕ) → Counts slot tail copy image → IsNotice image slot tail notice
 
 -- the reads: the sectors of the slots, and those of the blocks
 abbrev pub load_calls : ℕ → ℕ
@@ -62,7 +67,7 @@ pub record IsRecovered (old new : Disk) (found : Recovered) : Type 0 where
   pub first_fits : found.first ≤ 1
   pub awaits : new.honest → Awaits found.number found.first (state_in found.slot found.bytes.items) old.seen
   pub numbers : new.honest → HasNumbers old.seen
-  pub notice : new.honest → IsNotice old.seen found.slot (tail_of (state_in found.slot found.bytes.items)) found.notice
+  pub notice : new.honest → IsNoticeOf old.seen found.notice
   pub made : Made old new (load_calls found.slot.blocks)
 
 -- nothing begins as a store does

@@ -11,6 +11,10 @@ use Rattle.slot_commits.specs.Tears.{IsTornBy}
 abbrev pub IsOfCopy : Slot → List ℕ → ℕ → ℕ → List ℕ → Type 0
 IsOfCopy slot tail copy k sector = (j : ℕ) × (j < count_of (length tail)) × (k ≡ slot_start slot.number copy + j) × (sector ≡ slot_sector slot tail j)
 
+-- the first `count` of these are those of the slot
+abbrev pub AreSectors : Slot → List ℕ → List (List ℕ) → ℕ → Type 0
+AreSectors slot tail sectors count = (k : ℕ) → k < count → slice_index_or sectors k [] ≡ slot_sector slot tail k
+
 -- image is before, but that some sectors of that copy are written, and some of its slot torn
 pub record SlotOver (torn : Option (List ℕ → Bool)) (slot : Slot) (tail : List ℕ) (copy : ℕ) (before image : Image) : Type 0 where
   pub size : length image ≡ length before

@@ -40,14 +40,14 @@ copy_aside known c knows sectors formed first place count first_as room =
     let used : length c.bytes ≤ slots_capacity sectors = subst (λ (n : ℕ). n ≤ slots_capacity sectors) (length_is known c knows) formed.used_fits in
     subst (λ (n : ℕ). IsAside sectors c n count) (sym at) (other_aside sectors c place count (subst (λ (n : ℕ). n ≤ 1) (half_is known c knows) formed.half_fits) (omega (arith, used)) fits)
 
-module _ (known : Known) (c : State) (knows : Knows known c) (target : List ℕ) where
+module _ (known : Known) (c : State) (knows : Knows known c) (target : List ℕ) (adds : ℕ) where
   pub says_switched : (sectors check : ℕ) → known.slot.sectors ≡ sectors → check ≡ crc_of (take (4096 * (length target / 4096)) target)
-      → ◌≡◌ {A = Slot} (record { number = known.slot.number + 1; length = length target; seq = known.slot.seq; opens = known.slot.opens; sectors = known.slot.sectors; half = 1 - known.slot.half; blocks = length target / 4096; check = check })
-      (slot_of (switched c target) sectors (known.slot.number + 1))
+      → ◌≡◌ {A = Slot} (record { number = known.slot.number + 1; length = length target; seq = known.slot.seq + adds; opens = known.slot.opens; sectors = known.slot.sectors; half = 1 - known.slot.half; blocks = length target / 4096; check = check })
+      (slot_of (switched c target adds) sectors (known.slot.number + 1))
   says_switched sectors check size check_as = λ i. record {
     number = known.slot.number + 1;
     length = length target;
-    seq = seq_is known c knows i;
+    seq = seq_is known c knows i + adds;
     opens = ap (λ (s : Slot). s.opens) knows.slot_is i;
     sectors = size i;
     half = 1 - half_is known c knows i;
@@ -56,21 +56,21 @@ module _ (known : Known) (c : State) (knows : Knows known c) (target : List ℕ)
   }
 
   pub knows_switched : (check : ℕ) (moved : List ℕ) (next : Known) → check ≡ crc_of (take (4096 * (length target / 4096)) target) → take (length target % 4096) moved ≡ drop (4096 * (length target / 4096)) target
-      → next.slot ≡ record { number = known.slot.number + 1; length = length target; seq = known.slot.seq; opens = known.slot.opens; sectors = known.slot.sectors; half = 1 - known.slot.half; blocks = length target / 4096; check = check }
-      → next.check ≡ check → next.tail.items ≡ moved → Knows next (switched c target)
+      → next.slot ≡ record { number = known.slot.number + 1; length = length target; seq = known.slot.seq + adds; opens = known.slot.opens; sectors = known.slot.sectors; half = 1 - known.slot.half; blocks = length target / 4096; check = check }
+      → next.check ≡ check → next.tail.items ≡ moved → Knows next (switched c target adds)
   knows_switched check moved next check_as moved_as slot_as next_check next_tail = record {
-    slot_is = slot_as ∙ says_switched known.slot.sectors check refl check_as ∙ ap (λ (s : Slot). slot_of (switched c target) s.sectors s.number) (sym slot_as);
+    slot_is = slot_as ∙ says_switched known.slot.sectors check refl check_as ∙ ap (λ (s : Slot). slot_of (switched c target adds) s.sectors s.number) (sym slot_as);
     check_is = next_check ∙ check_as;
     tail_is = ap (take (length target % 4096)) next_tail ∙ moved_as;
   }
 
   module _ (torn : Option (List ℕ → Bool)) (disk : Disk) (told : IsToldBy torn) (honest : disk.honest) (formed : IsFormed disk.sectors known) (fits : length target ≤ slots_capacity known.slot.sectors) (was : Stands known.slot.number c disk.seen)
-      (number_fits : known.slot.number + 1 < 2 ^ 64) (stands : (image : Image) → (tearing_by torn disk).left image → Stands known.slot.number c image)
-      (read : HoldsBlocks (length target / 4096) (switched c target) disk.seen) where
+      (number_fits : known.slot.number + 1 < 2 ^ 64) (seq_fits : known.slot.seq + adds < 2 ^ 64) (stands : (image : Image) → (tearing_by torn disk).left image → Stands known.slot.number c image)
+      (read : HoldsBlocks (length target / 4096) (switched c target adds) disk.seen) where
     pub can_switch : (first check : ℕ) (tail : List ℕ) → check < 2 ^ 32 → check ≡ crc_of (take (4096 * (length target / 4096)) target) → first ≡ block_start known.slot.sectors (1 - known.slot.half) + 8 * (length target / 4096) → tail ≡ drop (4096 * (length target / 4096)) target
         → CanCommit torn disk first [] true
-        (record { number = known.slot.number + 1; length = length target; seq = known.slot.seq; opens = known.slot.opens; sectors = known.slot.sectors; half = 1 - known.slot.half; blocks = length target / 4096; check = check })
-        tail known.slot.number c (switched c target) (length target / 4096)
+        (record { number = known.slot.number + 1; length = length target; seq = known.slot.seq + adds; opens = known.slot.opens; sectors = known.slot.sectors; half = 1 - known.slot.half; blocks = length target / 4096; check = check })
+        tail known.slot.number c (switched c target adds) (length target / 4096)
     can_switch first check tail check_fits check_as first_as tail_as = record {
       told = told;
       honest = honest;
@@ -84,7 +84,7 @@ module _ (known : Known) (c : State) (knows : Knows known c) (target : List ℕ)
         length_fits = room;
         tail_fits = omega (arith, ap length tail_as, length-drop (4096 * (length target / 4096)) target);
         number_fits = number_fits;
-        seq_fits = subst (λ (n : ℕ). n < 2 ^ 64) (sym (seq_is known c knows)) was.of.seq_fits;
+        seq_fits = seq_fits;
         opens_fits = subst (λ (n : ℕ). n < 2 ^ 64) (sym (ap (λ (s : Slot). s.opens) knows.slot_is)) was.of.opens_fits;
         blocks_fit = omega (arith, room, formed.at_most);
         check_fits = check_fits;

@@ -35,17 +35,17 @@ abbrev pub append_calls : ℕ → ℕ → ℕ
 append_calls used more =
     8 * ((used + more) / 4096 - used / 4096) + ((if fits_slot used more then 0 else 1) + (2 * count_of (used + more - 4096 * named_after used more) + 1))
 
--- the target in the other half, which holds all its whole blocks
-abbrev pub switched : State → List ℕ → State
-switched c target = record { half = 1 - c.half; bytes = target; seq = c.seq; opens = c.opens; blocks = length target / 4096 }
+-- the target in the other half, which holds all its whole blocks, and `adds` changes more
+abbrev pub switched : State → List ℕ → ℕ → State
+switched c target adds = record { half = 1 - c.half; bytes = target; seq = c.seq + adds; opens = c.opens; blocks = length target / 4096 }
 
 -- the slot that names it, but for the checksum
-abbrev pub slot_switched : Slot → ℕ → ℕ → Slot
-slot_switched slot used check =
+abbrev pub slot_switched : Slot → ℕ → ℕ → ℕ → Slot
+slot_switched slot used adds check =
     record {
       number = slot.number + 1;
       length = used;
-      seq = slot.seq;
+      seq = slot.seq + adds;
       opens = slot.opens;
       sectors = slot.sectors;
       half = 1 - slot.half;

@@ -23,12 +23,14 @@ pub(crate) fn put(buffer: &mut [u8], at: usize, bytes: &[u8])
     buffer[at..at + bytes.len()].copy_from_slice(bytes);
 }
 
-/// Moves the bytes `from..to` of the buffer to its front.
+/// Moves the bytes `from..to` of the buffer to its front. Most commits fill no block, and then nothing is moved.
 pub(crate) fn shift(buffer: &mut [u8], from: usize, to: usize)
     requires order { from ≤ to }
     requires within { to ≤ length buffer.old }
     ensures size { length buffer.new ≡ length buffer.old }
     ensures front { take (to - from) buffer.new ≡ drop from (take to buffer.old) }
 {
-    buffer.copy_within(from..to, 0);
+    if from > 0 {
+        buffer.copy_within(from..to, 0);
+    }
 }

@@ -42,26 +42,28 @@ pub fn write_copy<D: SectorDevice>(
     write_aside(device, start + place, count, bytes)
 }
 
-/// Makes the other half count, which has the whole blocks of `target`; the rest of it rides in the slot. `Err`: a call of
-/// the device failed, and none was made after it.
+/// Makes the other half count, which has the whole blocks of `target`; the rest of it rides in the slot. seq rises by
+/// `adds`. `Err`: a call of the device failed, and none was made after it.
 pub fn switch<D: SectorDevice>(
     device: &mut D,
     known: &mut Known,
     target: &[u8],
+    adds: u64,
 ) -> Result<(), DeviceFault>
     requires formed { IsFormed (D.disk device.old).sectors known.old }
     requires fits { length target.now ≤ slots_capacity known.old.slot.sectors }
+    requires seq { known.old.slot.seq + adds < 2 ^ 64 }
     requires number { known.old.slot.number + 1 < 2 ^ 64 }
     ensures same { IsSame (D.disk device.old) (D.disk device.new) }
     ensures charges { Charges (D.disk device.old) (D.disk device.new) (switch_calls (length target.now)) result }
     ensures formed { IsFormed (D.disk device.new).sectors known.new }
-    ensures slot { OnOk result (known.new.slot ≡ slot_switched known.old.slot (length target.now) known.new.slot.check) }
+    ensures slot { OnOk result (known.new.slot ≡ slot_switched known.old.slot (length target.now) adds known.new.slot.check) }
     ensures slot_stays { OnErr result (known.new ≡ known.old) }
-    ensures knows { (c : State) → Knows known.old c → OnOk result (Knows known.new (switched c target.now)) }
+    ensures knows { (c : State) → Knows known.old c → OnOk result (Knows known.new (switched c target.now adds)) }
     ensures put { (torn : Option (List ℕ → Bool)) (c : State) → IsToldBy torn → (D.disk device.old).honest → Knows known.old c
         → ((image : Image) → (tearing_by torn (D.disk device.old)).left image → Stands known.old.slot.number c image)
-        → HoldsBlocks (length target.now / 4096) (switched c target.now) (D.disk device.old).seen
-        → Put torn (D.disk device.old) (D.disk device.new) known.old.slot.number c (switched c target.now) result }
+        → HoldsBlocks (length target.now / 4096) (switched c target.now adds) (D.disk device.old).seen
+        → Put torn (D.disk device.old) (D.disk device.new) known.old.slot.number c (switched c target.now adds) result }
     ensures sector_0 { (torn : Option (List ℕ → Bool)) → (D.disk device.old).honest → LeavesFirst torn (D.disk device.old) (D.disk device.new) }
     ensures others { (D.disk device.old).honest → (k : ℕ) → 128 ≤ k → slice_index_or (D.disk device.new).seen k [] ≡ slice_index_or (D.disk device.old).seen k [] }
 {
@@ -71,6 +73,7 @@ pub fn switch<D: SectorDevice>(
     let slot = Slot {
         number: known.slot.number + 1,
         length: used,
+        seq: known.slot.seq + adds,
         half,
         blocks: (used / BLOCK_BYTES) as u32,
         check: crc32c(front),

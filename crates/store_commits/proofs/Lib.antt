@@ -7,6 +7,7 @@ pub mod More
 pub mod Batches
 pub mod Changes
 pub mod Extents
+mod Instead
 pub mod Joining
 pub mod Parts
 pub mod Modelled

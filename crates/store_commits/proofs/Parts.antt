@@ -18,15 +18,18 @@ use Rattle.store_commits.specs.Account.{Account, account_broken, with_copy, exte
 use Rattle.store_commits.specs.Batch.{GoesBehind, IsBatch, behind_in_doubt, failed, is_full, passed, room_in_doubt, room_made, to_append, to_snapshot, Slot, AreCommitted, AreInDoubt, AreJudged, waits, said, asked, waiting, size_of, sizes_of, account_committed, replies_done, replies_in_doubt}
 use Rattle.store_commits.specs.Copying.{Target, copy_of, target_with}
 use Rattle.store_commits.specs.Folds.{all_changes, frames_at, StandsAfter}
-use Rattle.store_commits.specs.Inside.{IsStored, LeavesNumbers, account_of, store_view, ArePlanned, IsAppended, IsAppendedBehind, IsPart, IsSegment, IsTried, AnswersPart, answered, behind, bytes_in, fate_of, full, none_planned, one_planned, replies_in, together}
+use Rattle.store_commits.specs.Inside.{IsStored, LeavesNumbers, account_of, store_view, ArePlanned, IsAppended, IsAppendedBehind, IsPart, IsReplaced, IsSegment, IsTried, AnswersPart, answered, behind, bytes_in, fate_of, full, instead, none_planned, one_planned, replies_in, together}
 use Rattle.store_commits.specs.Snapshot.{NeedsSnapshot, RemakesAll, snapshot_bytes, account_with_snapshot}
 use Rattle.store_commits.specs.Run.{Refused}
 use Rattle.store_commits.specs.declared.event.Reply.{Reply}
 use Rattle.store_commits.specs.declared.segment.Fate.TheVariants.{Committed, InDoubt, NotBegun}
+use Rattle.store_commits.specs.declared.segment.Base.{Base}
+use Rattle.store_commits.specs.declared.segment.Base.TheVariants.{After, Before, Used}
 use Rattle.store_commits.specs.declared.segment.Segment.{Segment}
 use Rattle.store_commits.proofs.Batches.{all_broken}
 use Rattle.store_commits.proofs.Changes.{each_is_all, frames_size, good_last, seq_counts, sizes_all, sizes_append}
 use Rattle.store_commits.proofs.Extents.{broken_as, ending_as, switched_as}
+use Rattle.store_commits.proofs.Instead.{instead_done, instead_hit}
 use Rattle.store_commits.proofs.Migrating.{snapshot_holds}
 use Rattle.store_commits.proofs.Moves.{Moved, done_answered, in_doubt_answered, moved_both, moved_nowhere}
 use Rattle.store_commits.proofs.Running.{widened}
@@ -211,7 +214,7 @@ module _ {D : Type 0} (disk : D → Disk) (coherent : AreCoherent disk) (before 
   few_left = let left = numbers in omega (arith, left)
 
   -- nothing waits
-  nothing_by : (left : List Transaction) (slots : List Slot) (b : Account) → IsSegment d left None slots b → AreFramed (all_changes (waiting slots)) → AreGood state (all_changes (waiting slots)) → length (all_changes (waiting slots)) ≡ 0
+  nothing_by : (left : List Transaction) (slots : List Slot) (b : Account) → IsSegment d left Used slots b → AreFramed (all_changes (waiting slots)) → AreGood state (all_changes (waiting slots)) → length (all_changes (waiting slots)) ≡ 0
       → AnswersPart disk before state copy slots left b before copy (replies_done state.seq slots)
   nothing_by left _ _ (together slots judged forced) framed good few = was_nothing disk coherent before state copy slots works judged framed good stored few_left (none_in d slots judged few) left forced
   nothing_by left _ _ (full c accepted no_room) framed good few =
@@ -219,7 +222,7 @@ module _ {D : Type 0} (disk : D → Disk) (coherent : AreCoherent disk) (before 
       (record { paired = refl; dones_are = refl; hits_are = refl }) (λ qs rest end batch. is_full d end c left qs rest works accepted no_room batch)
 
   -- some wait
-  some_by : (left : List Transaction) (slots : List Slot) (b : Account) → IsSegment d left None slots b → AreFramed (all_changes (waiting slots)) → AreGood state (all_changes (waiting slots)) → (length (all_changes (waiting slots)) ≡ 0 → ⊥)
+  some_by : (left : List Transaction) (slots : List Slot) (b : Account) → IsSegment d left Used slots b → AreFramed (all_changes (waiting slots)) → AreGood state (all_changes (waiting slots)) → (length (all_changes (waiting slots)) ≡ 0 → ⊥)
       → (now : JournalView D) (fine : Bool) → IsAppended disk before now (frames_at state.seq (all_changes (waiting slots))) (length (all_changes (waiting slots))) fine
       → (copied : Option Target) → (fine ≡ true → copied ≡ target_with (frames_at state.seq (all_changes (waiting slots))) copy) → (fine ≡ false → copied ≡ None)
       → AnswersPart disk before state copy slots left b now copied (replies_by fine state.seq slots)
@@ -233,20 +236,20 @@ module _ {D : Type 0} (disk : D → Disk) (coherent : AreCoherent disk) (before 
       (was_in_doubt disk coherent before state copy slots works judged framed good stored few_left first.0 first.1 first.2 now false appended (appended.outcome.1 refl) left forced)
   some_by left _ _ (full c accepted no_room) framed good some now fine appended copied grown dropped = absurd (some refl)
 
-  takes_by : (left : List Transaction) (slots : List Slot) (b : Account) → IsSegment d left None slots b → AreFramed (all_changes (waiting slots)) → AreGood state (all_changes (waiting slots)) → (length (all_changes (waiting slots)) ≡ 0 → ⊥)
+  takes_by : (left : List Transaction) (slots : List Slot) (b : Account) → IsSegment d left Used slots b → AreFramed (all_changes (waiting slots)) → AreGood state (all_changes (waiting slots)) → (length (all_changes (waiting slots)) ≡ 0 → ⊥)
       → Takes before (length (frames_at state.seq (all_changes (waiting slots)))) (length (all_changes (waiting slots)))
   takes_by left _ _ (together slots judged forced) framed good some = takes disk coherent before state copy slots works judged framed good stored few_left
   takes_by left _ _ (full c accepted no_room) framed good some = absurd (some refl)
 
   -- one waits behind a snapshot
-  behind_by : (left : List Transaction) (v : Vec ℕ Global) (slots : List Slot) (b : Account) → IsSegment d left (Some v) slots b → AreFramed (all_changes (waiting slots)) → AreGood state (all_changes (waiting slots))
+  behind_by : (left : List Transaction) (v : Vec ℕ Global) (slots : List Slot) (b : Account) → IsSegment d left (Before v) slots b → AreFramed (all_changes (waiting slots)) → AreGood state (all_changes (waiting slots))
       → (now : JournalView D) (fine : Bool) → IsAppendedBehind disk before now v.items (frames_at state.seq (all_changes (waiting slots))) (length (all_changes (waiting slots))) fine
       → AnswersPart disk before state copy slots left b now None (replies_by fine state.seq slots)
   behind_by left _ _ _ (behind c v bytes accepted needs) framed good now fine appended =
       behind_answered left c accepted needs framed good now fine
       (subst (λ (l : List ℕ). IsAppendedBehind disk before now l (frames_at state.seq (all_changes (c ∷ []))) (length (all_changes (c ∷ []))) fine) bytes appended)
 
-  fits_by : (left : List Transaction) (v : Vec ℕ Global) (slots : List Slot) (b : Account) → IsSegment d left (Some v) slots b → AreGood state (all_changes (waiting slots))
+  fits_by : (left : List Transaction) (v : Vec ℕ Global) (slots : List Slot) (b : Account) → IsSegment d left (Before v) slots b → AreGood state (all_changes (waiting slots))
       → (length v.items + length (frames_at state.seq (all_changes (waiting slots))) ≤ capacity_of before.rides before.sectors) × (before.seq + length (all_changes (waiting slots)) < 2 ^ 64)
   fits_by left _ _ _ (behind c v bytes accepted needs) good =
       let long = ap length bytes in
@@ -257,6 +260,26 @@ module _ {D : Type 0} (disk : D → Disk) (coherent : AreCoherent disk) (before 
       let fits = needs.1 in
       (omega (arith, long, fits, size), omega (arith, counted, last, seq))
 
+  -- one is committed as the snapshot of the documents after it
+  instead_by : (left : List Transaction) (v : Vec ℕ Global) (slots : List Slot) (b : Account) → IsSegment d left (After v) slots b → AreGood state (all_changes (waiting slots))
+      → (now : JournalView D) (fine : Bool) → IsReplaced disk before now v.items (length (all_changes (waiting slots))) fine → AnswersPart disk before state copy slots left b now None (replies_by fine state.seq slots)
+  instead_by left _ _ _ (instead c v bytes accepted nowhere fits) good now true replaced =
+      let here = subst (λ (l : List ℕ). IsReplaced disk before now l (length (all_changes (c ∷ []))) true) bytes replaced in
+      instead_done disk coherent before state copy works stored c good (record { works = works; accepted = accepted; nowhere = nowhere; fits = fits }) now true here (here.outcome.0 refl) left
+  instead_by left _ _ b (instead c v bytes accepted nowhere fits) good now false replaced =
+      let here = subst (λ (l : List ℕ). IsReplaced disk before now l (length (all_changes (c ∷ []))) false) bytes replaced in
+      instead_hit disk coherent before state copy works stored c good (record { works = works; accepted = accepted; nowhere = nowhere; fits = fits }) now false here (here.outcome.1 refl) left b
+
+  fits_after : (left : List Transaction) (v : Vec ℕ Global) (slots : List Slot) (b : Account) → IsSegment d left (After v) slots b → AreGood state (all_changes (waiting slots))
+      → (length v.items ≤ capacity_of before.rides before.sectors) × (before.seq + length (all_changes (waiting slots)) < 2 ^ 64)
+  fits_after left _ _ _ (instead c v bytes accepted nowhere fits) good =
+      let long = ap length bytes in
+      let counted = (good_last state (all_changes (c ∷ [])) good).counted in
+      let last = ap (λ (s : State). s.seq) (sym (each_is_all state (c ∷ []))) ∙ seq_counts state (c ∷ []) in
+      let seq = stored.held.seq in
+      let room = fits.1 in
+      (omega (arith, long, room), omega (arith, counted, last, seq))
+
   module _ (left : List Transaction) (segment : Segment) (slots : List Slot) (b : Account) (part : IsPart d left segment slots b) where
     abbrev frames : List ℕ
     frames = frames_at state.seq (all_changes (waiting slots))
@@ -264,35 +287,44 @@ module _ {D : Type 0} (disk : D → Disk) (coherent : AreCoherent disk) (before 
     abbrev adds : ℕ
     adds = length (all_changes (waiting slots))
 
-    as_one : (o : Option (Vec ℕ Global)) → segment.snapshot ≡ o → IsSegment d left o slots b
-    as_one o is = subst (λ (v : Option (Vec ℕ Global)). IsSegment d left v slots b) is part.is
+    as_one : (o : Base) → segment.base ≡ o → IsSegment d left o slots b
+    as_one o is = subst (λ (v : Base). IsSegment d left v slots b) is part.is
 
-    pub none_waits : segment.snapshot ≡ None → segment.adds ≡ 0 → AnswersPart disk before state copy slots left b before copy (map (answered Committed) segment.replies.items)
+    pub none_waits : segment.base ≡ Used → segment.adds ≡ 0 → AnswersPart disk before state copy slots left b before copy (map (answered Committed) segment.replies.items)
     none_waits none few = subst (AnswersPart disk before state copy slots left b before copy) (sym (said_by true state.seq slots segment.replies.items part.replies))
-        (nothing_by left slots b (as_one None none) part.has.framed part.has.good (sym part.has.adds ∙ few))
+        (nothing_by left slots b (as_one Used none) part.has.framed part.has.good (sym part.has.adds ∙ few))
 
-    pub some_wait : segment.snapshot ≡ None → (segment.adds ≡ 0 → ⊥) → (now : JournalView D) (fine : Bool) → IsAppended disk before now segment.frames.items segment.adds fine
+    pub some_wait : segment.base ≡ Used → (segment.adds ≡ 0 → ⊥) → (now : JournalView D) (fine : Bool) → IsAppended disk before now segment.frames.items segment.adds fine
         → (copied : Option Target) → (fine ≡ true → copied ≡ target_with segment.frames.items copy) → (fine ≡ false → copied ≡ None)
         → AnswersPart disk before state copy slots left b now copied (map (answered (fate_of fine)) segment.replies.items)
     some_wait none some now fine appended copied grown dropped = subst (AnswersPart disk before state copy slots left b now copied) (sym (said_by fine state.seq slots segment.replies.items part.replies))
-        (some_by left slots b (as_one None none) part.has.framed part.has.good (λ few. some (part.has.adds ∙ few)) now fine
+        (some_by left slots b (as_one Used none) part.has.framed part.has.good (λ few. some (part.has.adds ∙ few)) now fine
         (subst (λ (q : List ℕ × ℕ). IsAppended disk before now q.0 q.1 fine) (λ i. (part.has.frames i, part.has.adds i)) appended)
         copied (λ made. grown made ∙ ap (λ (l : List ℕ). target_with l copy) part.has.frames) dropped)
 
-    pub one_behind : (v : Vec ℕ Global) → segment.snapshot ≡ Some v → (now : JournalView D) (fine : Bool) → IsAppendedBehind disk before now v.items segment.frames.items segment.adds fine
+    pub one_behind : (v : Vec ℕ Global) → segment.base ≡ Before v → (now : JournalView D) (fine : Bool) → IsAppendedBehind disk before now v.items segment.frames.items segment.adds fine
         → AnswersPart disk before state copy slots left b now None (map (answered (fate_of fine)) segment.replies.items)
     one_behind v is now fine appended = subst (AnswersPart disk before state copy slots left b now None) (sym (said_by fine state.seq slots segment.replies.items part.replies))
-        (behind_by left v slots b (as_one (Some v) is) part.has.framed part.has.good now fine
+        (behind_by left v slots b (as_one (Before v) is) part.has.framed part.has.good now fine
         (subst (λ (q : List ℕ × ℕ). IsAppendedBehind disk before now v.items q.0 q.1 fine) (λ i. (part.has.frames i, part.has.adds i)) appended))
 
-    -- what the calls of the journal ask
-    pub part_takes : segment.snapshot ≡ None → (segment.adds ≡ 0 → ⊥) → Takes before (length segment.frames.items) segment.adds
-    part_takes none some = subst (λ (q : List ℕ × ℕ). Takes before (length q.0) q.1) (λ i. (sym part.has.frames i, sym part.has.adds i))
-        (takes_by left slots b (as_one None none) part.has.framed part.has.good (λ few. some (part.has.adds ∙ few)))
+    pub one_instead : (v : Vec ℕ Global) → segment.base ≡ After v → (now : JournalView D) (fine : Bool) → IsReplaced disk before now v.items segment.adds fine
+        → AnswersPart disk before state copy slots left b now None (map (answered (fate_of fine)) segment.replies.items)
+    one_instead v is now fine replaced = subst (AnswersPart disk before state copy slots left b now None) (sym (said_by fine state.seq slots segment.replies.items part.replies))
+        (instead_by left v slots b (as_one (After v) is) part.has.good now fine (subst (λ (n : ℕ). IsReplaced disk before now v.items n fine) part.has.adds replaced))
 
-    pub part_fits : (v : Vec ℕ Global) → segment.snapshot ≡ Some v → (length v.items + length segment.frames.items ≤ capacity_of before.rides before.sectors) × (before.seq + segment.adds < 2 ^ 64)
+    -- what the calls of the journal ask
+    pub part_takes : segment.base ≡ Used → (segment.adds ≡ 0 → ⊥) → Takes before (length segment.frames.items) segment.adds
+    part_takes none some = subst (λ (q : List ℕ × ℕ). Takes before (length q.0) q.1) (λ i. (sym part.has.frames i, sym part.has.adds i))
+        (takes_by left slots b (as_one Used none) part.has.framed part.has.good (λ few. some (part.has.adds ∙ few)))
+
+    pub part_fits : (v : Vec ℕ Global) → segment.base ≡ Before v → (length v.items + length segment.frames.items ≤ capacity_of before.rides before.sectors) × (before.seq + segment.adds < 2 ^ 64)
     part_fits v is = subst (λ (q : List ℕ × ℕ). (length v.items + length q.0 ≤ capacity_of before.rides before.sectors) × (before.seq + q.1 < 2 ^ 64)) (λ i. (sym part.has.frames i, sym part.has.adds i))
-        (fits_by left v slots b (as_one (Some v) is) part.has.good)
+        (fits_by left v slots b (as_one (Before v) is) part.has.good)
+
+    pub part_fits_after : (v : Vec ℕ Global) → segment.base ≡ After v → (length v.items ≤ capacity_of before.rides before.sectors) × (before.seq + segment.adds < 2 ^ 64)
+    part_fits_after v is = subst (λ (n : ℕ). (length v.items ≤ capacity_of before.rides before.sectors) × (before.seq + n < 2 ^ 64)) (sym part.has.adds)
+        (fits_after left v slots b (as_one (After v) is) part.has.good)
 
 -- ---- the device failed before
 

@@ -9,11 +9,13 @@ use Rattle.doc_changes.specs.State.{State}
 use Rattle.store_commits.specs.Folds.{after_each, StandsAfter}
 use Rattle.store_commits.specs.Images.{Stands}
 use Rattle.store_commits.specs.Account.{Account, StoreView, IsStanding, account_broken}
-use Rattle.store_commits.specs.Batch.{AreMade, Commit, IsBatch, behind_in_doubt, commit_in_doubt, commit_made, failed, is_full, no_more, passed, room_in_doubt, room_made, stays_broken, Slot, waits, said, asked, changes, replies_done, replies_in_doubt}
+use Rattle.store_commits.specs.Batch.{AreMade, Commit, IsBatch, as_snapshot, as_snapshot_in_doubt, behind_in_doubt, commit_in_doubt, commit_made, failed, is_full, no_more, passed, room_in_doubt, room_made, stays_broken, Slot, waits, said, asked, changes, replies_done, replies_in_doubt}
 use Rattle.store_commits.specs.Events.{Event, Reply, change, done_by, hit_by, dones_of, hits_of}
 use Rattle.store_commits.specs.Copying.{IsPumped}
+use Rattle.store_commits.specs.Replacing.{account_after}
+use Rattle.store_commits.specs.Snapshot.{account_with_snapshot}
 use Rattle.store_commits.specs.declared.pump.Pump.{Pump}
-use Rattle.store_commits.specs.Run.{IsDone, IsRun, Lasts, Ran, a_batch, a_snapshot, a_step, no_memory, nothing, one_more}
+use Rattle.store_commits.specs.Run.{IsDone, IsRun, Lasts, Ran, a_batch, a_seal, a_snapshot, a_step, no_memory, nothing, one_more}
 use Rattle.store_commits.proofs.Changes.{after_append}
 use Rattle.store_commits.proofs.Slots.{swap}
 use Rattle.store_commits.proofs.Standing.{not_both, stays}
@@ -195,6 +197,8 @@ batch_paired _ _ _ _ _ (commit_in_doubt a b d slots ts rs more hit forced rest) 
 batch_paired _ _ _ _ _ (room_made a b d t ts rs more goes made rest) = ap suc (batch_paired b d ts rs more rest)
 batch_paired _ _ _ _ _ (behind_in_doubt a b d t ts rs more goes hit rest) = ap suc (batch_paired b d ts rs more rest)
 batch_paired _ _ _ _ _ (room_in_doubt a d t ts rs more goes rest) = ap suc (batch_paired (account_broken a) d ts rs more rest)
+batch_paired _ _ _ _ _ (as_snapshot a d t ts rs more goes rest) = ap suc (batch_paired (account_with_snapshot (account_after a t)) d ts rs more rest)
+batch_paired _ _ _ _ _ (as_snapshot_in_doubt a d t ts rs more goes rest) = ap suc (batch_paired (account_broken a) d ts rs more rest)
 batch_paired _ _ _ _ _ (is_full a d t ts rs more works accepted none rest) = ap suc (batch_paired a d ts rs more rest)
 batch_paired _ _ _ _ _ (stays_broken a d t ts rs more broken rest) = ap suc (batch_paired a d ts rs more rest)
 
@@ -202,6 +206,7 @@ done_paired : (a b : Account) (es : List Event) (rs : List Reply) (commits : Lis
 done_paired _ _ _ _ _ (a_batch a b ts rs commits is) = changes_length ts ∙ batch_paired a b ts rs commits is
 done_paired _ _ _ _ _ (a_snapshot a b r is) = refl
 done_paired _ _ _ _ _ (a_step a b most r is) = refl
+done_paired _ _ _ _ _ (a_seal a b r is) = refl
 done_paired _ _ _ _ _ (no_memory a t) = refl
 
 pub run_paired : (a b : Account) (es : List Event) (rs : List Reply) (commits : List Commit) → IsRun a es rs commits b → length es ≡ length rs

@@ -8,10 +8,9 @@ use Rattle.std.specs.List.{AllByRecursion}
 use Rattle.record_text.specs.Frame.{AreEntries, IsFramed, frame_of}
 use Rattle.doc_changes.specs.Refusals.{first, refused_if}
 use Rattle.schema_rules.specs.declared.profile.Profile.{Profile}
-use Rattle.doc_changes.specs.State.{Document, State, Good, IsStorable, AreDistinct, AreOffered, AreRevised, find, empty_in}
+use Rattle.doc_changes.specs.State.{Document, State, Good, IsStorable, AreDistinct, AreOffered, AreRevised, find, empty_in, most_documents}
 use Rattle.doc_machine.specs.Entries.{AreTaken, with_all, with_entry}
 use Rattle.doc_changes.specs.Step.{refusals_in}
-use Rattle.doc_changes.specs.declared.limits.TheConstants.{DOCUMENTS}
 use Rattle.doc_changes.specs.declared.refusal.Refusal.{Refusal}
 use Rattle.doc_changes.proofs.Schemas.{refused_not, valid_as_judged}
 use Rattle.store_commits.specs.Snapshot.{creation_of, snapshot_of, snapshot_bytes, RemakesAll}
@@ -46,14 +45,14 @@ if_true : (b : Bool) (n : ℕ) → b ≡ true → refused_if (not b) n ≡ None
 if_true b n h = ap (λ (c : Bool). refused_if (not c) n) h
 
 -- a storable document is created where its name is new and there is room
-creates : (profile : Profile) (ds : List Document) (d : Document) → IsStorable d → AreOffered profile (d ∷ []) → find d.name ds ≡ None → length ds < DOCUMENTS → first (refusals_in profile ds (creation_of d).change) ≡ None
+creates : (profile : Profile) (ds : List Document) (d : Document) → IsStorable d → AreOffered profile (d ∷ []) → find d.name ds ≡ None → length ds < most_documents profile → first (refusals_in profile ds (creation_of d).change) ≡ None
 creates profile ds d storable offered new few =
     none_first (refusals_in profile ds (creation_of d).change) (
       if_true _ _ storable.named,
       (
         if_not _ _ (ap is_some new),
         (
-          if_not _ _ (lt-leb DOCUMENTS (length ds) few),
+          if_not _ _ (lt-leb (most_documents profile) (length ds) few),
           (
             refused_not profile d.schema offered.0,
             (
@@ -75,7 +74,7 @@ pub record CanGoOn (s : State) (rest : List Document) : Type 0 where
   pub distinct : AreDistinct (s.documents ++ rest)
   pub storable : AllByRecursion IsStorable rest
   pub offered : AreOffered s.profile rest
-  pub few : length s.documents + length rest ≤ DOCUMENTS
+  pub few : length s.documents + length rest ≤ most_documents s.profile
   pub revised : AreRevised s.seq rest
 
 goes_on : (s : State) (d : Document) (rest : List Document) → CanGoOn s (d ∷ rest) → CanGoOn (with_entry s (creation_of d)) rest

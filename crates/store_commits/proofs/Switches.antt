@@ -7,8 +7,8 @@ use Rattle.store_journal.specs.Layout.{IsSized, capacity_of}
 use Rattle.sector_device.specs.Sectors.{sectors_of}
 use Rattle.sector_device.proofs.Charges.{made_joined, failed_joined}
 use Rattle.slot_commits.specs.Loads.{number_end}
-use Rattle.store_journal.specs.Calls.{BeginsWith, Broke, CallFault, CommitFault, Refused, Stays, Stepped, Switched}
-use Rattle.store_journal.specs.Carries.{Carried, Carries, EitherCarried, switched}
+use Rattle.store_journal.specs.Calls.{BeginsWith, Broke, CallFault, CommitFault, Refused, Replaced, Stays, Stepped, Switched}
+use Rattle.store_journal.specs.Carries.{Carried, Carries, EitherCarried, replaced, switched}
 use Rattle.store_journal.specs.JournalView.{JournalView, IsKept, carried_of}
 use Rattle.store_journal.specs.Models.{model}
 use Rattle.store_journal.specs.Writes.{step_count, switch_calls}
@@ -52,16 +52,23 @@ enough bytes before mid fits same kept =
 whole : (bytes max : ℕ) → sectors_of bytes ≤ max → min bytes (512 * (0 / 512 + step_count bytes 0 max)) ≡ bytes
 whole bytes max le = omega (arith, le, all_sectors bytes max le)
 
--- a journal whose bytes stayed, and then gave way to a target: at each moment the old bytes in their half, or the target in the other
+-- a journal whose bytes stayed, and then gave way to others that are made of them: at each moment the old bytes, or the new ones
+pub either_of : {D : Type 0} (disk : D → Disk) (before mid now : JournalView D) (next : Carried → Carried) → Stays (disk before.device) before mid → (disk before.device).honest
+    → LeavesOnly (model before.rides (disk before.device)) (model before.rides (disk mid.device)) (Carries (carried_of before))
+    → LeavesOnly (model mid.rides (disk mid.device)) (model mid.rides (disk now.device)) (EitherCarried (carried_of mid) (next (carried_of mid)))
+    → LeavesOnly (model before.rides (disk before.device)) (model before.rides (disk now.device)) (EitherCarried (carried_of before) (next (carried_of before)))
+either_of disk before mid now next stays honest first second =
+    let same : carried_of mid ≡ carried_of before = λ i. record { version = stays.version i; rides = stays.rides i; half = stays.half i; bytes = stays.bytes honest i; seq = stays.seq i; opens = stays.opens i } in
+    joined (model before.rides (disk before.device)) (model before.rides (disk mid.device)) (model before.rides (disk now.device)) (EitherCarried (carried_of before) (next (carried_of before)))
+    (leaves_weaker (model before.rides (disk before.device)) (model before.rides (disk mid.device)) (Carries (carried_of before)) (EitherCarried (carried_of before) (next (carried_of before))) (λ image carries. inl carries) first)
+    (subst (λ (c : Carried). LeavesOnly (model c.rides (disk mid.device)) (model c.rides (disk now.device)) (EitherCarried c (next c))) same second)
+
+-- the old bytes in their half, or the target in the other
 pub either : {D : Type 0} (disk : D → Disk) (before mid now : JournalView D) (target : List ℕ) → Stays (disk before.device) before mid → (disk before.device).honest
     → LeavesOnly (model before.rides (disk before.device)) (model before.rides (disk mid.device)) (Carries (carried_of before))
     → LeavesOnly (model mid.rides (disk mid.device)) (model mid.rides (disk now.device)) (EitherCarried (carried_of mid) (switched (carried_of mid) target))
     → LeavesOnly (model before.rides (disk before.device)) (model before.rides (disk now.device)) (EitherCarried (carried_of before) (switched (carried_of before) target))
-either disk before mid now target stays honest first second =
-    let same : carried_of mid ≡ carried_of before = λ i. record { version = stays.version i; rides = stays.rides i; half = stays.half i; bytes = stays.bytes honest i; seq = stays.seq i; opens = stays.opens i } in
-    joined (model before.rides (disk before.device)) (model before.rides (disk mid.device)) (model before.rides (disk now.device)) (EitherCarried (carried_of before) (switched (carried_of before) target))
-    (leaves_weaker (model before.rides (disk before.device)) (model before.rides (disk mid.device)) (Carries (carried_of before)) (EitherCarried (carried_of before) (switched (carried_of before) target)) (λ image carries. inl carries) first)
-    (subst (λ (c : Carried). LeavesOnly (model c.rides (disk mid.device)) (model c.rides (disk now.device)) (EitherCarried c (switched c target))) same second)
+either disk before mid now target = either_of disk before mid now (λ c. switched c target)
 
 -- a journal whose bytes stayed, and that the device broke then
 pub broke_behind : {D : Type 0} (old mid new : Disk) (before middle now : JournalView D) (last calls : ℕ) → Stays old before middle → (old.honest ↔ mid.honest) → Broke mid new last middle now → Failed old new calls
@@ -114,6 +121,26 @@ module _ {D : Type 0} (disk : D → Disk) (before mid now : JournalView D) (targ
       used = is.used;
       half = is.half ∙ ap (λ (h : ℕ). 1 - h) step.stays.half;
       seq = is.seq ∙ step.stays.seq;
+      version = is.version ∙ step.stays.version;
+      rides = is.rides ∙ step.stays.rides;
+      opens = is.opens ∙ step.stays.opens;
+      sectors = is.sectors ∙ step.stays.sectors;
+      works = is.works;
+      settled = is.settled;
+      next = is.next ∙ next_is;
+      made = made_joined (disk before.device) (disk mid.device) (disk now.device) (sectors_of (length target)) last made (subst (Made (disk mid.device) (disk now.device)) last_is is.made);
+    };
+    copied = is.copied;
+  }
+
+  pub replace_counts : (adds : ℕ) → Replaced (disk mid.device) (disk now.device) mid now target adds (switch_calls mid.rides (length target)) → Replaced (disk before.device) (disk now.device) before now target adds (sectors_of (length target) + last)
+  replace_counts adds is = record {
+    worked = step.worked;
+    became = record {
+      bytes = λ honest. is.bytes (same.0 honest);
+      used = is.used;
+      half = is.half ∙ ap (λ (h : ℕ). 1 - h) step.stays.half;
+      seq = is.seq ∙ ap (λ (n : ℕ). n + adds) step.stays.seq;
       version = is.version ∙ step.stays.version;
       rides = is.rides ∙ step.stays.rides;
       opens = is.opens ∙ step.stays.opens;

@@ -9,11 +9,13 @@ use Rattle.doc_changes.specs.declared.refusal.Refusal.{Refusal}
 use Rattle.doc_machine.specs.Transaction.{Transaction, after_in, changes_of, refusal_in}
 use Rattle.refusals.specs.declared.numbers.TheConstants.{BROKEN, DEVICE, FULL, MEMORY}
 use Rattle.store_commits.specs.Account.{Account, account_broken}
-use Rattle.store_commits.specs.Batch.{Commit, Intent, IsBatch, behind_in_doubt, commit_for, commit_in_doubt, commit_made, failed, is_full, no_more, passed, room_in_doubt, room_made, stays_broken, to_append, to_snapshot, Slot, waits, said, AreJudged, account_behind, account_committed, asked, changes, replies_done, replies_in_doubt, waiting}
+use Rattle.store_commits.specs.Batch.{Commit, Intent, IsBatch, as_snapshot, as_snapshot_in_doubt, behind_in_doubt, commit_for, commit_in_doubt, commit_made, failed, is_full, no_more, passed, room_in_doubt, room_made, stays_broken, to_append, to_replace, to_snapshot, Slot, waits, said, AreJudged, account_behind, account_committed, asked, changes, replies_done, replies_in_doubt, waiting}
 use Rattle.store_commits.specs.Events.{Event, Reply, Done, Refused, dones_of, hits_of, reply_of}
 use Rattle.store_commits.specs.Folds.{after_each}
 use Rattle.store_commits.specs.Copying.{PumpAnswers}
-use Rattle.store_commits.specs.Run.{IsDone, IsRun, a_batch, a_snapshot, a_step, commits_of, no_memory, nothing, one_more, to_step}
+use Rattle.store_commits.specs.Replacing.{account_after}
+use Rattle.store_commits.specs.Run.{IsDone, IsRun, a_batch, a_seal, a_snapshot, a_step, commits_of, no_memory, nothing, one_more, to_step}
+use Rattle.store_commits.specs.Sealing.{SealAnswers, to_seal}
 use Rattle.store_commits.specs.Snapshot.{IsSnapshotRefused, SnapshotAnswers, StopsBefore, account_with_snapshot}
 use Rattle.store_commits.specs.declared.pump.Pump.{Pump}
 use Rattle.store_commits.proofs.Changes.{after_append}
@@ -228,6 +230,14 @@ batch_went _ _ _ _ _ (room_in_doubt a d t ts rs more goes rest) =
     let b = account_broken a in
     went_on a b d (failed (to_snapshot a) b ∷ []) more (t ∷ []) ts (Refused (plain DEVICE) ∷ []) rs [] (t ∷ []) (tells_hit t)
     (went_hit a b (failed (to_snapshot a) b ∷ []) (t ∷ []) refl refl goes.works refl (goes.accepted, tt) refl) (batch_went b d ts rs more rest)
+batch_went _ _ _ _ _ (as_snapshot a d t ts rs more goes rest) =
+    let b = account_with_snapshot (account_after a t) in
+    went_on a b d (passed (to_replace a t) ∷ []) more (t ∷ []) ts (replies_done a.state.seq (waits t ∷ [])) rs (t ∷ []) [] (record { paired = refl; dones_are = refl; hits_are = refl })
+    (went_done a b (passed (to_replace a t) ∷ []) (t ∷ []) tt refl goes.works goes.works (goes.accepted, tt) refl) (batch_went b d ts rs more rest)
+batch_went _ _ _ _ _ (as_snapshot_in_doubt a d t ts rs more goes rest) =
+    let b = account_broken a in
+    went_on a b d (failed (to_replace a t) b ∷ []) more (t ∷ []) ts (Refused (plain DEVICE) ∷ []) rs [] (t ∷ []) (tells_hit t)
+    (went_hit a b (failed (to_replace a t) b ∷ []) (t ∷ []) refl refl goes.works refl (goes.accepted, tt) refl) (batch_went b d ts rs more rest)
 batch_went _ _ _ _ _ (is_full a d t ts rs more works accepted none rest) =
     went_on a a d [] more (t ∷ []) ts (Refused (plain FULL) ∷ []) rs [] [] (tells_refused t (plain FULL) (λ e. absurd (omega (arith, e)))) (went_nowhere a) (batch_went a d ts rs more rest)
 batch_went _ _ _ _ _ (stays_broken a d t ts rs more broken rest) =
@@ -258,6 +268,8 @@ batch_none _ _ _ _ _ (commit_in_doubt a b d slots ts rs more hit forced rest) un
 batch_none _ _ _ _ _ (room_made a b d t ts rs more goes made rest) undone unhit = absurd (cc undone)
 batch_none _ _ _ _ _ (behind_in_doubt a b d t ts rs more goes hit rest) undone unhit = absurd (cc unhit)
 batch_none _ _ _ _ _ (room_in_doubt a d t ts rs more goes rest) undone unhit = absurd (cc unhit)
+batch_none _ _ _ _ _ (as_snapshot a d t ts rs more goes rest) undone unhit = absurd (cc undone)
+batch_none _ _ _ _ _ (as_snapshot_in_doubt a d t ts rs more goes rest) undone unhit = absurd (cc unhit)
 batch_none _ _ _ _ _ (is_full a d t ts rs more works accepted none rest) undone unhit = batch_none a d ts rs more rest undone unhit
 batch_none _ _ _ _ _ (stays_broken a d t ts rs more broken rest) undone unhit = batch_none a d ts rs more rest undone unhit
 
@@ -304,6 +316,11 @@ step_went a b most (Ok p) is = went_done a b (passed (to_step a most) ∷ []) []
 step_went a b most (Err r) (inl hit) = hit_went Pump a b r (to_step a most) hit.0 hit.1.can.works hit.1.new_is
 step_went a b most (Err r) (inr kept) = kept_went Pump a b r (to_step a most) (stops_own a r kept.0) (ap (λ (x : Account). x.state) kept.1) (ap (λ (x : Account). x.broken) kept.1)
 
+seal_went : (a b : Account) (r : Result (Unit {0}) Refusal) → SealAnswers a r b → Went a b (commits_of r (to_seal a) b) [] []
+seal_went a b (Ok done) is = went_done a b (passed (to_seal a) ∷ []) [] tt refl is.works (ap (λ (x : Account). x.broken) is.new_is ∙ is.works) tt (ap (λ (x : Account). x.state) is.new_is)
+seal_went a b (Err r) (inl hit) = hit_went (Unit {0}) a b r (to_seal a) hit.0 hit.1.works hit.1.new_is
+seal_went a b (Err r) (inr kept) = kept_went (Unit {0}) a b r (to_seal a) (stops_own a r kept.0) (ap (λ (x : Account). x.state) kept.1) (ap (λ (x : Account). x.broken) kept.1)
+
 -- ---- runs
 
 done_went : (a b : Account) (es : List Event) (rs : List Reply) (ks : List Commit) → IsDone a es rs ks b → Went a b ks (dones_of es rs) (hits_of es rs)
@@ -312,6 +329,8 @@ done_went _ _ _ _ _ (a_snapshot a b (Ok used) is) = snapshot_went a b (Ok used) 
 done_went _ _ _ _ _ (a_snapshot a b (Err r) is) = snapshot_went a b (Err r) is
 done_went _ _ _ _ _ (a_step a b most (Ok p) is) = step_went a b most (Ok p) is
 done_went _ _ _ _ _ (a_step a b most (Err r) is) = step_went a b most (Err r) is
+done_went _ _ _ _ _ (a_seal a b (Ok done) is) = seal_went a b (Ok done) is
+done_went _ _ _ _ _ (a_seal a b (Err r) is) = seal_went a b (Err r) is
 done_went _ _ _ _ _ (no_memory a t) = went_nowhere a
 
 pub run_went : (a b : Account) (es : List Event) (rs : List Reply) (ks : List Commit) → IsRun a es rs ks b → Went a b ks (dones_of es rs) (hits_of es rs)
@@ -349,6 +368,8 @@ batch_tell _ _ _ _ _ (commit_in_doubt a b d slots ts rs more hit forced rest) = 
 batch_tell _ _ _ _ _ (room_made a b d t ts rs more goes made rest) = ((Ok (a.state.seq + length (changes_of t)), refl), batch_tell b d ts rs more rest)
 batch_tell _ _ _ _ _ (behind_in_doubt a b d t ts rs more goes hit rest) = ((Err (plain DEVICE), refl), batch_tell b d ts rs more rest)
 batch_tell _ _ _ _ _ (room_in_doubt a d t ts rs more goes rest) = ((Err (plain DEVICE), refl), batch_tell (account_broken a) d ts rs more rest)
+batch_tell _ _ _ _ _ (as_snapshot a d t ts rs more goes rest) = ((Ok (a.state.seq + length (changes_of t)), refl), batch_tell (account_with_snapshot (account_after a t)) d ts rs more rest)
+batch_tell _ _ _ _ _ (as_snapshot_in_doubt a d t ts rs more goes rest) = ((Err (plain DEVICE), refl), batch_tell (account_broken a) d ts rs more rest)
 batch_tell _ _ _ _ _ (is_full a d t ts rs more works accepted none rest) = ((Err (plain FULL), refl), batch_tell a d ts rs more rest)
 batch_tell _ _ _ _ _ (stays_broken a d t ts rs more broken rest) = ((Err (plain BROKEN), refl), batch_tell a d ts rs more rest)
 

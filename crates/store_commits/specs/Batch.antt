@@ -10,7 +10,8 @@ use Rattle.doc_changes.specs.declared.refusal.Refusal.{Refusal}
 use Rattle.refusals.specs.declared.numbers.TheConstants.{DEVICE, FULL, BROKEN}
 use Rattle.store_commits.specs.Account.{Account, Copy, account_broken, StoreView, EndsWith, IsEndingWith, StandsAs, extent_of}
 use Rattle.store_commits.specs.Events.{Event, Reply, change, Done, Refused}
-use Rattle.store_commits.specs.Snapshot.{Fits, IsOver, HasNoRoom, NeedsSnapshot, snapshot_bytes, account_with_snapshot, calls_of_snapshot}
+use Rattle.store_commits.specs.Snapshot.{FitNowhere, Fits, IsOver, NeedsSnapshot, snapshot_bytes, account_with_snapshot, calls_of_snapshot}
+use Rattle.store_commits.specs.Replacing.{FitsAfter, IsOverAfter, account_after}
 use Rattle.sector_device.specs.Disk.{Disk, Image}
 use Rattle.sector_device.specs.Charges.{Made, Failed}
 use Rattle.store_commits.specs.Folds.{all_changes, frames_at}
@@ -114,6 +115,10 @@ to_append a slots = record { calls = calls_for a.rides a.used (waiting slots); m
 abbrev pub to_snapshot : Account → Intent
 to_snapshot a = record { calls = calls_of_snapshot a; made = account_with_snapshot a; ending = snapshot_bytes a.state.documents }
 
+-- the snapshot of the documents after the transaction
+abbrev pub to_replace : Account → Transaction → Intent
+to_replace a t = to_snapshot (account_after a t)
+
 -- a commit as it went: each of its calls passed; or one failed, and then a crash leaves what it was to make, or this account
 pub data Commit : Type 0 where
   passed : Intent → Commit
@@ -134,6 +139,17 @@ pub record GoesBehind (a : Account) (t : Transaction) : Type 0 where
   pub works : a.broken ≡ false
   pub accepted : refusal_in a.state t ≡ None
   pub needs : NeedsSnapshot a (size_of t)
+
+-- the store works, the documents accept the transaction, and its frames fit nowhere, but the snapshot of the documents after it fits
+pub record GoesAsSnapshot (a : Account) (t : Transaction) : Type 0 where
+  pub works : a.broken ≡ false
+  pub accepted : refusal_in a.state t ≡ None
+  pub nowhere : FitNowhere a (size_of t)
+  pub fits : FitsAfter a t
+
+-- its frames fit nowhere, and that snapshot doesn't fit either
+abbrev pub HasNoRoom : Account → Transaction → Type 0
+HasNoRoom a t = FitNowhere a (size_of t) × IsOverAfter a t
 
 -- A whole batch from an account to an account: the transactions, their replies, and the commits. A commit ends at the end, or before one that is accepted and doesn't fit beside those that wait. That one goes on by itself.
 pub data IsBatch : Account → List Transaction → List Reply → List Commit → Account → Type 0 where
@@ -157,9 +173,16 @@ pub data IsBatch : Account → List Transaction → List Reply → List Commit �
   -- or the snapshot
   room_in_doubt : (a d : Account) (t : Transaction) (ts : List Transaction) (replies : List Reply) (more : List Commit)
       → GoesBehind a t → IsBatch (account_broken a) ts replies more d → IsBatch a (t ∷ ts) (Refused (plain DEVICE) ∷ replies) (failed (to_snapshot a) (account_broken a) ∷ more) d
-  -- no snapshot makes room for it
+  -- or the snapshot of the documents after it is committed in place of its frames
+  as_snapshot : (a d : Account) (t : Transaction) (ts : List Transaction) (replies : List Reply) (more : List Commit)
+      → GoesAsSnapshot a t → IsBatch (account_with_snapshot (account_after a t)) ts replies more d
+      → IsBatch a (t ∷ ts) (replies_done a.state.seq (waits t ∷ []) ++ replies) (passed (to_replace a t) ∷ more) d
+  -- or a fault hits that commit
+  as_snapshot_in_doubt : (a d : Account) (t : Transaction) (ts : List Transaction) (replies : List Reply) (more : List Commit)
+      → GoesAsSnapshot a t → IsBatch (account_broken a) ts replies more d → IsBatch a (t ∷ ts) (Refused (plain DEVICE) ∷ replies) (failed (to_replace a t) (account_broken a) ∷ more) d
+  -- neither a snapshot of the documents before it makes room for it, nor has a half room for that of the documents after it
   is_full : (a d : Account) (t : Transaction) (ts : List Transaction) (replies : List Reply) (more : List Commit)
-      → a.broken ≡ false → refusal_in a.state t ≡ None → HasNoRoom a (size_of t) → IsBatch a ts replies more d → IsBatch a (t ∷ ts) (Refused (plain FULL) ∷ replies) more d
+      → a.broken ≡ false → refusal_in a.state t ≡ None → HasNoRoom a t → IsBatch a ts replies more d → IsBatch a (t ∷ ts) (Refused (plain FULL) ∷ replies) more d
   -- once the store is broken each is answered with that
   stays_broken : (a d : Account) (t : Transaction) (ts : List Transaction) (replies : List Reply) (more : List Commit)
       → a.broken ≡ true → IsBatch a ts replies more d → IsBatch a (t ∷ ts) (Refused (plain BROKEN) ∷ replies) more d

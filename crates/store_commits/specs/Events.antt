@@ -4,21 +4,23 @@ use Rattle.refusals.specs.declared.numbers.TheConstants.{DEVICE}
 use Rattle.doc_machine.specs.Transaction.{Transaction, transaction_of}
 use Rattle.doc_changes.specs.declared.refusal.Refusal.{Refusal}
 use Rattle.store_commits.specs.declared.event.Event.{Event as ProgramEvent}
-use Rattle.store_commits.specs.declared.event.Event.TheVariants.{Run, Snapshot, Pump}
+use Rattle.store_commits.specs.declared.event.Event.TheVariants.{Run, Snapshot, Pump, Seal}
 pub use Rattle.store_commits.specs.declared.event.Reply.{Reply}
-pub use Rattle.store_commits.specs.declared.event.Reply.TheVariants.{Done, Snapped, Pumped, Refused}
+pub use Rattle.store_commits.specs.declared.event.Reply.TheVariants.{Done, Snapped, Pumped, Sealed, Refused}
 
--- an event: to make a transaction, or a snapshot, or to copy at most a number of sectors of one
+-- an event: to make a transaction, or a snapshot, or to copy at most a number of sectors of one, or to seal what is committed
 pub data Event : Type 0 where
   change : Transaction → Event
   snapshot : Event
   pump : (most : ℕ) → Event
+  seal : Event
 
 -- an event of the program as one of these
 abbrev pub event_of : ProgramEvent → Event
 event_of (Run transaction) = change (transaction_of transaction)
 event_of Snapshot = snapshot
 event_of (Pump most) = pump most
+event_of Seal = seal
 
 -- an answer as a reply: one that says what was done, or why not
 abbrev pub reply_of : {A : Type 0} → (A → Reply) → Result A Refusal → Reply

@@ -1,5 +1,5 @@
 -- The view of a journal and a machine as a store; and a batch that is being made, how its commits are planned and what is done of it already.
-use Rattle.std.specs.Prelude.{◌≡◌, ◌≤◌, length, true, None, Option, ◌⊎◌, ◌↔◌, ℕ, ◌+◌, List, [], ◌∷◌, ◌++◌, Bool, false, Some, Vec}
+use Rattle.std.specs.Prelude.{◌≡◌, ◌≤◌, ◌<◌, length, true, None, Option, ◌⊎◌, ◌↔◌, ℕ, ◌+◌, List, [], ◌∷◌, ◌++◌, Bool, false, Some, Vec}
 use Rattle.sector_device.specs.Disk.{Disk, LeavesOnly}
 use Rattle.store_journal.specs.JournalView.{JournalView, IsKept, carried_of}
 use Rattle.doc_changes.specs.State.{State, Good}
@@ -9,22 +9,25 @@ use Rattle.store_commits.specs.Images.{Holds, profile_in}
 use Rattle.std.specs.Global.{Global}
 use Rattle.sector_device.specs.Sectors.{sectors_of}
 use Rattle.store_journal.specs.Layout.{capacity_of}
-use Rattle.store_journal.specs.Calls.{Appended, Broke, Switched}
-use Rattle.store_journal.specs.Carries.{Carried, EitherCarried, appended, switched}
+use Rattle.store_journal.specs.Calls.{Appended, Broke, Replaced, Switched}
+use Rattle.store_journal.specs.Carries.{Carried, EitherCarried, appended, replaced, switched}
 use Rattle.store_journal.specs.Models.{model}
 use Rattle.store_journal.specs.Writes.{append_calls, switch_calls}
 use Rattle.slot_commits.specs.Loads.{number_end}
 use Rattle.doc_changes.specs.Refusals.{plain}
 use Rattle.doc_machine.specs.Trial.{TrialView}
 use Rattle.refusals.specs.declared.numbers.TheConstants.{BROKEN, DEVICE, FULL}
-use Rattle.doc_machine.specs.Transaction.{AreFramed, AreGood, Transaction, befores, refusal_in}
-use Rattle.store_commits.specs.Batch.{AreMade, Commit, IsBatch, IsForced, Slot, AreJudged, account_committed, asked, changes, replies_done, said, size_of, sizes_of, waiting, waits}
+use Rattle.doc_machine.specs.Transaction.{AreFramed, AreGood, Transaction, after_in, befores, refusal_in}
+use Rattle.store_commits.specs.Batch.{AreMade, Commit, HasNoRoom, IsBatch, IsForced, Slot, AreJudged, account_committed, asked, changes, replies_done, said, size_of, sizes_of, waiting, waits}
 use Rattle.store_commits.specs.Folds.{after_each, all_changes, frames_at}
-use Rattle.store_commits.specs.Snapshot.{HasNoRoom, NeedsSnapshot, snapshot_bytes, account_with_snapshot}
+use Rattle.store_commits.specs.Replacing.{FitsAfter, account_after}
+use Rattle.store_commits.specs.Snapshot.{FitNowhere, NeedsSnapshot, snapshot_bytes, account_with_snapshot}
 use Rattle.store_commits.specs.Run.{Batched, Lasts, Reply, Done, Refused, dones_of, hits_of}
 use Rattle.store_commits.specs.declared.segment.Fate.{Fate}
 use Rattle.store_commits.specs.declared.segment.Fate.TheVariants.{Committed, InDoubt, NotBegun}
 use Rattle.store_commits.specs.declared.plan.Planning.{Planning}
+use Rattle.store_commits.specs.declared.segment.Base.{Base}
+use Rattle.store_commits.specs.declared.segment.Base.TheVariants.{After, Before, Used}
 use Rattle.store_commits.specs.declared.segment.Segment.{Segment}
 
 -- the account of a journal and a machine, if no copy runs
@@ -81,22 +84,24 @@ pub record HasFrames (s : State) (ts : List Transaction) (segment : Segment) : T
 
 -- nothing waits, and nothing is answered
 pub record IsEmpty (segment : Segment) : Type 0 where
-  pub snapshot : segment.snapshot ≡ None
+  pub base : segment.base ≡ Used
   pub frames : segment.frames.items ≡ []
   pub adds : segment.adds ≡ 0
   pub replies : segment.replies.items ≡ []
 
--- The kinds of segments, with this snapshot or none: its transactions were judged one after another, and fit beside one
--- another; or one goes after the snapshot; or neither the used bytes nor a snapshot leave room for one. It leads to an account, and the others are left.
-pub data IsSegment (a : Account) (left : List Transaction) : Option (Vec ℕ Global) → List Slot → Account → Type 0 where
-  together : (slots : List Slot) → AreJudged a slots → IsForced (account_committed a slots) left → IsSegment a left None slots (account_committed a slots)
+-- The kinds of segments, by what their frames come after: its transactions were judged one after another, and fit beside one
+-- another; or one goes after a snapshot; or the snapshot of the documents after one goes in place of its frames; or there is no room for one. It leads to an account, and the others are left.
+pub data IsSegment (a : Account) (left : List Transaction) : Base → List Slot → Account → Type 0 where
+  together : (slots : List Slot) → AreJudged a slots → IsForced (account_committed a slots) left → IsSegment a left Used slots (account_committed a slots)
   behind : (t : Transaction) (snapshot : Vec ℕ Global) → snapshot.items ≡ snapshot_bytes a.state.documents → refusal_in a.state t ≡ None → NeedsSnapshot a (size_of t)
-      → IsSegment a left (Some snapshot) (waits t ∷ []) (account_committed (account_with_snapshot a) (waits t ∷ []))
-  full : (t : Transaction) → refusal_in a.state t ≡ None → HasNoRoom a (size_of t) → IsSegment a left None (said t (plain FULL) ∷ []) a
+      → IsSegment a left (Before snapshot) (waits t ∷ []) (account_committed (account_with_snapshot a) (waits t ∷ []))
+  instead : (t : Transaction) (snapshot : Vec ℕ Global) → snapshot.items ≡ snapshot_bytes (after_in a.state t).documents → refusal_in a.state t ≡ None → FitNowhere a (size_of t) → FitsAfter a t
+      → IsSegment a left (After snapshot) (waits t ∷ []) (account_with_snapshot (account_after a t))
+  full : (t : Transaction) → refusal_in a.state t ≡ None → HasNoRoom a t → IsSegment a left Used (said t (plain FULL) ∷ []) a
 
 -- from an account, the segment answers the transactions that were judged in this way, once those that wait are committed
 pub record IsPart (a : Account) (left : List Transaction) (segment : Segment) (slots : List Slot) (b : Account) : Type 0 where
-  pub is : IsSegment a left segment.snapshot slots b
+  pub is : IsSegment a left segment.base slots b
   pub has : HasFrames a.state (waiting slots) segment
   pub replies : segment.replies.items ≡ replies_done a.state.seq slots
 
@@ -149,6 +154,12 @@ IsAppendedBehind {D} disk old new target frames adds fine =
     ((mid : JournalView D) × IsTried disk old mid (switched (carried_of old) target) (Switched (disk old.device) (disk mid.device) old mid target (sectors_of (length target) + switch_calls old.rides (length target)))
     × IsAppended disk mid new frames adds fine)
     ⊎ ((fine ≡ false) × IsTried disk old new (switched (carried_of old) target) (Broke (disk old.device) (disk new.device) (sectors_of (length target) + switch_calls old.rides (length target)) old new))
+
+-- the target was made to count with `adds` changes more, or the device failed
+abbrev pub IsReplaced : {D : Type 0} → (D → Disk) → JournalView D → JournalView D → List ℕ → ℕ → Bool → Type 0
+IsReplaced disk old new target adds fine = IsTried disk old new (replaced (carried_of old) target adds)
+    ((fine ≡ true → Replaced (disk old.device) (disk new.device) old new target adds (sectors_of (length target) + switch_calls old.rides (length target)))
+    × (fine ≡ false → Broke (disk old.device) (disk new.device) (sectors_of (length target) + switch_calls old.rides (length target)) old new))
 
 -- ---- the part that is done
 
@@ -205,13 +216,48 @@ pub record IsPlanning (a : Account) (slots : List Slot) (p : Planning) (t : Tria
   pub goes : (more : List Segment) (xs : List Slot) (end : Account) → ArePlanned mid more xs end → ArePlanned a (p.segments.items ++ more) (closed ++ xs) end
   pub judged : AreJudged mid since
   pub has : HasFrames mid.state (waiting since) p.last
-  pub no_snapshot : p.last.snapshot ≡ None
+  pub base : p.last.base ≡ Used
   pub replies : p.last.replies.items ≡ replies_done mid.state.seq since
   pub room : mid.used + sizes_of (waiting since) + p.left ≡ capacity_of mid.rides mid.sectors
   pub capacity : p.capacity ≡ capacity_of mid.rides mid.sectors
+  pub rides : p.rides ≡ mid.rides
   pub state : t.state ≡ after_each mid.state (waiting since)
   pub tried : t ≡ tried_from a.state (waiting slots)
   pub bytes : p.bytes ≡ sizes_of (waiting slots)
+
+-- the open segment is closed, this one comes after it, and nothing waits since
+pub record IsClosed (old : Planning) (other : Segment) (new : Planning) : Type 0 where
+  pub segments : new.segments.items ≡ (old.segments.items ++ old.last ∷ []) ++ other ∷ []
+  pub last : IsEmpty new.last
+  pub capacity : new.capacity ≡ old.capacity
+  pub rides : new.rides ≡ old.rides
+
+-- that one has these frames and one reply, and after it `used` bytes are used
+pub record IsAlone (old : Planning) (base : Base) (used : ℕ) (frames : Vec ℕ Global) (adds seq : ℕ) (new : Planning) : Type 0 where
+  pub other : Segment
+  pub closed : IsClosed old other new
+  pub base_is : other.base ≡ base
+  pub frames_are : other.frames.items ≡ frames.items
+  pub adds_is : other.adds ≡ adds
+  pub replies : other.replies.items ≡ Done seq ∷ []
+  pub left : new.left + used ≡ old.capacity
+  pub bytes : new.bytes ≡ old.bytes + length frames.items
+
+-- the snapshot of the documents, if one may go in place of frames and fits
+abbrev pub IsInstead : Planning → State → Option (Vec ℕ Global) → Type 0
+IsInstead p s None = p.rides ≡ true → p.capacity < length (snapshot_bytes s.documents)
+IsInstead p s (Some v) = (p.rides ≡ true) × (v.items ≡ snapshot_bytes s.documents) × (length v.items ≤ p.capacity)
+
+-- or it only says that there is no room
+pub record IsFull (old new : Planning) : Type 0 where
+  pub other : Segment
+  pub closed : IsClosed old other new
+  pub base_is : other.base ≡ Used
+  pub frames_are : other.frames.items ≡ []
+  pub adds_is : other.adds ≡ 0
+  pub replies : other.replies.items ≡ Refused (plain FULL) ∷ []
+  pub left : new.left ≡ old.left
+  pub bytes : new.bytes ≡ old.bytes
 
 -- one transaction more was judged
 abbrev pub PlansOneMore : Account → List Slot → Transaction → Planning → TrialView → Type 0

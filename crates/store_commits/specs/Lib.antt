@@ -7,4 +7,6 @@ pub mod Copying
 pub mod Events
 pub mod Folds
 pub mod Inside
+pub mod Replacing
+pub mod Sealing
 pub mod Run

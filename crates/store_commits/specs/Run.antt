@@ -12,22 +12,24 @@ use Rattle.store_commits.specs.Batch.{AreMade, BatchIsMade, Commit, Intent, IsBa
 use Rattle.store_commits.specs.Copying.{PumpAnswers, account_stepped, calls_of_pump}
 use Rattle.store_commits.specs.Snapshot.{SnapshotAnswers}
 use Rattle.store_commits.specs.declared.pump.Pump.{Pump}
-pub use Rattle.store_commits.specs.Events.{Event, change, snapshot, pump, Reply, Done, Snapped, Pumped, Refused, dones_of, hits_of, reply_of}
+pub use Rattle.store_commits.specs.Events.{Event, change, snapshot, pump, seal, Reply, Done, Snapped, Pumped, Sealed, Refused, dones_of, hits_of, reply_of}
+use Rattle.store_commits.specs.Sealing.{SealAnswers, to_seal}
 
 -- a step of a copy
 abbrev pub to_step : Account → ℕ → Intent
 to_step a most = record { calls = calls_of_pump a most; made = account_stepped a most; ending = [] }
 
--- The commit of a snapshot or a step, by its answer and what became of the account: it passed, or the device failed in it, or there was none.
+-- The commit of a snapshot, a step or a seal, by its answer and what became of the account: it passed, or the device failed in it, or there was none.
 abbrev pub commits_of : {A : Type 0} → Result A Refusal → Intent → Account → List Commit
 commits_of (Ok answer) k new = passed k ∷ []
 commits_of (Err r) k new = if nat_eq r.number DEVICE then failed k new ∷ [] else []
 
--- What is done at once: a batch; a snapshot; a step of a copy; or a transaction is refused, since memory ran out.
+-- What is done at once: a batch; a snapshot; a step of a copy; a seal; or a transaction is refused, since memory ran out.
 pub data IsDone : Account → List Event → List Reply → List Commit → Account → Type 0 where
   a_batch : (a b : Account) (ts : List Transaction) (replies : List Reply) (commits : List Commit) → IsBatch a ts replies commits b → IsDone a (changes ts) replies commits b
   a_snapshot : (a b : Account) (r : Result ℕ Refusal) → SnapshotAnswers a r b → IsDone a (snapshot ∷ []) (reply_of Snapped r ∷ []) (commits_of r (to_snapshot a) b) b
   a_step : (a b : Account) (most : ℕ) (r : Result Pump Refusal) → PumpAnswers a most r b → IsDone a (pump most ∷ []) (reply_of Pumped r ∷ []) (commits_of r (to_step a most) b) b
+  a_seal : (a b : Account) (r : Result (Unit {0}) Refusal) → SealAnswers a r b → IsDone a (seal ∷ []) (reply_of (λ done. Sealed) r ∷ []) (commits_of r (to_seal a) b) b
   no_memory : (a : Account) (t : Transaction) → IsDone a (change t ∷ []) (Refused (plain MEMORY) ∷ []) [] a
 
 -- the same, one after another

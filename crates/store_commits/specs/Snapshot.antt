@@ -92,5 +92,5 @@ abbrev pub NeedsSnapshot : Account → ℕ → Type 0
 NeedsSnapshot a n = IsOver a n × Fits (account_with_snapshot a) n
 
 -- they fit neither after the used bytes nor after a snapshot
-abbrev pub HasNoRoom : Account → ℕ → Type 0
-HasNoRoom a n = IsOver a n × IsOver (account_with_snapshot a) n
+abbrev pub FitNowhere : Account → ℕ → Type 0
+FitNowhere a n = IsOver a n × IsOver (account_with_snapshot a) n

@@ -11,6 +11,8 @@ pub enum Event {
     Snapshot,
     /// A step of a copy, of at most this number of sectors.
     Pump(u64),
+    /// A seal.
+    Seal,
 }
 
 /// What it answers.
@@ -22,6 +24,8 @@ pub enum Reply {
     Snapped(u64),
     /// The step was made, and this is what it did.
     Pumped(Pump),
+    /// The seal was made.
+    Sealed,
     /// Nothing was answered but this.
     Refused(Refusal),
 }

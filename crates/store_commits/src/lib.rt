@@ -1,7 +1,7 @@
 //! The commits to the journal of a store. A store is seen as its `Account`, which all replies depend on
 //! (`specs/Account.antt`); how events are answered, and what becomes of the account, its device's images and its
 //! device's calls, is a run (`specs/Run.antt`). Of a journal and a machine that hold a state: a transaction, the
-//! snapshot that makes room for it, a step of a copied snapshot or the transactions of a batch are committed, or given
+//! snapshot that makes room for it or is committed in its place, a step of a copied snapshot or the transactions of a batch are committed, or given
 //! up if the device failed. Each image that a crash may leave meanwhile carries what was there before or what was being
 //! committed. All that is committed is in format 2, and a change's frame has the number of accepted changes with it.
 //! What takes memory is apart from what calls the device.
@@ -18,6 +18,7 @@ mod frames;
 pub mod laws;
 mod plan;
 mod pump;
+mod replacement;
 mod replaying;
 mod segment;
 mod snapshot;

@@ -9,13 +9,13 @@ ghost use Rattle.store_commits.specs.Account.{Account, with_copy};
 ghost use Rattle.store_commits.specs.Batch.{Slot, asked};
 ghost use Rattle.store_commits.specs.Copying.{HasSpare, copy_of, target_of};
 ghost use Rattle.store_commits.specs.Folds.{frames_at};
-ghost use Rattle.store_commits.specs.Inside.{account_of, ArePrepared, LeavesNumbers, PlansOneMore, IsPlanning, bytes_in};
+ghost use Rattle.store_commits.specs.Inside.{account_of, ArePrepared, IsAlone, IsFull, IsInstead, LeavesNumbers, PlansOneMore, IsPlanning, bytes_in};
 
 use crate::copying::{Copying, reserve};
 use crate::creations;
 use crate::event::Reply;
 use crate::frames::frames;
-use crate::segment::Segment;
+use crate::segment::{Base, Segment};
 use doc_machine::{Refusal, Transaction, Trial};
 use refusals::numbers::{FULL, MEMORY};
 use sector_device::SectorDevice;
@@ -28,6 +28,8 @@ use store_journal::Journal;
 pub(crate) struct Planning {
     /// The bytes of a half.
     pub capacity: u64,
+    /// A snapshot may be committed in place of frames: format 3.
+    pub rides: bool,
     /// The bytes that are left in the half that counts, once all that is planned is committed.
     pub left: u64,
     /// The bytes of all frames.
@@ -59,6 +61,7 @@ pub(crate) fn prepare<D: SectorDevice>(
     trial.know();
     let mut planning = Planning {
         capacity: journal.capacity(),
+        rides: journal.rides(),
         left: journal.capacity() - journal.used(),
         bytes: 0,
         segments: Vec::new(alloc),
@@ -94,7 +97,7 @@ impl Segment {
         ensures { IsEmpty result }
     {
         Segment {
-            snapshot: None,
+            base: Base::Used,
             frames: Vec::new(alloc),
             adds: 0,
             replies: Vec::new(alloc),
@@ -199,7 +202,7 @@ impl Planning {
     }
 
     // Ends the commit of those that wait, and lets a transaction whose frames don't fit beside them go on by itself:
-    // after a snapshot, if that leaves room for it.
+    // after a snapshot, or as one, if that leaves room for it.
     #[tactic(auto, using(crate::proofs::Plans::first_stays))]
     fn force(
         &mut self,
@@ -213,7 +216,7 @@ impl Planning {
         ensures ok { OnOk result ((a : Account) (slots : List Slot) → IsPlanning a slots self.old trial.old → PlansOneMore a slots (transaction_of transaction) self.new trial.new) }
         ensures origin { state_at 0 trial.new ≡ state_at 0 trial.old }
     {
-        // The snapshot has the documents before the transaction, so it is made before that is tried.
+        // This snapshot has the documents before the transaction, so it is made before that is tried.
         let snapshot = creations(alloc, &trial.look())?;
         let before = trial.len() as u64;
         let adds = transaction.len() as u64;
@@ -221,29 +224,73 @@ impl Planning {
             Err(refusal) => return self.refuse(refusal),
             Ok(seq) => seq,
         };
-        let last = mem::replace(&mut self.last, Segment::new(alloc));
-        self.segments.push(last)?;
         let used = (snapshot.len() + frames.len()) as u64;
-        if self.capacity < used {
-            trial.keep(before);
-            let mut full = Segment::new(alloc);
-            full.replies.push(Reply::Refused(Refusal::plain(FULL)))?;
-            self.segments.push(full)?;
-            return Ok(());
+        if used <= self.capacity {
+            return self.alone(alloc, Base::Before(snapshot), used, frames, adds, seq);
         }
+        if let Some(after) = self.instead(alloc, trial)? {
+            let size = after.len() as u64;
+            return self.alone(alloc, Base::After(after), size, frames, adds, seq);
+        }
+        trial.keep(before);
+        self.full(alloc)
+    }
+
+    // The snapshot of the documents on the trial, if one may be committed in place of frames, and it fits.
+    fn instead(&self, alloc: Global, trial: &Trial) -> Result<Option<Vec<u8>>, AllocError>
+        ensures { IfOk result (λ found. IsInstead self.now trial.now.state found) }
+    {
+        if !self.rides {
+            return Ok(None);
+        }
+        let after = creations(alloc, &trial.look())?;
+        if after.len() as u64 <= self.capacity {
+            Ok(Some(after))
+        } else {
+            Ok(None)
+        }
+    }
+
+    // Ends the commit of those that wait, and plans one of a transaction that was tried: after it `used` bytes are used.
+    fn alone(
+        &mut self,
+        alloc: Global,
+        base: Base,
+        used: u64,
+        frames: Vec<u8>,
+        adds: u64,
+        seq: u64,
+    ) -> Result<(), AllocError>
+        requires fits { used ≤ self.old.capacity }
+        ensures { OnOk result (IsAlone self.old base used frames adds seq self.new) }
+    {
         let Some(bytes) = self.bytes.checked_add(frames.len()) else {
             return Err(AllocError);
         };
+        let last = mem::replace(&mut self.last, Segment::new(alloc));
+        self.segments.push(last)?;
         let mut replies = Vec::new(alloc);
         replies.push(Reply::Done(seq))?;
         self.segments.push(Segment {
-            snapshot: Some(snapshot),
+            base,
             frames,
             adds,
             replies,
         })?;
         self.bytes = bytes;
         self.left = self.capacity - used;
+        Ok(())
+    }
+
+    // Ends the commit of those that wait, and says of a transaction that it has no room.
+    fn full(&mut self, alloc: Global) -> Result<(), AllocError>
+        ensures { OnOk result (IsFull self.old self.new) }
+    {
+        let last = mem::replace(&mut self.last, Segment::new(alloc));
+        self.segments.push(last)?;
+        let mut full = Segment::new(alloc);
+        full.replies.push(Reply::Refused(Refusal::plain(FULL)))?;
+        self.segments.push(full)?;
         Ok(())
     }
 }

@@ -8,11 +8,12 @@ ghost use Rattle.doc_changes.specs.State.{State};
 ghost use Rattle.store_commits.specs.Account.{Account, with_copy};
 ghost use Rattle.store_commits.specs.Batch.{Slot};
 ghost use Rattle.store_commits.specs.Copying.{HasSpare, copy_of, target_with, target_of};
-ghost use Rattle.store_commits.specs.Inside.{IsStored, LeavesNumbers, account_of, store_view, ArePrepared, HasCommitted, IsAppended, IsAppendedBehind, IsPart, IsReady, AnswersPart, answered, bytes_in, fate_of, replies_in};
+ghost use Rattle.store_commits.specs.Inside.{IsStored, LeavesNumbers, account_of, store_view, ArePrepared, HasCommitted, IsAppended, IsAppendedBehind, IsReplaced, IsPart, IsReady, AnswersPart, answered, bytes_in, fate_of, replies_in};
 ghost use Rattle.store_commits.specs.declared.event.Reply.{Reply as Said};
 
 use crate::copying::{Copying, grow};
 use crate::event::Reply;
+use crate::replacement::commit_replacement;
 use crate::snapshot_commit::commit_snapshot;
 use doc_machine::{Machine, Refusal, Trial};
 use refusals::numbers::{BROKEN, DEVICE};
@@ -22,14 +23,25 @@ use store_journal::Journal;
 /// Transactions of a batch that were judged one after another. Those that are accepted wait for one commit.
 #[derive(Drop)]
 pub(crate) struct Segment {
-    /// The snapshot that makes room for the frames first, if they need one.
-    pub snapshot: Option<Vec<u8>>,
+    /// What the frames come after.
+    pub base: Base,
     /// The frames of those that wait.
     pub frames: Vec<u8>,
     /// How many changes these have.
     pub adds: u64,
     /// The replies to all of them once it is committed.
     pub replies: Vec<Reply>,
+}
+
+/// What the frames of a segment come after, if they are written.
+#[derive(Drop)]
+pub(crate) enum Base {
+    /// The used bytes.
+    Used,
+    /// This snapshot of the documents before it, which makes room for them.
+    Before(Vec<u8>),
+    /// They aren't written: this snapshot of the documents after it is committed in their place.
+    After(Vec<u8>),
 }
 
 /// What became of a segment.
@@ -113,13 +125,42 @@ fn commit<D: SectorDevice>(
     if journal.is_broken() {
         return Fate::NotBegun;
     }
-    if let Some(snapshot) = &segment.snapshot {
-        return ended(append_behind(journal, copy, snapshot, &segment.frames, segment.adds));
+    match &segment.base {
+        Base::Before(snapshot) => {
+            ended(append_behind(journal, copy, snapshot, &segment.frames, segment.adds))
+        }
+        Base::After(snapshot) => ended(replace(journal, copy, snapshot, segment.adds)),
+        Base::Used => {
+            if segment.adds == 0 {
+                return Fate::Committed;
+            }
+            ended(append(journal, copy, &segment.frames, segment.adds))
+        }
     }
-    if segment.adds == 0 {
-        return Fate::Committed;
+}
+
+// Puts the snapshot of the documents after the changes in the place of the committed bytes. A copy that runs is dropped.
+fn replace<D: SectorDevice>(
+    journal: &mut Journal<D>,
+    copy: &mut Option<Copying>,
+    snapshot: &[u8],
+    adds: u64,
+) -> bool
+    requires version { journal.old.version ≡ 2 }
+    requires settled { journal.old.settled ≡ true }
+    requires numbers { LeavesNumbers journal.old 3 }
+    requires works { journal.old.broken ≡ false }
+    requires fits { length snapshot.now ≤ capacity_of journal.old.rides journal.old.sectors }
+    requires seq_fits { journal.old.seq + adds < 2 ^ 64 }
+    ensures numbers { journal.new.next ≤ journal.old.next + 1 }
+    ensures replaced { IsReplaced D.disk journal.old journal.new snapshot.now adds result }
+    ensures dropped { target_of copy.new ≡ None }
+{
+    *copy = None;
+    match commit_replacement(journal, snapshot, adds) {
+        Ok(()) => true,
+        Err(_) => false,
     }
-    ended(append(journal, copy, &segment.frames, segment.adds))
 }
 
 // Puts the snapshot in the place of the committed bytes, and the frames after it. A copy that runs is dropped.

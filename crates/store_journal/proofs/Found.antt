@@ -23,7 +23,7 @@ first_in (Some awaiting) = awaiting.first
 
 pub slots_found : (old new : Disk) (found : Recovered) (known : Known) → IsSized true old.sectors → IsRecovered old new found → known.slot ≡ found.slot → known.check ≡ found.slot.check → length known.tail.items ≡ 15444
     → take (length found.bytes.items - 4096 * found.slot.blocks) known.tail.items ≡ drop (4096 * found.slot.blocks) found.bytes.items
-    → IsFoundInSlots old new (record { held = InSlots known (Some (record { number = found.number; first = found.first })); bytes = found.bytes })
+    → IsFoundInSlots old new (record { held = InSlots known (Some (record { number = found.number; first = found.first })); bytes = found.bytes; notice = found.notice })
 slots_found old new found known sized read slot_is check_is room tail_is =
     let of = read.of in
     let long : known.slot.length ≡ length found.bytes.items = ap (λ (s : Slot). s.length) slot_is ∙ read.size in
@@ -56,6 +56,7 @@ slots_found old new found known sized read slot_is check_is room tail_is =
       };
       awaits = λ honest. subst (λ (s : Slot). Awaits found.number found.first (state_in s found.bytes.items) old.seen) (sym slot_is) (read.awaits honest);
       numbers = read.numbers;
+      notice = read.notice;
       made = subst (λ (s : Slot). Made old new (load_calls s.blocks)) (sym slot_is) read.made;
     }
 

@@ -162,9 +162,9 @@ module _ (known now : Known) (c : Carried) (more : List ℕ) (adds opens opens_n
       (on_ok_weaker result (λ will. subst (λ (s : State). SlotKnows now s) state_appended will) knows_next) slot_stays knows_still
 
 -- a switch
-pub switch_holds : (disk : Disk) (known : Known) (awaits : Option Awaiting) (c : Carried) (n : ℕ) (target : List ℕ) → IsCoherent disk → known.slot.sectors ≡ disk.sectors → SlotKnows known (state_of c known.slot.blocks)
-    → take (length target) (other_bytes disk.seen (InSlots known awaits) n) ≡ target → HoldsBlocks (length target / 4096) (slot_switched_state (state_of c known.slot.blocks) target) disk.seen
-switch_holds disk known awaits c n target coherent size knows copied i lt =
+pub switch_holds : (disk : Disk) (known : Known) (awaits : Option Awaiting) (c : Carried) (n : ℕ) (target : List ℕ) (adds : ℕ) → IsCoherent disk → known.slot.sectors ≡ disk.sectors → SlotKnows known (state_of c known.slot.blocks)
+    → take (length target) (other_bytes disk.seen (InSlots known awaits) n) ≡ target → HoldsBlocks (length target / 4096) (slot_switched_state (state_of c known.slot.blocks) target adds) disk.seen
+switch_holds disk known awaits c n target adds coherent size knows copied i lt =
     let few : i < length target = omega (arith, lt, length-take (4096 * (length target / 4096)) target) in
     let start : block_start (length disk.seen) (1 - c.half) ≡ block_start known.slot.sectors (1 - known.slot.half) = (λ j. block_start (((coherent.shape disk.seen coherent.seen).count ∙ sym size) j) (1 - (sym (ap (λ (s : Slot). s.half) knows.slot_is)) j)) in
     ap (λ (s : ℕ). byte_at disk.seen s i) start ∙ begun_at disk.seen (block_start known.slot.sectors (1 - known.slot.half)) n target copied i few

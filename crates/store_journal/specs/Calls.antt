@@ -5,7 +5,7 @@ use Rattle.sector_device.specs.Charges.{Made, Failed}
 use Rattle.sector_device.specs.Sectors.{sectors_of}
 use Rattle.slot_commits.specs.Loads.{number_end}
 use Rattle.store_journal.specs.Layout.{capacity_of}
-use Rattle.store_journal.specs.Carries.{Carried, appended, counted, migrated, switched}
+use Rattle.store_journal.specs.Carries.{Carried, appended, counted, migrated, replaced, switched}
 use Rattle.store_journal.specs.JournalView.{JournalView, carried_of}
 use Rattle.store_journal.specs.Writes.{append_calls, count_calls, step_count}
 use Rattle.refusals.specs.declared.numbers.TheConstants.{FULL, DEVICE, BROKEN, SEQ_END}
@@ -108,6 +108,10 @@ pub record Moved {D : Type 0} (disk new_disk : Disk) (old new : JournalView D) (
 -- by a switch, after a copy or not, in `calls` calls
 abbrev pub Switched : {D : Type 0} → Disk → Disk → JournalView D → JournalView D → List ℕ → ℕ → Type 0
 Switched disk new_disk old new target calls = Moved disk new_disk old new (switched (carried_of old) target) calls
+
+-- by one that raises seq, too
+abbrev pub Replaced : {D : Type 0} → Disk → Disk → JournalView D → JournalView D → List ℕ → ℕ → ℕ → Type 0
+Replaced disk new_disk old new target adds calls = Moved disk new_disk old new (replaced (carried_of old) target adds) calls
 
 -- by a migration: in format 2, and one opening more is counted
 abbrev pub Migrated : {D : Type 0} → Disk → Disk → JournalView D → JournalView D → List ℕ → Type 0

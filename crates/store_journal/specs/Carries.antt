@@ -58,6 +58,10 @@ appended c more adds = record c { bytes = c.bytes ++ more; seq = c.seq + adds }
 abbrev pub switched : Carried → List ℕ → Carried
 switched c target = record c { half = 1 - c.half; bytes = target }
 
+-- the same, and `adds` changes more
+abbrev pub replaced : Carried → List ℕ → ℕ → Carried
+replaced c target adds = record c { half = 1 - c.half; bytes = target; seq = c.seq + adds }
+
 -- opened one time more
 abbrev pub counted : Carried → Carried
 counted c = record c { opens = one_more c.opens }

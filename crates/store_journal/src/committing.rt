@@ -5,7 +5,7 @@ ghost use Rattle.sector_device.specs.Charges.{Charges, IsSame};
 ghost use Rattle.sector_device.specs.Sectors.{Over, SectorsHold, sectors_of};
 ghost use Rattle.half_journal.specs.Writes.{EndsInZeros};
 ghost use Rattle.slot_commits.specs.Loads.{number_end};
-ghost use Rattle.store_journal.specs.Carries.{Carried, Carries, appended, counted, migrated, switched};
+ghost use Rattle.store_journal.specs.Carries.{Carried, Carries, appended, counted, migrated, replaced};
 ghost use Rattle.store_journal.specs.Held.{IsFormed, IsOf, SparesOther, Tried, numbers_after, numbers_of, other_bytes};
 ghost use Rattle.half_journal.specs.States.{one_more};
 ghost use Rattle.store_journal.specs.Layout.{capacity_of, half_start};
@@ -88,40 +88,40 @@ pub fn count_open<D: SectorDevice>(device: &mut D, held: &mut Held) -> Result<()
     }
 }
 
-/// Makes the other half, which begins with `target`, the one that counts.
+/// Makes the other half, which begins with `target`, the one that counts, and raises seq by `adds`.
 pub fn switch<D: SectorDevice>(
     device: &mut D,
     held: &mut Held,
     target: &[u8],
+    adds: u64,
 ) -> Result<(), DeviceFault>
     requires formed { IsFormed (D.disk device.old).sectors held.old }
     requires settled { (numbers_of held.old).settled ≡ true }
     requires fits { length target.now ≤ capacity_of (numbers_of held.old).rides (numbers_of held.old).sectors }
+    requires seq { (numbers_of held.old).seq + adds < 2 ^ 64 }
     requires number { (numbers_of held.old).next < number_end }
     ensures same { IsSame (D.disk device.old) (D.disk device.new) }
     ensures charges { Charges (D.disk device.old) (D.disk device.new) (switch_calls (numbers_of held.old).rides (length target.now)) result }
     ensures formed { IsFormed (D.disk device.new).sectors held.new }
     ensures numbers { OnOk result (numbers_of held.new ≡ numbers_after (numbers_of held.old) (numbers_of held.old).version (1 - (numbers_of held.old).half)
-        (length target.now) (numbers_of held.old).seq (numbers_of held.old).opens (numbers_of held.new).blocks) }
+        (length target.now) ((numbers_of held.old).seq + adds) (numbers_of held.old).opens (numbers_of held.new).blocks) }
     ensures stays { OnErr result (numbers_of held.new ≡ numbers_of held.old) }
     ensures tried { (c : Carried) (n : ℕ) → (D.disk device.old).honest → IsOf (D.disk device.old) held.old c → take (length target.now) (other_bytes (D.disk device.old).seen held.old n) ≡ target.now
-        → Tried (D.disk device.old) (D.disk device.new) held.new c (switched c target.now) result }
+        → Tried (D.disk device.old) (D.disk device.new) held.new c (replaced c target.now adds) result }
     ensures others { (D.disk device.old).honest → OnErr result (SparesOther held.old (D.disk device.old).seen (D.disk device.new).seen) }
 {
     match held {
         Held::InHalf(known) => {
-            // The prover learns the range of seq.
-            let _seq = known.commit.seq;
             let version = known.commit.format;
             let update = Update {
                 base: Base::Copied { target, version },
                 frames: &[],
-                adds: 0,
+                adds,
                 counts_opening: false,
             };
             half_journal::commit(device, known, update)
         }
-        Held::InSlots { known, .. } => slot_journal::switch(device, known, target),
+        Held::InSlots { known, .. } => slot_journal::switch(device, known, target, adds),
     }
 }
 

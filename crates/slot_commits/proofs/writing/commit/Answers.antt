@@ -1,4 +1,4 @@
-use Rattle.std.proofs.Common.{◌≡◌, ℕ, ◌≤◌, ◌+◌, ◌*◌, ◌/◌, [], length, get_or, ap, ◌∙◌, arith, if◌then◌else◌}
+use Rattle.std.proofs.Common.{◌≤◌, ◌+◌, ◌*◌, ◌/◌, [], length, get_or, ap, ◌∙◌, arith, if◌then◌else◌}
 use Rattle.sector_device.specs.Disk.{Image}
 use Rattle.commit_slots.specs.Slots.{count_of}
 use Rattle.sector_device.proofs.Charges.{charges_err, charges_joined, failed_joined}

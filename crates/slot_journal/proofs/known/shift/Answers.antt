@@ -4,5 +4,5 @@ use Rattle.std.proofs.lemmas.Slice.{put_mid-paste}
 use Rattle.slot_journal.proofs.Moved.{moved_front}
 use Rattle.slot_journal.proofs.known.shift.Goals as goal
 
-pub returns-clause-front : goal.returns-clause-front
-returns-clause-front c = moved_front c.args.from c.args.to c.args.buffer.now c.copy_within.new.self c.requires.order c.requires.within c.copy_within.ensures.after
+pub returns-then-from-gt0-clause-front : goal.returns-then-from-gt0-clause-front
+returns-then-from-gt0-clause-front c = moved_front c.args.from c.args.to c.args.buffer.now c.copy_within.new.self c.requires.order c.requires.within c.copy_within.ensures.after

@@ -10,13 +10,13 @@ use Rattle.store_commits.proofs.plan.prepare.Goals as goal
 
 -- nothing was planned yet
 begins : (g : Over) (c : goal.Else-not-has_numbers g)
-    → IsPlanning (with_copy (account_of c.args.journal.now c.args.trial.now.state) (copy_of (target_of c.reserve.new.copy))) [] (record { capacity = c.capacity.result; left = c.capacity-2.result - c.used.result; bytes = 0; segments = c.new.result; last = c.new-2.result }) c.args.trial.now
+    → IsPlanning (with_copy (account_of c.args.journal.now c.args.trial.now.state) (copy_of (target_of c.reserve.new.copy))) [] (record { capacity = c.capacity.result; rides = c.rides.result; left = c.capacity-2.result - c.used.result; bytes = 0; segments = c.new.result; last = c.new-2.result }) c.args.trial.now
 begins g c =
     let used = c.used.ensures in
     let more = c.capacity-2.ensures in
     let within = c.requires.within in
-    planning_begins _ c.args.trial.now (record { capacity = c.capacity.result; left = c.capacity-2.result - c.used.result; bytes = 0; segments = c.new.result; last = c.new-2.result })
-    c.know.ensures refl c.requires.begins c.new.ensures.items (omega (arith, used, more, within)) c.capacity.ensures refl c.new-2.ensures
+    planning_begins _ c.args.trial.now (record { capacity = c.capacity.result; rides = c.rides.result; left = c.capacity-2.result - c.used.result; bytes = 0; segments = c.new.result; last = c.new-2.result })
+    c.know.ensures refl c.requires.begins c.new.ensures.items (omega (arith, used, more, within)) c.capacity.ensures c.rides.ensures refl c.new-2.ensures
 
 pub returns-clause-prepared : goal.returns-clause-prepared
 returns-clause-prepared g c =

@@ -6,7 +6,7 @@ use Rattle.half_journal.specs.declared.commit_sector.Commit.{Commit}
 use Rattle.slot_commits.specs.Loads.{number_end}
 use Rattle.slot_journal.specs.Known.{Knows as SlotKnows}
 use Rattle.slot_journal.specs.declared.known.Known.{Known}
-use Rattle.store_journal.specs.Carries.{half_of, state_of, switched}
+use Rattle.store_journal.specs.Carries.{half_of, replaced, state_of}
 use Rattle.store_journal.specs.Held.{IsFormed, IsOf, SparesOther, is_settled, numbers_of, other_bytes}
 use Rattle.store_journal.specs.declared.held.Held.{Held}
 use Rattle.store_journal.proofs.Halves.{half_copied, half_spares, half_tried, knows_by}
@@ -23,10 +23,9 @@ returns-in-InHalf-clause-tried g c = λ state n honest is copied.
     let formed = subst (IsFormed old.sectors) c.in-InHalf.is c.requires.formed in
     let there = subst (λ (h : Held). take (length target) (other_bytes old.seen h n) ≡ target) c.in-InHalf.is copied in
     let version : known.commit.format ≡ state.version = ap (λ (m : Commit). m.format) now.knows.commit_is in
-    let seq_is : state.seq ≡ state.seq + 0 = omega arith in
-    let next_is : half_of (switched state target) ≡ record { version = known.commit.format; half = 1 - state.half; bytes = target ++ []; seq = state.seq + 0; opens = state.opens } =
-    λ i. record { version = sym version i; half = 1 - state.half; bytes = sym (append-nil target) i; seq = seq_is i; opens = state.opens } in
-    half_tried old (g.D.SectorDevice.disk c.commit.new.device) known c.commit.new.known state (switched state target) _ c.commit.result formed.size now.knows now.plain now.plain
+    let next_is : half_of (replaced state target c.args.adds) ≡ record { version = known.commit.format; half = 1 - state.half; bytes = target ++ []; seq = state.seq + c.args.adds; opens = state.opens } =
+    λ i. record { version = sym version i; half = 1 - state.half; bytes = sym (append-nil target) i; seq = state.seq + c.args.adds; opens = state.opens } in
+    half_tried old (g.D.SectorDevice.disk c.commit.new.device) known c.commit.new.known state (replaced state target c.args.adds) _ c.commit.result formed.size now.knows now.plain now.plain
     (c.commit.ensures.tried (half_of state) honest now.knows now.carried (half_copied old.seen known state n target now.knows there)) next_is (knows_by c.commit.new.known c.commit.result next_is (c.commit.ensures.knows (half_of state) now.knows)) c.commit.ensures.stays
 
 pub returns-in-InHalf-clause-others : goal.returns-in-InHalf-clause-others
@@ -50,8 +49,8 @@ returns-in-InSlots-clause-tried g c = λ state n honest is copied.
     let there = subst (λ (h : Held). take (length target) (other_bytes old.seen h n) ≡ target) c.in-InSlots.is copied in
     if_settled c.in-InSlots.awaits settled (subst (λ (h : Held). IsOf old h state) c.in-InSlots.is is)
     (λ now.
-    let whole = switch_holds old known c.in-InSlots.awaits state n target (g.met.D.SectorDevice.coherent c.args.device.now honest) formed.formed.size now.knows there in
-    slots_tried old new known c.switch.new.known state (switched state target) (length target / 4096) c.switch.result
+    let whole = switch_holds old known c.in-InSlots.awaits state n target c.args.adds (g.met.D.SectorDevice.coherent c.args.device.now honest) formed.formed.size now.knows there in
+    slots_tried old new known c.switch.new.known state (replaced state target c.args.adds) (length target / 4096) c.switch.result
     (g.met.D.SectorDevice.torn_coherent c.args.device.now honest) (g.met.D.SectorDevice.coherent c.switch.new.device new_honest) (g.met.D.SectorDevice.torn_coherent c.switch.new.device new_honest) same.size formed.formed
     (omega (arith, left, next_settled c.in-InSlots.awaits known.slot settled)) now now.rides_is now.version_is
     (λ torn told. c.switch.ensures.put (Some torn) (state_of state known.slot.blocks) told.noticed honest now.knows (λ image stays. now.stands image (torn, told, stays)) whole)

@@ -1,9 +1,10 @@
-use Rattle.std.proofs.Common.{ℕ, ◌≡◌, Some, refl, true, false, subst, sym, ◌∙◌, arith}
+use Rattle.std.proofs.Common.{ℕ, ◌≡◌, [], Some, refl, true, false, subst, sym, ◌∙◌, arith}
 use Rattle.sector_device.proofs.Charges.{failed_joined, made_joined}
 use Rattle.store_journal.specs.Layout.{IsSized}
 use Rattle.store_journal.specs.Models.{IsTold}
 use Rattle.commit_slots.specs.Finding.{IsMarked}
-use Rattle.store_journal.proofs.Formats.{format_failed, made_riding}
+use Rattle.store_journal.proofs.Fillings.{all_carry}
+use Rattle.store_journal.proofs.Formats.{format_failed}
 use Rattle.store_journal.proofs.start.format_riding.Goals as goal
 
 pub returns-in-Err-format_slots-clause-err : goal.returns-in-Err-format_slots-clause-err
@@ -26,7 +27,7 @@ returns-in-Ok-format_slots-clause-ok g c =
       fresh = λ honest. fresh (c.format_slots.ensures.same.honest.1 honest);
       empty = λ honest.
           let was = c.format_slots.ensures.same.honest.1 honest in
-          made_riding new (g.met.D.SectorDevice.torn_coherent c.format_slots.new.device honest) (omega (arith, size, sized.at_least)) (omega (arith, size, sized.at_most))
+          all_carry [] 0 0 new (g.met.D.SectorDevice.torn_coherent c.format_slots.new.device honest) (omega (arith, size, sized.at_least)) (omega (arith, size, sized.at_most))
           (λ torn told image left.
           (c.in-Ok-format_slots.ensures.formatted (Some torn) told.noticed was
           (λ before stays marked. fresh was (subst IsMarked (c.in-Ok.ensures.alone was before (torn, subst (λ (n : ℕ). IsTold n torn) c.format_slots.ensures.same.size told, stays)) marked))).done image left);

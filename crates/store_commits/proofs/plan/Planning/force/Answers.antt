@@ -1,30 +1,66 @@
-use Rattle.std.proofs.Common.{rules, ◌≡◌, ◌+◌, ◌-◌, ◌++◌, ◌∷◌, [], ℕ, List, Some, length, ap, subst, sym, ◌∙◌, refl, arith}
+use Rattle.std.proofs.Common.{◌≡◌, ◌+◌, ◌<◌, ◌≤◌, ◌∷◌, [], ℕ, List, length, ap, subst, sym, ◌∙◌, refl, arith, true, false}
+use Rattle.std.proofs.lemmas.Result.{on_ok_weaker}
 use Rattle.doc_changes.specs.State.{State}
 use Rattle.doc_machine.specs.Transaction.{changes_of, transaction_of}
 use Rattle.doc_machine.specs.Trial.{state_at}
-use Rattle.doc_changes.specs.declared.refusal.Refusal.{Refusal}
 use Rattle.doc_machine.proofs.Transactions.{taken_back}
-use Rattle.store_commits.specs.Run.{Done, Refused, Reply}
+use Rattle.store_commits.specs.Inside.{IsInstead}
+use Rattle.store_commits.specs.Run.{Done}
 use Rattle.store_commits.specs.Snapshot.{snapshot_bytes}
-use Rattle.store_commits.specs.Inside.{IsEmpty}
-use Rattle.store_commits.specs.declared.segment.Segment.{Segment}
 use Rattle.store_commits.proofs.Changes.{frames_size}
-use Rattle.store_commits.proofs.Plans.{further_behind, further_full}
+use Rattle.store_commits.proofs.Plans.{further_behind, further_full, further_instead, nowhere}
 use Rattle.store_commits.proofs.plan.Planning.force.Goals as goal
 
--- a snapshot leaves no room: it is taken back
+-- the snapshot of the documents before it makes room
+pub returns-then-used-self-clause-ok : goal.returns-then-used-self-clause-ok
+returns-then-used-self-clause-ok c = on_ok_weaker c.alone.result (λ alone a slots is.
+    let p = c.args.self.now in
+    let t = c.args.trial.now in
+    let asked = transaction_of c.args.transaction in
+    let tried = c.in-Ok.ensures.made in
+    let size = ap length c.requires.frames ∙ frames_size t.state.seq (changes_of asked) in
+    let over = c.requires.over in
+    let small = c.if-used-self.true in
+    let len = c.len.ensures in
+    let len_frames = c.len-2.ensures in
+    let ok = c.in_ok-snapshot.snapshot.ok in
+    let ok_frames = c.args.frames.ok in
+    let left = alone.left in
+    let bytes = alone.bytes in
+    further_behind a slots p t is asked tried.accepted (omega (arith, over, size)) tried.made.good c.alone.new.self alone.other alone.closed c.transact.new.self tried.made
+    (alone.frames_are ∙ c.requires.frames) (alone.adds_is ∙ c.len-adds.ensures) (alone.replies ∙ ap (λ (n : ℕ). Done n ∷ []) tried.seq_is) (omega (arith, bytes, size))
+    c.in_ok-snapshot.snapshot (c.in_ok-snapshot.ensures.frames ∙ ap (λ (s : State). snapshot_bytes s.documents) c.look.ensures.same) (omega (arith, small, len, len_frames, ok, ok_frames, size)) alone.base_is (omega (arith, left, len, len_frames, ok, ok_frames, size)))
+    c.alone.ensures
 
-pub returns-in_err-push-2-clause-origin : goal.returns-in_err-push-2-clause-origin
-returns-in_err-push-2-clause-origin c = ap (state_at 0) (taken_back _ _ _ _ _ c.in-Ok.ensures.made.made c.len-before.ensures.len c.keep.ensures.state c.keep.ensures.past)
+-- the snapshot of those after it fits
+pub returns-in-Some-clause-ok : goal.returns-in-Some-clause-ok
+returns-in-Some-clause-ok c = on_ok_weaker c.alone-in-Some.result (λ alone a slots is.
+    let p = c.args.self.now in
+    let t = c.args.trial.now in
+    let asked = transaction_of c.args.transaction in
+    let tried = c.in-Ok.ensures.made in
+    let size = ap length c.requires.frames ∙ frames_size t.state.seq (changes_of asked) in
+    let over = c.requires.over in
+    let wide = c.if-used-self.false in
+    let len = c.len.ensures in
+    let len_frames = c.len-2.ensures in
+    let len_after = c.len-size.ensures in
+    let ok = c.in_ok-snapshot.snapshot.ok in
+    let ok_frames = c.args.frames.ok in
+    let found = subst (IsInstead p c.transact.new.self.state) c.in-Some.is c.in_ok-after.ensures in
+    let fits = found.2 in
+    let left = alone.left in
+    let bytes = alone.bytes in
+    further_instead a slots p t is asked tried.accepted (omega (arith, over, size)) tried.made.good c.alone-in-Some.new.self alone.other alone.closed c.transact.new.self tried.made
+    (alone.frames_are ∙ c.requires.frames) (alone.adds_is ∙ c.len-adds.ensures) (alone.replies ∙ ap (λ (n : ℕ). Done n ∷ []) tried.seq_is) (omega (arith, bytes, size))
+    c.in-Some.after found.1 found.0 fits alone.base_is (omega (arith, left, len_after, fits))
+    (nowhere a slots p t is asked tried.accepted (omega (arith, over, size)) tried.made.good c.alone-in-Some.new.self alone.other alone.closed
+    c.in_ok-snapshot.snapshot.items (c.in_ok-snapshot.ensures.frames ∙ ap (λ (s : State). snapshot_bytes s.documents) c.look.ensures.same) (omega (arith, wide, len, len_frames, ok, ok_frames, size))))
+    c.alone-in-Some.ensures
 
-pub returns-in_err-push-3-clause-origin : goal.returns-in_err-push-3-clause-origin
-returns-in_err-push-3-clause-origin c = ap (state_at 0) (taken_back _ _ _ _ _ c.in-Ok.ensures.made.made c.len-before.ensures.len c.keep.ensures.state c.keep.ensures.past)
-
-pub returns-then-self-used-clause-origin : goal.returns-then-self-used-clause-origin
-returns-then-self-used-clause-origin c = ap (state_at 0) (taken_back _ _ _ _ _ c.in-Ok.ensures.made.made c.len-before.ensures.len c.keep.ensures.state c.keep.ensures.past)
-
-pub returns-then-self-used-clause-ok : goal.returns-then-self-used-clause-ok
-returns-then-self-used-clause-ok c = λ a slots is.
+-- nothing has room: it is taken back
+pub returns-clause-ok : goal.returns-clause-ok
+returns-clause-ok c = on_ok_weaker c.full.result (λ full a slots is.
     let p = c.args.self.now in
     let t = c.args.trial.now in
     let asked = transaction_of c.args.transaction in
@@ -32,38 +68,15 @@ returns-then-self-used-clause-ok c = λ a slots is.
     let back : c.keep.new.self ≡ t = taken_back t c.transact.new.self c.keep.new.self (changes_of asked) c.len-before.result tried.made c.len-before.ensures.len c.keep.ensures.state c.keep.ensures.past in
     let size = ap length c.requires.frames ∙ frames_size t.state.seq (changes_of asked) in
     let over = c.requires.over in
-    let wide = c.if-self-used.true in
+    let wide = c.if-used-self.false in
     let len = c.len.ensures in
     let len_frames = c.len-2.ensures in
     let ok = c.in_ok-snapshot.snapshot.ok in
     let ok_frames = c.args.frames.ok in
-    let none = c.new-full.ensures in
-    let other : Segment = record { snapshot = c.new-full.result.snapshot; frames = c.new-full.result.frames; adds = c.new-full.result.adds; replies = c.push-then-self-used.new.self } in
-    further_full a slots p t is asked tried.accepted (omega (arith, over, size)) tried.made.good c.replace-last.new.dest (subst IsEmpty (sym c.replace-last.ensures.after) c.new.ensures) other
-    c.push-then-self-used-2.new.self (c.in_ok-push-3.ensures.items ∙ ap (λ (l : List Segment). l ++ other ∷ []) (c.in_ok-push.ensures.items ∙ ap (λ (s : Segment). p.segments.items ++ s ∷ []) c.replace-last.ensures.value))
+    further_full a slots p t is asked tried.accepted (omega (arith, over, size)) tried.made.good c.full.new.self full.other full.closed
     c.in_ok-snapshot.snapshot.items (c.in_ok-snapshot.ensures.frames ∙ ap (λ (s : State). snapshot_bytes s.documents) c.look.ensures.same) (omega (arith, wide, len, len_frames, ok, ok_frames, size))
-    none.snapshot none.frames none.adds (c.in_ok-push-2.ensures.items ∙ ap (λ (l : List Reply). l ++ Refused c.plain.result ∷ []) none.replies ∙ ap (λ (r : Refusal). Refused r ∷ []) c.plain.ensures)
-    c.keep.new.self back
+    (subst (λ (s : State). p.rides ≡ true → p.capacity < length (snapshot_bytes s.documents)) tried.made.state (subst (IsInstead p c.transact.new.self.state) c.in_default.is c.in_ok-after.ensures)) full.base_is full.frames_are full.adds_is full.replies full.left full.bytes c.keep.new.self back)
+    c.full.ensures
 
--- it does
-pub returns-clause-ok : goal.returns-clause-ok
-returns-clause-ok c = λ a slots is.
-    let p = c.args.self.now in
-    let t = c.args.trial.now in
-    let asked = transaction_of c.args.transaction in
-    let tried = c.in-Ok.ensures.made in
-    let size = ap length c.requires.frames ∙ frames_size t.state.seq (changes_of asked) in
-    let over = c.requires.over in
-    let small = c.if-self-used.false in
-    let len = c.len.ensures in
-    let len_frames = c.len-2.ensures in
-    let ok = c.in_ok-snapshot.snapshot.ok in
-    let ok_frames = c.args.frames.ok in
-    let sum : c.in-Some.bytes ≡ p.bytes + c.len-3.result = search rules in
-    let len_more = c.len-3.ensures in
-    let other : Segment = record { snapshot = Some c.in_ok-snapshot.snapshot; frames = c.args.frames; adds = c.len-adds.result; replies = c.push-2.new.self } in
-    further_behind a slots p t is asked tried.accepted (omega (arith, over, size)) tried.made.good c.replace-last.new.dest (subst IsEmpty (sym c.replace-last.ensures.after) c.new.ensures) other
-    c.push-3.new.self (c.in_ok-push-5.ensures.items ∙ ap (λ (l : List Segment). l ++ other ∷ []) (c.in_ok-push.ensures.items ∙ ap (λ (s : Segment). p.segments.items ++ s ∷ []) c.replace-last.ensures.value))
-    c.transact.new.self tried.made c.in_ok-snapshot.snapshot (c.in_ok-snapshot.ensures.frames ∙ ap (λ (s : State). snapshot_bytes s.documents) c.look.ensures.same) (omega (arith, small, len, len_frames, ok, ok_frames, size))
-    refl c.requires.frames c.len-adds.ensures (c.in_ok-push-4.ensures.items ∙ ap (λ (l : List Reply). l ++ Done c.in-Ok.seq ∷ []) c.new-replies.ensures.items ∙ ap (λ (n : ℕ). Done n ∷ []) tried.seq_is)
-    (p.capacity - (c.len.result + c.len-2.result)) c.in-Some.bytes (omega (arith, small, len, len_frames, ok, ok_frames, size)) (omega (arith, sum, len_more, ok_frames, size))
+pub returns-clause-origin : goal.returns-clause-origin
+returns-clause-origin c = ap (state_at 0) (taken_back _ _ _ _ _ c.in-Ok.ensures.made.made c.len-before.ensures.len c.keep.ensures.state c.keep.ensures.past)

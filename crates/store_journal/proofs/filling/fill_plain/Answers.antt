@@ -4,7 +4,7 @@ use Rattle.sector_device.specs.Sectors.{sectors_of}
 use Rattle.sector_device.proofs.Charges.{failed_joined}
 use Rattle.store_journal.proofs.Fillings.{at_any_moment, fill_failed}
 use Rattle.store_journal.specs.Filling.{filled}
-use Rattle.store_journal.proofs.filling.format_with.Goals as goal
+use Rattle.store_journal.proofs.filling.fill_plain.Goals as goal
 
 pub returns-in-Err-fill-clause-err : goal.returns-in-Err-fill-clause-err
 returns-in-Err-fill-clause-err g c =
@@ -12,7 +12,7 @@ returns-in-Err-fill-clause-err g c =
     let old = disk c.args.device.now in
     let sized = subst (IsSized false) c.sectors-sectors.ensures (c.if-not-is_sized.ensures.0 refl) in
     let fits = subst (λ (n : ℕ). length c.args.bytes.now ≤ n) (c.capacity.ensures ∙ ap (capacity_of false) c.sectors-sectors.ensures) c.if-capacity-bytes.false in
-    fill_failed old (disk c.fill.new.device) (filled c.args.bytes.now c.args.seq c.args.opens) sized fits
+    fill_failed old (disk c.fill.new.device) (filled false c.args.bytes.now c.args.seq c.args.opens) sized fits
     (failed_joined old (disk c.read_first.new.device) (disk c.fill.new.device) 2 (sectors_of (length c.args.bytes.now) + 3) _ (omega arith) c.in-Ok.ensures.charges c.in-Err-fill.ensures.charges)
 
 pub returns-in-Err-fill-clause-any_moment : goal.returns-in-Err-fill-clause-any_moment
@@ -20,7 +20,7 @@ returns-in-Err-fill-clause-any_moment g c = λ honest.
     let disk = g.D.SectorDevice.disk in
     let mid_honest = c.fill.ensures.same.honest.1 honest in
     let given = c.in-Ok.ensures.first mid_honest in
-    at_any_moment (disk c.args.device.now) (disk c.read_first.new.device) (disk c.fill.new.device) (filled c.args.bytes.now c.args.seq c.args.opens) refl (c.read_first.ensures.images mid_honest) (c.in-Ok.ensures.settled mid_honest)
+    at_any_moment (disk c.args.device.now) (disk c.read_first.new.device) (disk c.fill.new.device) (filled false c.args.bytes.now c.args.seq c.args.opens) refl (c.read_first.ensures.images mid_honest) (c.in-Ok.ensures.settled mid_honest)
     (λ magic. let true_too = c.if-has_magic.ensures.1 (ap (take 8) given ∙ magic) in absurd (cc true_too)) (c.fill.ensures.any_moment mid_honest)
 
 pub returns-in-Ok-fill-clause-any_moment : goal.returns-in-Ok-fill-clause-any_moment
@@ -28,5 +28,5 @@ returns-in-Ok-fill-clause-any_moment g c = λ honest.
     let disk = g.D.SectorDevice.disk in
     let mid_honest = c.fill.ensures.same.honest.1 honest in
     let given = c.in-Ok.ensures.first mid_honest in
-    at_any_moment (disk c.args.device.now) (disk c.read_first.new.device) (disk c.fill.new.device) (filled c.args.bytes.now c.args.seq c.args.opens) refl (c.read_first.ensures.images mid_honest) (c.in-Ok.ensures.settled mid_honest)
+    at_any_moment (disk c.args.device.now) (disk c.read_first.new.device) (disk c.fill.new.device) (filled false c.args.bytes.now c.args.seq c.args.opens) refl (c.read_first.ensures.images mid_honest) (c.in-Ok.ensures.settled mid_honest)
     (λ magic. let true_too = c.if-has_magic.ensures.1 (ap (take 8) given ∙ magic) in absurd (cc true_too)) (c.fill.ensures.any_moment mid_honest)

@@ -1,9 +1,9 @@
-use Rattle.std.proofs.Common.{◌≡◌, ◌+◌, ◌<◌, ℕ, length, subst, ap, arith}
+use Rattle.std.proofs.Common.{◌≡◌, ◌+◌, ◌<◌, ℕ, [], length, get_or, subst, ap, arith}
 use Rattle.sector_device.specs.Charges.{Made}
 use Rattle.sector_device.proofs.Charges.{made_none, made_one, made_joined, charges_err, failed_one, failed_joined, same_none, same_one, same_joined}
 use Rattle.commit_slots.specs.Slots.{IsHeld, count_of, slot_start}
 use Rattle.slot_commits.proofs.Copies.{coherent_by, held_more, no_ok, none_yet, seen_failed, seen_more, slot_same, step_leaves, written_by}
-use Rattle.slot_commits.proofs.pair.write_slot.Goals as goal
+use Rattle.slot_commits.proofs.pair.write_copy.Goals as goal
 
 pub write-requires : goal.write-requires
 write-requires g c =
@@ -21,7 +21,7 @@ returns-in_err-write g c =
     let k = c.loop-k.k in
     let slot = c.args.slot.now in
     let tail = c.args.tail.now in
-    let content = c.slot_sector.result in
+    let content = get_or c.args.sectors.now k [] in
     let count = count_of (length tail) in
     let at : c.slot_start-first.result + k ≡ slot_start slot.number c.args.copy + k = ap (λ (n : ℕ). n + k) c.slot_start-first.ensures in
     let lt : k < count = omega (arith, c.loop-k-test.true, c.sectors_of_tail-k-end.ensures) in
@@ -31,11 +31,11 @@ returns-in_err-write g c =
       charges = charges_err old new count c.from_residual.result c.from_residual.ensures.0 (failed_joined old mid new k 1 count (omega (arith, lt)) inv.made (failed_one mid new _ c.in_err-write.ensures.counts));
       any_moment = λ torn honest.
           let now = inv.same.honest.0 honest in
-          step_leaves torn slot tail c.args.copy old mid new k content lt few c.slot_sector.ensures (coherent_by torn mid (coherent c.loop-k.device now) (tears c.loop-k.device now)) (inv.any_moment torn honest)
+          step_leaves torn slot tail c.args.copy old mid new k content lt few (c.requires.made k lt) (coherent_by torn mid (coherent c.loop-k.device now) (tears c.loop-k.device now)) (inv.any_moment torn honest)
           (written_by torn mid new c.slot_start-first.result k slot.number c.args.copy content at (c.write.ensures.writes now) (λ t. c.write.ensures.torn t now));
       seen = λ honest.
           let now = inv.same.honest.0 honest in
-          seen_failed slot tail c.args.copy old.seen mid.seen new.seen c.slot_start-first.result k content lt few c.slot_sector.ensures at (inv.seen honest) (c.in_err-write.ensures.writes now).failed;
+          seen_failed slot tail c.args.copy old.seen mid.seen new.seen c.slot_start-first.result k content lt few (c.requires.made k lt) at (inv.seen honest) (c.in_err-write.ensures.writes now).failed;
       held = λ honest. no_ok (IsHeld slot tail (slot_start slot.number c.args.copy) new.seen) c.from_residual.result c.from_residual.ensures.0;
     }
 
@@ -62,7 +62,7 @@ loop-k-preserved g c =
     let k = c.loop-k.k in
     let slot = c.args.slot.now in
     let tail = c.args.tail.now in
-    let content = c.slot_sector.result in
+    let content = get_or c.args.sectors.now k [] in
     let at : c.slot_start-first.result + k ≡ slot_start slot.number c.args.copy + k = ap (λ (n : ℕ). n + k) c.slot_start-first.ensures in
     let lt : k < count_of (length tail) = omega (arith, c.loop-k-test.true, c.sectors_of_tail-k-end.ensures) in
     let few : k < 32 = omega (arith, lt, c.requires.fits) in
@@ -71,15 +71,15 @@ loop-k-preserved g c =
       made = made_joined old mid new k 1 inv.made (made_one mid new _ c.in_ok-write.ensures.counts);
       any_moment = λ torn honest.
           let now = inv.same.honest.0 honest in
-          step_leaves torn slot tail c.args.copy old mid new k content lt few c.slot_sector.ensures (coherent_by torn mid (coherent c.loop-k.device now) (tears c.loop-k.device now)) (inv.any_moment torn honest)
+          step_leaves torn slot tail c.args.copy old mid new k content lt few (c.requires.made k lt) (coherent_by torn mid (coherent c.loop-k.device now) (tears c.loop-k.device now)) (inv.any_moment torn honest)
           (written_by torn mid new c.slot_start-first.result k slot.number c.args.copy content at (c.write.ensures.writes now) (λ t. c.write.ensures.torn t now));
       seen = λ honest.
           let now = inv.same.honest.0 honest in
-          seen_more slot tail c.args.copy old.seen mid.seen new.seen c.slot_start-first.result k content lt few c.slot_sector.ensures at (inv.seen honest) (c.in_ok-write.ensures.writes now).seen;
+          seen_more slot tail c.args.copy old.seen mid.seen new.seen c.slot_start-first.result k content lt few (c.requires.made k lt) at (inv.seen honest) (c.in_ok-write.ensures.writes now).seen;
       held = λ honest.
           let now = inv.same.honest.0 honest in
           let shape = coherent c.loop-k.device now in
-          held_more slot tail c.args.copy old.seen mid.seen new.seen c.slot_start-first.result k content lt few c.slot_sector.ensures at
+          held_more slot tail c.args.copy old.seen mid.seen new.seen c.slot_start-first.result k content lt few (c.requires.made k lt) at
           (omega (arith, (shape.shape mid.seen shape.seen).count, inv.same.size, lt, few, c.requires.room, c.requires.copy)) (c.in_ok-write.ensures.writes now).seen (inv.held honest);
     }
 

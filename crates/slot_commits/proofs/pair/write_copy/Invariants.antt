@@ -4,7 +4,7 @@ use Rattle.sector_device.specs.Charges.{IsSame, Made}
 use Rattle.commit_slots.specs.Slots.{slot_sector, slot_start}
 use Rattle.slot_commits.specs.Pairs.{SlotOver, SlotSome}
 use Rattle.slot_commits.specs.Tears.{tearing_by}
-use Rattle.slot_commits.proofs.pair.write_slot.Given as goal
+use Rattle.slot_commits.proofs.pair.write_copy.Given as goal
 
 abbrev pub invariant-loop-k : goal.invariant-loop-k
 invariant-loop-k g l =
