@@ -3,8 +3,8 @@ use Rattle.std.proofs.Common.{◌≡◌, ℕ, suc, ◌+◌, ◌<◌, ◌≤◌, 
 use Rattle.std.specs.Cmp.Lexicographic.{nat_list_eq_equiv}
 use Rattle.std.specs.List.{AllByRecursion}
 use Rattle.doc_schema.specs.Faults.{IsFaultless}
-use Rattle.doc_changes.specs.State.{Document, State, Good, IsStorable, AreDistinct, AreRevised, find, changed, without}
-use Rattle.doc_changes.specs.declared.limits.TheConstants.{DOCUMENTS, LAST_SEQ}
+use Rattle.doc_changes.specs.State.{Document, State, Good, IsStorable, AreDistinct, AreRevised, find, changed, most_documents, without}
+use Rattle.doc_changes.specs.declared.limits.TheConstants.{LAST_SEQ}
 use Rattle.doc_changes.proofs.Entries.{none_at, none_found}
 
 -- ---- what holds of each document
@@ -55,7 +55,7 @@ distinct_push d (x ∷ xs) h e =
     let away : bytes_eq x.name d.name ≡ false = nat_list_eq_equiv.symm x.name d.name ∙ both.0 in
     (find-append x.name xs (d ∷ []) h.0 ∙ ap (λ b. cond b (Some d) None) away, distinct_push d xs h.1 both.1)
 
-pub good_push : (s : State) (d : Document) → Good s → find d.name s.documents ≡ None → IsStorable d → IsFaultless s.profile d.schema → length s.documents < DOCUMENTS → d.revision ≤ s.seq
+pub good_push : (s : State) (d : Document) → Good s → find d.name s.documents ≡ None → IsStorable d → IsFaultless s.profile d.schema → length s.documents < most_documents s.profile → d.revision ≤ s.seq
     → Good (record s { documents = s.documents ++ d ∷ [] })
 good_push s d g new storable offered few low = record {
   revised = all_push (λ x. x.revision ≤ s.seq) s.documents d g.revised low;

@@ -26,11 +26,11 @@ use Rattle.record_text.specs.Change.{Change, create, patch, set_schema, delete}
 use Rattle.doc_changes.specs.Judged.{RefusesIn}
 use Rattle.doc_changes.specs.Patched.{patched, made_by, or_refused, on_made}
 use Rattle.doc_changes.specs.Refusals.{refused_if, first, plain, of_patch, other_revision}
-use Rattle.doc_changes.specs.State.{Document, State, find}
+use Rattle.doc_changes.specs.State.{Document, State, find, most_documents}
 use Rattle.doc_changes.specs.Names.{is_name}
 use Rattle.doc_changes.specs.Step.{IsOwn, Refuses, refusals_in, refusal_of, refusal_at, patch_refusal, outcome_refusal, invalid_refusal, revision_refusal, seq_refusal, name_refusal, absent_refusal}
 use Rattle.doc_changes.specs.Schema.{schema_refusal, is_valid}
-use Rattle.doc_changes.specs.declared.limits.TheConstants.{DOCUMENTS, LAST_SEQ}
+use Rattle.doc_changes.specs.declared.limits.TheConstants.{LAST_SEQ}
 use Rattle.doc_changes.specs.declared.refusal.Refusal.{Refusal}
 
 -- ---- patches
@@ -202,7 +202,7 @@ may_alone profile ds (create name schema doc) = (
   (
     may_if_below (is_some (find name ds)) EXISTS (omega arith),
     (
-      may_if_below (nat_le DOCUMENTS (length ds)) TOO_MANY (omega arith),
+      may_if_below (nat_le (most_documents profile) (length ds)) TOO_MANY (omega arith),
       (
         may_schema profile schema,
         (

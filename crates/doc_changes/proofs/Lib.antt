@@ -12,4 +12,5 @@ pub mod Framed
 pub mod Known
 pub mod Made
 pub mod EachOffered
+pub mod EqualSchemas
 pub mod Raised

@@ -44,7 +44,7 @@ pub read_is : (profile : Profile) (schema : Doc) (rules : Option Tree) (t : Tree
 read_is profile schema rules t r is = ap view (same_some rules t r.read is r.is) ∙ r.same
 
 -- the document of a judged creation
-pub can_add : (profile : Profile) (ds : List Document) (d : Document) (judged : Judged) → IsJudgedIn profile ds (create d.name d.schema d.doc) judged → CanCreate ds d
+pub can_add : (profile : Profile) (ds : List Document) (d : Document) (judged : Judged) → IsJudgedIn profile ds (create d.name d.schema d.doc) judged → CanCreate profile ds d
 can_add profile ds d judged j = can_create profile ds d (none_first (refusals_in profile ds (create d.name d.schema d.doc)) j.accepted) j.sound.0 j.sound.1 j.made.faultless
 
 first-kept : (rs : List (Option Refusal)) (o : Option Refusal) (r : Refusal) → first rs ≡ Some r → first (rs ++ o ∷ []) ≡ Some r

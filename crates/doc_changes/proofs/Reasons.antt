@@ -13,10 +13,10 @@ use Rattle.record_text.specs.Change.{Change, create}
 use Rattle.doc_changes.specs.Patched.{on_made}
 use Rattle.doc_changes.specs.Refusals.{refused_if, first}
 use Rattle.doc_changes.specs.Schema.{is_valid}
-use Rattle.doc_changes.specs.State.{Document, State, IsStorable, find}
+use Rattle.doc_changes.specs.State.{Document, State, IsStorable, find, most_documents}
 use Rattle.doc_changes.specs.Names.{is_name}
 use Rattle.doc_changes.specs.Step.{refusals_in, refusal_of, refusal_at, seq_refusal}
-use Rattle.doc_changes.specs.declared.limits.TheConstants.{DOCUMENTS, LAST_SEQ}
+use Rattle.doc_changes.specs.declared.limits.TheConstants.{LAST_SEQ}
 use Rattle.doc_changes.specs.declared.refusal.Refusal.{Refusal}
 use Rattle.doc_changes.proofs.Entries.{none_found}
 use Rattle.doc_changes.proofs.Schemas.{judges_yes}
@@ -72,15 +72,15 @@ accepts s c most h =
     record { alone = none_first (refusals_in s.profile s.documents c) both.0; rises = below_last s.seq most both.1 }
 
 -- a document that may be created
-pub record CanCreate (ds : List Document) (d : Document) : Type 0 where
+pub record CanCreate (profile : Profile) (ds : List Document) (d : Document) : Type 0 where
   pub new : find d.name ds ≡ None
-  pub few : length ds < DOCUMENTS
+  pub few : length ds < most_documents profile
   pub storable : IsStorable d
 
-pub can_create : (profile : Profile) (ds : List Document) (d : Document) → AllByRecursion (λ r. r ≡ None) (refusals_in profile ds (create d.name d.schema d.doc)) → IsSound d.schema → IsSound d.doc → IsFaultless profile d.schema → CanCreate ds d
+pub can_create : (profile : Profile) (ds : List Document) (d : Document) → AllByRecursion (λ r. r ≡ None) (refusals_in profile ds (create d.name d.schema d.doc)) → IsSound d.schema → IsSound d.doc → IsFaultless profile d.schema → CanCreate profile ds d
 can_create profile ds d none schema doc faultless = record {
   new = none_found (find d.name ds) (not_refused _ _ none.1.0);
-  few = leb-false DOCUMENTS (length ds) (not_refused _ _ none.1.1.0);
+  few = leb-false (most_documents profile) (length ds) (not_refused _ _ none.1.1.0);
   storable = record {
     named = named_if (is_name d.name) _ none.0;
     doc_sound = doc;

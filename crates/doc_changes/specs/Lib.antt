@@ -2,6 +2,7 @@ pub mod Names
 pub mod Refusals
 pub mod Schema
 pub mod State
+pub mod Within
 pub mod CodedState
 pub mod Patched
 pub mod Step

@@ -7,7 +7,7 @@ use Rattle.doc_tree.specs.Text.{text_of}
 use Rattle.doc_schema.specs.Faults.{IsFaultless, IsTooLong}
 use Rattle.doc_schema.specs.Judge.{Judges}
 use Rattle.schema_rules.specs.declared.profile.Profile.{Profile}
-use Rattle.schema_rules.specs.declared.profile.Profile.TheVariants.{Two}
+use Rattle.schema_rules.specs.declared.profile.Profile.TheVariants.{Three, Two}
 use Rattle.doc_changes.specs.Names.{is_name}
 
 -- a document with its name, in UTF-8, its schema, and its revision: the seq of the last accepted creation, patch or schema of it
@@ -73,6 +73,11 @@ AreDistinct (d ∷ ds) = (find d.name ds ≡ None) × AreDistinct ds
 abbrev pub AreOffered : Profile → List Document → Type 0
 AreOffered profile ds = AllByRecursion (λ d. IsFaultless profile d.schema) ds
 
+-- the most documents that a state in the profile has
+abbrev pub most_documents : Profile → ℕ
+most_documents Two = 1_024
+most_documents Three = 65_536
+
 -- no revision is over that seq
 abbrev pub AreRevised : ℕ → List Document → Type 0
 AreRevised seq ds = AllByRecursion (λ d. d.revision ≤ seq) ds
@@ -82,6 +87,6 @@ pub record Good (s : State) : Type 0 where
   pub distinct : AreDistinct s.documents
   pub storable : AllByRecursion IsStorable s.documents
   pub offered : AreOffered s.profile s.documents
-  pub few : length s.documents ≤ 1_024
+  pub few : length s.documents ≤ most_documents s.profile
   pub counted : s.seq ≤ 0xffff_ffff_ffff_ffff
   pub revised : AreRevised s.seq s.documents

@@ -8,7 +8,7 @@ use Rattle.record_text.specs.Change.{Change, create, patch, set_schema, delete}
 use Rattle.doc_changes.specs.Patched.{patched, made_or, on_made}
 use Rattle.doc_changes.specs.Refusals.{plain, other_revision, refused_if, first}
 use Rattle.doc_changes.specs.Schema.{schema_refusal, is_valid}
-use Rattle.doc_changes.specs.State.{Document, State, find, changed, without}
+use Rattle.doc_changes.specs.State.{Document, State, find, changed, most_documents, without}
 use Rattle.doc_changes.specs.Names.{is_name}
 use Rattle.doc_changes.specs.declared.refusal.Refusal.{Refusal}
 use Rattle.refusals.specs.declared.numbers.TheConstants.{MEMORY, DEPTH, TOO_LARGE, NAME, EXISTS, NO_DOCUMENT, TOO_MANY, INVALID, FULL, DEVICE, BROKEN, SEQ_END}
@@ -27,9 +27,9 @@ exists_refusal ds name = refused_if (is_some (find name ds)) EXISTS
 abbrev pub absent_refusal : List Document → List ℕ → Option Refusal
 absent_refusal ds name = refused_if (not (is_some (find name ds))) NO_DOCUMENT
 
--- as many documents as there may be already exist
-abbrev pub room_refusal : List Document → Option Refusal
-room_refusal ds = refused_if (nat_le 1_024 (length ds)) TOO_MANY
+-- as many documents as there may be in the profile already exist
+abbrev pub room_refusal : Profile → List Document → Option Refusal
+room_refusal profile ds = refused_if (nat_le (most_documents profile) (length ds)) TOO_MANY
 
 -- a document nests too deep
 abbrev pub depth_refusal : Doc → Option Refusal
@@ -70,7 +70,7 @@ refusal_at f (Some d) = f d
 -- why these documents refuse a change, whose schema is read in the profile, in the order of refusals
 abbrev pub refusals_in : Profile → List Document → Change → List (Option Refusal)
 refusals_in profile ds (create name schema doc) =
-    name_refusal name ∷ exists_refusal ds name ∷ room_refusal ds ∷ schema_refusal profile schema ∷ depth_refusal doc ∷ size_refusal doc ∷ invalid_refusal schema doc ∷ []
+    name_refusal name ∷ exists_refusal ds name ∷ room_refusal profile ds ∷ schema_refusal profile schema ∷ depth_refusal doc ∷ size_refusal doc ∷ invalid_refusal schema doc ∷ []
 refusals_in profile ds (patch name ops if_rev) =
     name_refusal name ∷ absent_refusal ds name ∷ refusal_at (λ d. revision_refusal if_rev d.revision) (find name ds) ∷ refusal_at (patch_refusal ops) (find name ds) ∷ refusal_at (outcome_refusal ops) (find name ds) ∷ []
 refusals_in profile ds (set_schema name schema) =

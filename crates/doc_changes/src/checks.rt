@@ -7,7 +7,7 @@ ghost use Rattle.doc_changes.specs.Step.{revision_refusal, name_refusal, exists_
 ghost use Rattle.doc_changes.specs.declared.limits.TheConstants.{LAST_SEQ};
 
 use crate::documents::Documents;
-use crate::limits::{DOCUMENT_BYTES, DOCUMENT_HEIGHT, DOCUMENTS, LAST_ASKED, LAST_SEQ};
+use crate::limits::{DOCUMENT_BYTES, DOCUMENT_HEIGHT, LAST_ASKED, LAST_SEQ, most_documents};
 use crate::{Refusal, is_valid_name};
 use doc_tree::Tree;
 use refusals::numbers::{DEPTH, EXISTS, NAME, NO_DOCUMENT, SEQ_END, TOO_LARGE, TOO_MANY};
@@ -32,9 +32,9 @@ impl<'m> Documents<'m> {
     }
 
     pub(crate) fn check_room(&self) -> Result<(), Refusal>
-        ensures { result_err result ≡ room_refusal self.now.documents }
+        ensures { result_err result ≡ room_refusal self.now.profile self.now.documents }
     {
-        if self.len() >= DOCUMENTS {
+        if self.len() >= most_documents(self.profile) {
             return Err(Refusal::plain(TOO_MANY));
         }
         Ok(())

@@ -79,7 +79,7 @@ impl<'m> Documents<'m> {
             (λ r. schema_at self.now name.now ≡ Err r) }
         ensures good { Good self.now }
     {
-        Ok(self.document(name)?.schema.source())
+        Ok(self.document(name)?.schema.get().source())
     }
 
     /// The revision of the document of that name, as `Machine::revision` answers.

@@ -16,7 +16,7 @@ use crate::checks::{check_depth, check_name, check_revision, check_size};
 use crate::documents::Documents;
 use crate::judged::Judged;
 use crate::laws::accepted_changes_are_framed;
-use crate::rules::{check_valid, read_schema};
+use crate::rules::check_valid;
 use doc_patch::Patch;
 use doc_tree::Tree;
 use record_text::Command;
@@ -88,10 +88,10 @@ impl<'m> Documents<'m> {
         check_name(name)?;
         self.check_new(name)?;
         self.check_room()?;
-        let rules = read_schema(self.alloc, self.profile, schema)?;
+        let rules = self.read_shared(schema)?;
         check_depth(doc)?;
         check_size(doc)?;
-        check_valid(self.alloc, &rules, doc)?;
+        check_valid(self.alloc, rules.get(), doc)?;
         Ok(Judged {
             patched: None,
             rules: Some(rules),
@@ -106,7 +106,7 @@ impl<'m> Documents<'m> {
         let stored = self.stored(name).ok_or(Refusal::plain(NO_DOCUMENT))?;
         check_revision(if_rev, stored.revision)?;
         let made = make(self.alloc, ops, stored.doc.tree())?;
-        check_valid(self.alloc, &stored.schema, &made)?;
+        check_valid(self.alloc, stored.schema.get(), &made)?;
         Ok(Judged {
             patched: Some(made),
             rules: None,
@@ -119,8 +119,8 @@ impl<'m> Documents<'m> {
     {
         check_name(name)?;
         let stored = self.stored(name).ok_or(Refusal::plain(NO_DOCUMENT))?;
-        let rules = read_schema(self.alloc, self.profile, schema)?;
-        check_valid(self.alloc, &rules, stored.doc.tree())?;
+        let rules = self.read_again(name, schema)?;
+        check_valid(self.alloc, rules.get(), stored.doc.tree())?;
         Ok(Judged {
             patched: None,
             rules: Some(rules),

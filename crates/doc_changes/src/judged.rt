@@ -1,5 +1,5 @@
 //! The result of judging a change.
-use doc_schema::Schema;
+use crate::shared::SharedSchema;
 use doc_tree::Tree;
 
 /// What `Documents::prepare` made of a change that it doesn't refuse. `judge` makes the patched document too.
@@ -8,5 +8,5 @@ pub struct Judged {
     /// Of a patch, the document that it makes.
     pub(crate) patched: Option<Tree>,
     /// Of a creation or a schema, the schema as it was read.
-    pub(crate) rules: Option<Schema>,
+    pub(crate) rules: Option<SharedSchema>,
 }

@@ -9,7 +9,8 @@ ghost use Rattle.doc_tree.specs.Doc.{Doc};
 ghost use Rattle.doc_changes.specs.Judged.{IsSoundChange};
 ghost use Rattle.doc_changes.specs.Refusals.{first, plain};
 ghost use Rattle.doc_changes.specs.Schema.{schema_refusal};
-ghost use Rattle.doc_changes.specs.State.{AreOffered, State, Document, IsStorable};
+ghost use Rattle.doc_changes.specs.State.{State, Document, IsStorable};
+ghost use Rattle.doc_changes.specs.Within.{AreWithin};
 ghost use Rattle.doc_changes.specs.Step.{IsOwn, Refuses, refusal_of, refusals_in};
 ghost use Rattle.doc_changes.specs.declared.refusal.Refusal.{Refusal};
 
@@ -44,10 +45,10 @@ pub fn schemas_are_refused_by_their_first_fault()
     first_faults_are_found();
 }
 
-/// What a profile accepts, profile 3 accepts: each change, and the schemas that documents have.
+/// What a profile accepts, profile 3 accepts: each change, and the documents that a state may hold.
 pub fn earlier_profiles_stay()
     ensures changes { (profile : Profile) (ds : List Document) (c : Change) → first (refusals_in profile ds c) ≡ None → first (refusals_in Three ds c) ≡ None }
-    ensures schemas { (profile : Profile) (ds : List Document) → AreOffered profile ds → AreOffered Three ds }
+    ensures documents { (profile : Profile) (ds : List Document) → AreWithin profile ds → AreWithin Three ds }
 {
     first_faults_are_found();
     schemas_of_earlier_profiles_stay();

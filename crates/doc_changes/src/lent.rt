@@ -36,7 +36,7 @@ impl<'m> Documents<'m> {
         let (name, stored) = self.documents.get_index(place).unwrap();
         Lent {
             name: name.as_str(),
-            schema: stored.schema.source(),
+            schema: stored.schema.get().source(),
             doc: stored.doc.tree(),
             revision: stored.revision,
         }

@@ -6,6 +6,9 @@
 //! changed is judged (`judged_patches`). What a change makes, and why it is refused, is defined in
 //! `specs/Step.antt`; what every state keeps, in `specs/State.antt`; refusals as calls answer them, in
 //! `specs/Refusals.antt`.
+//!
+//! A schema that comes with a change is looked for among those of the last documents, which then share it, so that many
+//! documents under one schema keep it once, and it is compiled once.
 #![tactic(auto)]
 
 mod checks;
@@ -21,6 +24,8 @@ mod offered;
 mod patching;
 mod refusal;
 mod rules;
+mod shared;
+mod sharing;
 mod stored;
 mod undo;
 
@@ -33,5 +38,6 @@ pub use making::{make, make_for_good, unmake};
 pub use names::is_valid_name;
 pub use patching::patch_read_for_good;
 pub use refusal::Refusal;
+pub use shared::SharedSchema;
 pub use stored::Stored;
 pub use undo::Undo;

@@ -1,10 +1,17 @@
 //! The limits of a store. Those of documents and patches are those of `doc_patch`.
+ghost use Rattle.std.specs.Prelude.{◌≡◌};
+ghost use Rattle.doc_changes.specs.State.{most_documents};
+
 pub use doc_patch::limits::{
     DOCUMENT_BYTES, DOCUMENT_HEIGHT, PATCH_BYTES, PATCH_HEIGHT, PATCH_OPERATIONS,
 };
+use doc_schema::Profile;
 
-/// Documents that a store holds at most.
+/// Documents that a store of profile 2 holds at most.
 pub const DOCUMENTS: usize = 1_024;
+
+/// Documents that a store of profile 3 holds at most.
+pub const MORE_DOCUMENTS: usize = 65_536;
 
 /// Changes of a transaction at most.
 pub const TRANSACTION_CHANGES: usize = 1_024;
@@ -17,3 +24,13 @@ pub const LAST_SEQ: u64 = u64::MAX;
 
 /// The greatest revision that a patch may ask for: the greatest number that a document holds.
 pub const LAST_ASKED: u64 = 0x7fff_ffff_ffff_ffff;
+
+/// Documents that a store with schemas of that profile holds at most.
+pub fn most_documents(profile: Profile) -> usize
+    ensures { result ≡ most_documents profile }
+{
+    match profile {
+        Profile::Two => DOCUMENTS,
+        Profile::Three => MORE_DOCUMENTS,
+    }
+}

@@ -14,10 +14,10 @@ ghost use Rattle.doc_changes.specs.StateView.{document_of, named};
 use crate::Refusal;
 use crate::judged::Judged;
 use crate::patching::{patch, patch_for_good, take_back};
+use crate::shared::SharedSchema;
 use crate::stored::Stored;
 use crate::undo::Undo;
 use doc_patch::Document;
-use doc_schema::Schema;
 use indexmap::IndexMap;
 use record_text::Command;
 use std::alloc::Global;
@@ -141,7 +141,7 @@ fn add(documents: &mut IndexMap<String, Stored>, name: String, stored: Stored) -
 fn change(
     documents: &mut IndexMap<String, Stored>,
     name: String,
-    rules: Schema,
+    rules: SharedSchema,
     revision: u64,
 ) -> Undo
     requires found { is_some (find (string_bytes name) (map document_of documents.old.entries)) ≡ true }
@@ -162,7 +162,7 @@ fn change(
 }
 
 // Puts a schema in the place of the one that is kept, and answers that.
-fn replace(stored: &mut Stored, rules: Schema, revision: u64) -> Schema
+fn replace(stored: &mut Stored, rules: SharedSchema, revision: u64) -> SharedSchema
     ensures made { (name : List ℕ) → named name stored.new ≡ with_rules rules revision (named name stored.old) }
     ensures back { (name : List ℕ) → with_rules result stored.old.revision (named name stored.new) ≡ named name stored.old }
 {

@@ -157,7 +157,7 @@ fn patch_stored(
 {
     check_revision(if_rev, stored.revision)?;
     let changes = Patch::read(alloc, ops)?;
-    let reversal = apply_valid(alloc, &stored.schema, &changes, &mut stored.doc)?;
+    let reversal = apply_valid(alloc, stored.schema.get(), &changes, &mut stored.doc)?;
     let _made = stored.doc.tree();
     stored.revision = revision;
     Ok(reversal)
@@ -191,7 +191,7 @@ fn perform_for_good(
     ensures made { IfOk result (λ _. MakesForGood (or_refused (pure.patch (operations changes.now) stored.old.doc)) revision stored.old stored.new) }
     ensures refused { IfErr result (RefusesMade (or_refused (pure.patch (operations changes.now) stored.old.doc)) stored.old) }
 {
-    apply_valid_for_good(alloc, &stored.schema, changes, &mut stored.doc)?;
+    apply_valid_for_good(alloc, stored.schema.get(), changes, &mut stored.doc)?;
     let _made = stored.doc.tree();
     stored.revision = revision;
     Ok(())

@@ -5,16 +5,14 @@ ghost use Rattle.doc_patch.specs.Held.{held};
 ghost use Rattle.doc_patch.specs.Meaning.{operations};
 ghost use Rattle.doc_patch.specs.Measured.{Reverses};
 ghost use Rattle.doc_patch.specs.Patch.{patch};
-ghost use Rattle.doc_schema.specs.Faults.{IsFaultless};
 ghost use Rattle.doc_schema.specs.Judge.{Judges};
-ghost use Rattle.doc_tree.specs.Sound.{IsSound};
 ghost use Rattle.doc_tree.specs.TreeView.{view};
 ghost use Rattle.refusals.specs.declared.numbers.TheConstants.{INVALID, MEMORY};
 ghost use Rattle.schema_rules.specs.PatternTexts.{pattern_texts};
 ghost use Rattle.doc_changes.specs.Patched.{or_refused};
 ghost use Rattle.doc_changes.specs.Patching.{RefusesOutcome};
 ghost use Rattle.doc_changes.specs.Refusals.{plain, refused_if};
-ghost use Rattle.doc_changes.specs.Schema.{is_true, schema_refusal};
+ghost use Rattle.doc_changes.specs.Schema.{IsAccepted, is_true, schema_refusal};
 ghost use Rattle.doc_changes.specs.Step.{invalid_refusal};
 
 use crate::Refusal;
@@ -28,8 +26,7 @@ use std::alloc::Global;
 
 /// The schema that comes with a change, or why it is refused in the profile.
 pub(crate) fn read_schema(alloc: Global, profile: Profile, source: &Tree) -> Result<Schema, Refusal>
-    ensures { MatchResult result (λ s. (view s ≡ view source.now) × (schema_refusal profile (view source.now) ≡ None)
-        × IsFaultless profile (view source.now) × IsSound (view source.now))
+    ensures { MatchResult result (λ s. (view s ≡ view source.now) × IsAccepted profile (view source.now))
         (λ r. (r ≡ plain MEMORY) ⊎ (schema_refusal profile (view source.now) ≡ Some r)) }
 {
     first_faults_are_found();

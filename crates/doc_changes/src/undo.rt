@@ -3,9 +3,9 @@
 ghost use Rattle.std.specs.Prelude.{◌≡◌};
 ghost use Rattle.doc_changes.specs.Held.{held_of};
 
+use crate::shared::SharedSchema;
 use crate::stored::Stored;
 use doc_patch::Reversal;
-use doc_schema::Schema;
 
 /// The data that takes a change back: what it replaced, and its place.
 #[derive(Drop)]
@@ -21,7 +21,7 @@ pub enum Undo {
     /// The document of that name had this schema, as it was read, and that revision.
     Ruled {
         name: String,
-        rules: Schema,
+        rules: SharedSchema,
         revision: u64,
     },
     /// This document was at that place.

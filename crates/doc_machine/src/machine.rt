@@ -50,8 +50,9 @@ impl Machine {
     ghost use Rattle.record_text.specs.Frame.{entry};
     ghost use Rattle.doc_machine.specs.Entries.{Taken, Takes, with_entry};
     ghost use Rattle.doc_changes.specs.Judged.{IsJudged, RefusesIn};
-    ghost use Rattle.doc_changes.specs.State.{AreOffered, Good, empty, empty_in, in_profile};
+    ghost use Rattle.doc_changes.specs.State.{Good, empty, empty_in, in_profile};
     ghost use Rattle.doc_changes.specs.Step.{IsOwn, Refuses, Steps};
+    ghost use Rattle.doc_changes.specs.Within.{AreWithin};
 
     /// A machine with no documents, and no changes yet, in profile 2.
     pub fn new(alloc: Global) -> Machine
@@ -80,9 +81,10 @@ impl Machine {
         }
     }
 
-    /// Has the schemas of changes read in that profile from now on, of which each document's schema must be one.
+    /// Has the schemas of changes read in that profile from now on. Each document's schema must be one of it, and there
+    /// may be no more documents than it allows.
     pub fn set_profile(&mut self, profile: Profile)
-        requires { AreOffered profile self.old.documents }
+        requires { AreWithin profile self.old.documents }
         ensures set { self.new ≡ in_profile profile self.old }
         ensures good { Good self.new }
     {

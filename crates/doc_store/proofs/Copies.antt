@@ -1,60 +1,72 @@
 -- What formatting with a snapshot makes of a device.
-use Rattle.std.proofs.Common.{◌≡◌, inl, inr, ⊎_elim, ℕ, List, length, refl, ap, subst, ◌∙◌}
+use Rattle.std.proofs.Common.{◌≡◌, inl, inr, ⊎_elim, ℕ, List, Bool, length, refl, ap, subst, ◌∙◌}
 use Rattle.sector_device.specs.Disk.{Disk, Image, LeavesOnly}
 use Rattle.sector_device.proofs.Moments.{leaves_weaker}
 use Rattle.half_journal.specs.States.{one_more}
 use Rattle.store_journal.specs.Carries.{Carried, Carries}
 use Rattle.store_journal.specs.Filling.{Filled, NoneOrAll, filled}
+use Rattle.store_journal.specs.Models.{model}
 use Rattle.store_journal.proofs.Unique.{carries_one}
-use Rattle.schema_rules.specs.declared.profile.Profile.TheVariants.{Two}
-use Rattle.doc_changes.specs.State.{AreOffered, Good, State, in_profile}
+use Rattle.schema_rules.specs.declared.profile.Profile.{Profile}
+use Rattle.doc_changes.specs.State.{Good, State, in_profile}
+use Rattle.doc_changes.specs.Within.{AreWithin}
 use Rattle.doc_changes.proofs.Framed.{framed_storable}
 use Rattle.store_commits.specs.Account.{Account}
+use Rattle.store_commits.specs.Images.{profile_in}
 use Rattle.store_commits.specs.Snapshot.{snapshot_bytes}
 use Rattle.store_commits.proofs.Migrating.{snapshot_holds}
 use Rattle.store_commits.proofs.Snapshots.{remakes_all}
 use Rattle.doc_store.specs.Opening.{IsCopied, IsCopyOf, copied_of, IsOpenedFrom}
-use Rattle.doc_store.specs.Formats.{status_of}
+use Rattle.doc_store.specs.Formats.{rides_in, status_of}
+use Rattle.doc_store.specs.declared.format.Format.{Format}
 use Rattle.doc_store.specs.declared.status.Status.{Status}
 use Rattle.doc_store.proofs.Opened.{one_state}
 
--- a state whose schemas are of profile 2 is good in it
-pub good_in_2 : (s : State) → Good s → AreOffered Two s.documents → Good (in_profile Two s)
-good_in_2 s g offered = record { distinct = g.distinct; storable = g.storable; offered = offered; few = g.few; counted = g.counted; revised = g.revised }
+-- a state whose documents may be in a profile is good in it
+pub good_in : (profile : Profile) (s : State) → Good s → AreWithin profile s.documents → Good (in_profile profile s)
+good_in profile s g within = record { distinct = g.distinct; storable = g.storable; offered = within.offered; few = within.few; counted = g.counted; revised = g.revised }
 
-module _ (a : Account) (good : Good a.state) (offered : AreOffered Two a.state.documents) where
-  abbrev in_2 : State
-  in_2 = in_profile Two a.state
+module _ (format : Format) (a : Account) (good : Good a.state) (within : AreWithin (profile_in (rides_in format)) a.state.documents) where
+  abbrev S : State
+  S = in_profile (profile_in (rides_in format)) a.state
 
-  copy_of : (image : Image) → Carries (copied_of a) image → IsCopyOf a image
+  abbrev R : Bool
+  R = rides_in format
+
+  copy_of : (image : Image) → Carries (copied_of format a) image → IsCopyOf format a image
   copy_of image carries = record {
     stands = record {
-      carried = copied_of a;
+      carried = copied_of format a;
       carries = carries;
       seq_is = refl;
       profile_is = refl;
-      holds = snapshot_holds in_2 a.state.seq refl (remakes_all framed_storable in_2 (good_in_2 a.state good offered));
+      holds = snapshot_holds S a.state.seq refl (remakes_all framed_storable S (good_in (profile_in (rides_in format)) a.state good within));
     };
     carried_is = refl;
   }
 
   -- with the bytes of its snapshot, and its numbers as it tells them
-  module _ (bytes : List ℕ) (status : Status) (bytes_are : bytes ≡ snapshot_bytes a.state.documents) (status_is : status ≡ status_of a) (old new : Disk) where
-    carried_is : filled bytes status.seq status.opens ≡ copied_of a
-    carried_is = λ i. filled (bytes_are i) (status_is i).seq (status_is i).opens
+  module _ (bytes : List ℕ) (status : Status) (rides : Bool) (bytes_are : bytes ≡ snapshot_bytes a.state.documents) (status_is : status ≡ status_of a) (rides_is : rides ≡ rides_in format) (old new : Disk) where
+    carried_is : filled rides bytes status.seq status.opens ≡ copied_of format a
+    carried_is = λ i. filled (rides_is i) (bytes_are i) (status_is i).seq (status_is i).opens
 
-    pub copied : (used : ℕ) → used ≡ length bytes → Filled old new (filled bytes status.seq status.opens) → IsCopied old new a used
+    pub copied : (used : ℕ) → used ≡ length bytes → Filled old new (filled rides bytes status.seq status.opens) → IsCopied format old new a used
     copied used is all =
         let whole = subst (Filled old new) carried_is all in
         record { filled_so = whole; used_is = is ∙ ap length bytes_are; copies = λ honest image left. copy_of image (whole.carries honest image left) }
 
-    pub none_or_copy : LeavesOnly old new (NoneOrAll old (Carries (filled bytes status.seq status.opens))) → LeavesOnly old new (NoneOrAll old (IsCopyOf a))
+    pub none_or_copy : LeavesOnly (model rides old) (model rides new) (NoneOrAll rides old (Carries (filled rides bytes status.seq status.opens))) → LeavesOnly (model R old) (model R new) (NoneOrAll R old (IsCopyOf format a))
     none_or_copy leaves =
-        leaves_weaker old new (NoneOrAll old (Carries (copied_of a))) (NoneOrAll old (IsCopyOf a))
+        leaves_weaker (model R old) (model R new) (NoneOrAll R old (Carries (copied_of format a))) (NoneOrAll R old (IsCopyOf format a))
         (λ image. ⊎_elim inl (λ h. inr (h.0, ⊎_elim inl (λ carries. inr (copy_of image carries)) h.1)))
-        (subst (λ (c : Carried). LeavesOnly old new (NoneOrAll old (Carries c))) carried_is leaves)
+        (subst (λ (c : Carried). LeavesOnly (model R old) (model R new) (NoneOrAll R old (Carries c))) carried_is
+        (subst (λ (b : Bool). LeavesOnly (model b old) (model b new) (NoneOrAll b old (Carries (filled rides bytes status.seq status.opens)))) rides_is leaves))
 
-pub opens_alike : (a opened : Account) (image : Image) → IsCopyOf a image → IsOpenedFrom image opened → (opened.state ≡ in_profile Two a.state) × (opened.opens ≡ one_more a.opens)
-opens_alike a opened image copy from =
-    let same : from.stands.carried ≡ copied_of a = carries_one image from.stands.carried (copied_of a) from.stands.carries (subst (λ (c : Carried). Carries c image) copy.carried_is copy.stands.carries) in
-    (one_state image opened.state (in_profile Two a.state) from.stands copy.stands, from.opened_as.opens_is ∙ ap (λ (c : Carried). one_more c.opens) same)
+pub opens_alike : (format : Format) (a opened : Account) (image : Image) → IsCopyOf format a image → IsOpenedFrom image opened
+    → (opened.state ≡ in_profile (profile_in (rides_in format)) a.state) × (opened.rides ≡ rides_in format) × (opened.opens ≡ one_more a.opens)
+opens_alike format a opened image copy from =
+    let same : from.stands.carried ≡ copied_of format a = carries_one image from.stands.carried (copied_of format a) from.stands.carries (subst (λ (c : Carried). Carries c image) copy.carried_is copy.stands.carries) in (
+      one_state image opened.state (in_profile (profile_in (rides_in format)) a.state) from.stands copy.stands,
+      from.opened_as.rides_is ∙ ap (λ (c : Carried). c.rides) same,
+      from.opened_as.opens_is ∙ ap (λ (c : Carried). one_more c.opens) same,
+    )

@@ -10,10 +10,12 @@ use Rattle.store_journal.specs.Carries.{Carried, Carries, EitherCarried, switche
 use Rattle.store_journal.specs.JournalView.{JournalView, IsKept, carried_of}
 use Rattle.store_journal.specs.Models.{model}
 use Rattle.store_journal.specs.Turning.{Downgraded, Halted, Unwritten, Upgraded}
+use Rattle.schema_rules.specs.declared.profile.Profile.{Profile}
 use Rattle.schema_rules.specs.declared.profile.Profile.TheVariants as profile
 use Rattle.doc_changes.proofs.Framed.{framed_storable}
 use Rattle.doc_changes.specs.Refusals.{plain}
-use Rattle.doc_changes.specs.State.{AreOffered, Good, State, in_profile}
+use Rattle.doc_changes.specs.State.{Document, Good, State, in_profile}
+use Rattle.doc_changes.specs.Within.{AreWithin}
 use Rattle.doc_changes.specs.declared.refusal.Refusal.{Refusal}
 use Rattle.refusals.specs.declared.numbers.TheConstants.{DEVICE, MEMORY, SEQ_END}
 use Rattle.store_commits.specs.Account.{Account, Copy, account_broken, with_copy}
@@ -23,7 +25,7 @@ use Rattle.store_commits.specs.Snapshot.{account_with_snapshot, calls_of_snapsho
 use Rattle.store_commits.proofs.Migrating.{snapshot_holds}
 use Rattle.store_commits.proofs.Raised.{ChangesStay, holds_raised}
 use Rattle.store_commits.proofs.Snapshots.{remakes_all}
-use Rattle.doc_store.proofs.Copies.{good_in_2}
+use Rattle.doc_store.proofs.Copies.{good_in}
 use Rattle.doc_store.specs.Formats.{FormatAnswers, InEither, IsImageOf, OneOf, OneOfThree, StaysAs, account_between, account_in, account_over, account_ready, account_turned, calls_between, calls_to, calls_to_ready, format_of, half_from, number_of, rides_in}
 use Rattle.doc_store.specs.declared.format.Format.{Format}
 use Rattle.doc_store.specs.declared.format.Format.TheVariants.{Three, Two}
@@ -92,6 +94,10 @@ over_down disk before now target kept same is = record {
   settled = is.settled;
 }
 
+-- what a state in some profile may hold, one in profile 3 may
+abbrev pub DocumentsStay : Type 0
+DocumentsStay = (from : Profile) (ds : List Document) → AreWithin from ds → AreWithin profile.Three ds
+
 -- ready, by whether it is in that half
 abbrev pub ready_by : Bool → Account → Account
 ready_by b a = if b then record a { copy = None } else account_with_snapshot a
@@ -145,8 +151,11 @@ module _ {D : Type 0} (disk : D → Disk) (before : JournalView D) (state : Stat
   pub holds_up : ChangesStay → Holds (profile_in true) 2 state.seq target state.documents
   holds_up stay = holds_raised stay state.profile 2 state.seq target state.documents holds_here
 
-  pub holds_down : AreOffered profile.Two state.documents → Holds (profile_in false) 2 state.seq target state.documents
-  holds_down offered = let lowered = in_profile profile.Two state in snapshot_holds lowered state.seq refl (remakes_all framed_storable lowered (good_in_2 state held.good offered))
+  pub within_up : DocumentsStay → AreWithin profile.Three state.documents
+  within_up stay = stay state.profile state.documents (record { few = held.good.few; offered = held.good.offered })
+
+  pub holds_down : AreWithin profile.Two state.documents → Holds (profile_in false) 2 state.seq target state.documents
+  holds_down within = let lowered = in_profile profile.Two state in snapshot_holds lowered state.seq refl (remakes_all framed_storable lowered (good_in profile.Two state held.good within))
 
   module _ (rides : Bool) (holds : Holds (profile_in rides) 2 state.seq target state.documents) where
     either_over : (disk before.device).honest → (image : Image) → EitherCarried (carried_of before) (turned rides (carried_of before) target) image → OneOf account (account_over rides account) image

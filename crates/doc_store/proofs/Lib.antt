@@ -7,7 +7,9 @@ pub mod Opened
 pub mod Promised
 mod Pumps
 mod Rides
+mod Seals
 mod Single
+pub mod Strict
 pub mod Telling
 mod Timing
 mod Unlived

@@ -1,9 +1,9 @@
 -- Runs and lives keep the promise.
-use Rattle.std.proofs.Common.{◌≡◌, ◌≤◌, List, [], ◌∷◌, ◌++◌, length, map, refl, sym, ◌∙◌, ap, subst, arith, Option, Some, None}
+use Rattle.std.proofs.Common.{◌≡◌, ◌≤◌, List, [], ◌∷◌, ◌++◌, length, length-take, map, take, drop, take-append-drop, refl, sym, ◌∙◌, ap, subst, arith, Bool, true, false, Option, Some, None}
 use Rattle.std.proofs.lemmas.List.{append_assoc, append-nil, length-append}
 use Rattle.std.proofs.Math.Seq.{take-append_seam}
-use Rattle.sector_device.specs.Disk.{Disk, Image}
-use Rattle.sector_device.proofs.Moments.{leaves_weaker}
+use Rattle.sector_device.specs.Disk.{Disk, Image, LeavesOnly}
+use Rattle.sector_device.proofs.Moments.{joined, leaves_weaker}
 use Rattle.store_journal.specs.Models.{model}
 use Rattle.doc_changes.specs.State.{State}
 use Rattle.doc_machine.specs.Transaction.{Transaction}
@@ -11,7 +11,7 @@ use Rattle.store_commits.specs.Images.{Stands}
 use Rattle.store_commits.specs.Account.{Account, StoreView}
 use Rattle.store_commits.specs.Batch.{Commit}
 use Rattle.store_commits.specs.Folds.{after_each, StandsAfter}
-use Rattle.store_commits.specs.Run.{Event, IsRun, Ran, dones_of, hits_of}
+use Rattle.store_commits.specs.Run.{Event, IsRun, Lasts, Ran, dones_of, hits_of}
 use Rattle.store_commits.specs.declared.event.Reply.{Reply}
 use Rattle.doc_store.specs.Lives.{IsLife, IsLives, IsOpened, events_of, replies_of}
 use Rattle.doc_store.specs.Promise.{Ledger, begun, state_of, Happening, accepts, answers, crashes, Crashed, History, happened, all_happened, LivesKeep, IsLeftOf, KeepsPromise}
@@ -62,6 +62,10 @@ left_of l kept lost image parts least stands =
     (record l { counted = kept; lasting = length kept }, record { kept = kept; lost = lost; parts = parts; all_lasting = least; left = refl }, stands)
 
 -- a call that made a run keeps the promise
+-- of which nothing has to last
+none_lasts : (l : Ledger) (image : Image) → IsLeftOf l image → IsLeftOf (record l { lasting = 0 }) image
+none_lasts l image is = left_of (record l { lasting = 0 }) is.1.kept is.1.lost image is.1.parts (omega arith) (subst (λ (m : Ledger). Stands (state_of m) image) is.1.left is.2)
+
 pub run_keeps : {D : Type 0} (disk : D → Disk) (x y : StoreView D) (es : List Event) (rs : List Reply) → Ran disk x y es rs → KeepsPromise disk x y (dones_of es rs) (hits_of es rs)
 run_keeps disk x y es rs ran =
     let s = x.account.state in
@@ -82,6 +86,66 @@ run_keeps disk x y es rs ran =
           (subst (λ (t : State). Stands t image) (ap (λ (t : State). after_each t stands.kept) lasts.state_is ∙ sym (after_append s ds stands.kept)) stands.stands)
           );
     }
+
+-- ---- promises that go on
+
+-- what lasts is among what counts
+accepts_within : (l m : Ledger) (ts : List Transaction) → History l (map accepts ts) m → l.lasting ≤ length l.counted → m.lasting ≤ length m.counted
+accepts_within l m [] is within = subst (λ (x : Ledger). x.lasting ≤ length x.counted) (sym is) within
+accepts_within l m (t ∷ ts) is within = accepts_within is.0 m ts is.2
+    (subst (λ (x : Ledger). x.lasting ≤ length x.counted) (sym is.1.1) (let more = length-append l.counted (t ∷ []) in omega (arith, more, within)))
+
+told_within : (l m : Ledger) (ds hs : List Transaction) → History l (map accepts ds ++ answers ∷ map accepts hs) m → m.lasting ≤ length m.counted
+told_within l m [] hs is = accepts_within is.0 m hs is.2 (subst (λ (x : Ledger). x.lasting ≤ length x.counted) (sym is.1) (omega arith))
+told_within l m (d ∷ ds) hs is = told_within is.0 m ds hs is.2
+
+none_first : {X : Type 0} (xs ys : List X) → xs ++ ys ≡ [] → xs ≡ []
+none_first [] ys none = refl
+none_first (x ∷ xs) ys none = absurd (cc none)
+
+-- of a run that accepts nothing, the state
+stands_last : (l : Ledger) (s : State) (image : Image) → s ≡ after_each l.begins (take l.lasting l.counted) → l.lasting ≤ length l.counted → StandsAfter s [] image → IsLeftOf l image
+stands_last l s image is within stands =
+    let none = none_first stands.kept stands.rest stands.parts in
+    let state : after_each s stands.kept ≡ after_each l.begins (take l.lasting l.counted) = ap (after_each s) none ∙ is in
+    let count = length-take l.lasting l.counted in
+    left_of l (take l.lasting l.counted) (drop l.lasting l.counted) image (take-append-drop l.lasting l.counted) (omega (arith, count, within)) (subst (λ (t : State). Stands t image) state stands.stands)
+
+-- a run that accepts nothing keeps what was promised before it
+module _ {D : Type 0} (disk : D → Disk) (x y z : StoreView D) (done hit : List Transaction) (kept : KeepsPromise disk x y done hit) (honest_on : (disk x.device).honest → (disk y.device).honest) (rides_is : y.account.rides ≡ x.account.rides)
+    (lasts : Lasts disk y z [] []) where
+  abbrev rides : Bool
+  rides = x.account.rides
+
+  abbrev unlasting : Ledger
+  unlasting = record kept.ledger { lasting = 0 }
+
+  within : kept.ledger.lasting ≤ length kept.ledger.counted
+  within = told_within (begun x.account.state) kept.ledger done hit kept.history
+
+  moments_by : (b : Bool) → y.account.broken ≡ b → (disk x.device).honest → x.account.broken ≡ false → LeavesOnly (model rides (disk x.device)) (model rides (disk z.device)) (IsLeftOf unlasting)
+  moments_by true broken honest works =
+      subst (λ (v : StoreView D). LeavesOnly (model rides (disk x.device)) (model rides (disk v.device)) (IsLeftOf unlasting)) (sym (lasts.still broken).0) (kept.any_moment honest works)
+  moments_by false working honest works =
+      joined (model rides (disk x.device)) (model rides (disk y.device)) (model rides (disk z.device)) (IsLeftOf unlasting) (kept.any_moment honest works)
+      (leaves_weaker (model rides (disk y.device)) (model rides (disk z.device)) (StandsAfter y.account.state []) (IsLeftOf unlasting)
+      (λ image stands. none_lasts kept.ledger image (stands_last kept.ledger y.account.state image kept.state within stands))
+      (subst (λ (r : Bool). LeavesOnly (model r (disk y.device)) (model r (disk z.device)) (StandsAfter y.account.state [])) rides_is (lasts.any_moment (honest_on honest) working)))
+
+  end_by : (b : Bool) → y.account.broken ≡ b → (disk x.device).honest → x.account.broken ≡ false → (image : Image) → (model rides (disk z.device)).left image → IsLeftOf kept.ledger image
+  end_by true broken honest works image left = kept.at_end honest works image (subst (λ (v : StoreView D). (model rides (disk v.device)).left image) (lasts.still broken).0 left)
+  end_by false working honest works image left =
+      stands_last kept.ledger z.account.state image (lasts.state_is ∙ kept.state) within
+      (lasts.at_end (honest_on honest) working image (subst (λ (r : Bool). (model r (disk z.device)).left image) (sym rides_is) left))
+
+  pub promise_goes_on : KeepsPromise disk x z done hit
+  promise_goes_on = record {
+    ledger = kept.ledger;
+    history = kept.history;
+    state = lasts.state_is ∙ kept.state;
+    any_moment = moments_by y.account.broken refl;
+    at_end = end_by y.account.broken refl;
+  }
 
 -- ---- lives
 

@@ -9,6 +9,7 @@ use Rattle.store_journal.specs.Calls.{BeginsWith, Broke}
 use Rattle.store_journal.specs.Carries.{EitherCarried, switched, Carries}
 use Rattle.store_journal.specs.Layout.{capacity_of}
 use Rattle.store_journal.specs.Models.{model}
+use Rattle.store_journal.specs.Sealing.{seal_calls}
 use Rattle.slot_commits.specs.Loads.{number_end}
 use Rattle.store_journal.specs.JournalView.{JournalView, IsKept, carried_of}
 use Rattle.doc_changes.proofs.Framed.{framed_storable}
@@ -21,6 +22,7 @@ use Rattle.store_commits.specs.Copying.{IsBegun, IsCopied, IsCopying, Target, co
 use Rattle.store_commits.specs.Inside.{IsHeld, IsStored, account_of}
 use Rattle.store_commits.specs.Images.{Holds, profile_in}
 use Rattle.store_commits.specs.Run.{to_step}
+use Rattle.store_commits.specs.Sealing.{to_seal}
 use Rattle.store_commits.specs.Snapshot.{RemakesAll, snapshot_bytes, account_with_snapshot}
 use Rattle.store_commits.specs.Folds.{StandsAfter}
 use Rattle.store_commits.specs.declared.pump.Pump.{Pump}
@@ -196,6 +198,16 @@ module _ {D : Type 0} (disk : D → Disk) (coherent : AreCoherent disk) (before 
     failed = was.1.failed;
     leaves = λ honest image left. ⊎_elim (λ old. inl (broken_leaves _ was.1 image old)) (λ new. inr new)
         (switched_as disk coherent before now state held same kept was.1.stays.sectors bytes (snapshot_holds state state.seq refl remakes) leaves honest image (left_before was.1.stays.rides image left));
+  }
+
+  pub seal_failed : Broke (disk before.device) (disk now.device) (seal_calls before.rides (length before.bytes)) before now
+      → ((disk before.device).honest → LeavesOnly (model before.rides (disk before.device)) (model before.rides (disk now.device)) (Carries (carried_of before)))
+      → FailedCommit disk before.device now.device (to_seal a) (with_copy (account_of now state) None)
+  seal_failed broke leaves = record {
+    failed = broke.failed;
+    leaves = λ honest image there. (let left = left_before broke.stays.rides image there in
+        inl (broken_leaves _ broke image (as_it_was (disk before.device) before state held image (counted disk coherent before now state held same kept broke.stays.sectors honest image left) (same.1 honest)
+        (left_now (model before.rides (disk before.device)) (model before.rides (disk now.device)) (Carries (carried_of before)) (coherent before.rides now.device honest) (leaves (same.1 honest)) image left))));
   }
 
   pub step_failed : (most : ℕ) (t : Target) → Broke (disk before.device) (disk now.device) (calls_of_step before.rides (count_of t) most) before now → Holds state.profile 2 state.seq t.bytes state.documents → copy_at a ≡ count_of t

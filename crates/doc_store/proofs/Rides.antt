@@ -12,13 +12,15 @@ use Rattle.doc_machine.specs.Transaction.{Transaction, changes_of, after_in}
 use Rattle.doc_changes.specs.declared.refusal.Refusal.{Refusal}
 use Rattle.doc_changes.specs.State.{State}
 use Rattle.store_commits.specs.Account.{Account, account_broken}
-use Rattle.store_commits.specs.Batch.{Commit, Intent, IsBatch, Slot, account_behind, account_committed, behind_in_doubt, commit_for, commit_in_doubt, commit_made, failed, is_full, no_more, passed, room_in_doubt, room_made, said, stays_broken, to_append, to_snapshot, waiting, waits}
+use Rattle.store_commits.specs.Batch.{Commit, Intent, IsBatch, Slot, account_behind, account_committed, as_snapshot, as_snapshot_in_doubt, behind_in_doubt, commit_for, commit_in_doubt, commit_made, failed, is_full, no_more, passed, room_in_doubt, room_made, said, stays_broken, to_append, to_snapshot, waiting, waits}
 use Rattle.store_commits.specs.Copying.{IsPumped, PumpAnswers}
 use Rattle.store_commits.specs.Events.{Event}
 use Rattle.store_commits.specs.Folds.{after_each}
 use Rattle.store_commits.specs.Images.{Stands, profile_in, rides_for}
-use Rattle.store_commits.specs.Run.{IsDone, IsRun, a_batch, a_snapshot, a_step, commits_of, no_memory, nothing, one_more, to_step}
-use Rattle.store_commits.specs.Snapshot.{SnapshotAnswers}
+use Rattle.store_commits.specs.Replacing.{account_after}
+use Rattle.store_commits.specs.Run.{IsDone, IsRun, a_batch, a_seal, a_snapshot, a_step, commits_of, no_memory, nothing, one_more, to_step}
+use Rattle.store_commits.specs.Sealing.{SealAnswers, to_seal}
+use Rattle.store_commits.specs.Snapshot.{SnapshotAnswers, account_with_snapshot}
 use Rattle.store_commits.specs.declared.event.Reply.{Reply}
 use Rattle.store_commits.specs.declared.pump.Pump.{Pump}
 use Rattle.store_commits.proofs.Changes.{profile_all}
@@ -68,6 +70,8 @@ batch_rides _ _ _ _ _ (behind_in_doubt a b d t ts rs more goes hit rest) =
     let all = then_stays a b d more same (batch_rides b d ts rs more rest) in
     (all.0, (same, all.1))
 batch_rides _ _ _ _ _ (room_in_doubt a d t ts rs more goes rest) = let all = batch_rides (account_broken a) d ts rs more rest in (all.0, (refl, all.1))
+batch_rides _ _ _ _ _ (as_snapshot a d t ts rs more goes rest) = batch_rides (account_with_snapshot (account_after a t)) d ts rs more rest
+batch_rides _ _ _ _ _ (as_snapshot_in_doubt a d t ts rs more goes rest) = let all = batch_rides (account_broken a) d ts rs more rest in (all.0, (refl, all.1))
 batch_rides _ _ _ _ _ (is_full a d t ts rs more works accepted none rest) = batch_rides a d ts rs more rest
 batch_rides _ _ _ _ _ (stays_broken a d t ts rs more broken rest) = batch_rides a d ts rs more rest
 
@@ -90,10 +94,15 @@ step_rides : (a b : Account) (most : ℕ) (r : Result Pump Refusal) → PumpAnsw
 step_rides a b most (Ok p) is = pumped_rides a b most p is
 step_rides a b most (Err r) is = ⊎_elim (λ hit. ap (λ (x : Account). x.rides) hit.1.new_is) (λ stops. ap (λ (x : Account). x.rides) stops.1) is
 
+seal_rides : (a b : Account) (r : Result (Unit {0}) Refusal) → SealAnswers a r b → b.rides ≡ a.rides
+seal_rides a b (Ok done) is = ap (λ (x : Account). x.rides) is.new_is
+seal_rides a b (Err r) is = ⊎_elim (λ hit. ap (λ (x : Account). x.rides) hit.1.new_is) (λ stops. ap (λ (x : Account). x.rides) stops.1) is
+
 done_rides : (a b : Account) (es : List Event) (rs : List Reply) (ks : List Commit) → IsDone a es rs ks b → Stays a b ks
 done_rides _ _ _ _ _ (a_batch a b ts rs ks is) = batch_rides a b ts rs ks is
 done_rides _ _ _ _ _ (a_snapshot a b r is) = let same = snapshot_rides a b r is in (same, of_commits a.rides r (to_snapshot a) b same)
 done_rides _ _ _ _ _ (a_step a b most r is) = let same = step_rides a b most r is in (same, of_commits a.rides r (to_step a most) b same)
+done_rides _ _ _ _ _ (a_seal a b r is) = let same = seal_rides a b r is in (same, of_commits a.rides r (to_seal a) b same)
 done_rides _ _ _ _ _ (no_memory a t) = (refl, tt)
 
 pub run_rides : (a b : Account) (es : List Event) (rs : List Reply) (ks : List Commit) → IsRun a es rs ks b → (b.rides ≡ a.rides) × AreOf a.rides ks

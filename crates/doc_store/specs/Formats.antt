@@ -6,9 +6,10 @@ use Rattle.doc_store.specs.declared.status.Status.{Status}
 use Rattle.sector_device.specs.Disk.{Image}
 use Rattle.schema_rules.specs.declared.profile.Profile.TheVariants as profile
 use Rattle.doc_changes.specs.Refusals.{plain}
-use Rattle.doc_changes.specs.State.{AreOffered, in_profile}
+use Rattle.doc_changes.specs.State.{in_profile}
+use Rattle.doc_changes.specs.Within.{AreBeyond, AreWithin}
 use Rattle.doc_changes.specs.declared.refusal.Refusal.{Refusal}
-use Rattle.refusals.specs.declared.numbers.TheConstants.{BROKEN, DEVICE, MEMORY, NEWER_SCHEMA, NO_ROOM, SEQ_END}
+use Rattle.refusals.specs.declared.numbers.TheConstants.{BROKEN, DEVICE, MEMORY, NO_ROOM, SEQ_END}
 use Rattle.store_commits.specs.Images.{Stands, profile_in}
 use Rattle.store_commits.specs.Snapshot.{account_with_snapshot, calls_of_snapshot, snapshot_size}
 use Rattle.doc_store.specs.declared.format.Format.{Format}
@@ -91,12 +92,12 @@ pub record HasWay (a : Account) : Type 0 where
   pub fits_slots : snapshot_size a ≤ capacity_of true a.sectors
   pub between : FitsBetween a.sectors (used_between a)
 
--- Why a working store stays in its format, and nothing is written: on the way to format 2 a document's schema has a fault in
--- that profile; or else there is no room for the way; or memory was refused, or no number of a commit is left.
+-- Why a working store stays in its format, and nothing is written: on the way to format 2 there are too many documents for
+-- that profile, or a schema has a fault in it; or else there is no room for the way; or memory was refused, or no number of a commit is left.
 abbrev pub StaysAs : Format → Account → Refusal → Type 0
 StaysAs format a r =
-    ((r ≡ plain NEWER_SCHEMA) × (format ≡ Two) × (AreOffered profile.Two a.state.documents → ⊥))
-    ⊎ ((r ≡ plain NO_ROOM) × (format ≡ Two → AreOffered profile.Two a.state.documents) × (HasWay a → ⊥))
+    ((format ≡ Two) × AreBeyond profile.Two a.state.documents r)
+    ⊎ ((r ≡ plain NO_ROOM) × (format ≡ Two → AreWithin profile.Two a.state.documents) × (HasWay a → ⊥))
     ⊎ (r ≡ plain MEMORY) ⊎ (r ≡ plain SEQ_END)
 
 -- The answer: the store works, and is in that format now. Or a fault of the device hit it on its way to another format: it is broken, no copy runs, and

@@ -5,4 +5,5 @@ pub mod Formats
 pub mod Found
 pub mod Lives
 pub mod Promise
+pub mod Strict
 pub mod Timed

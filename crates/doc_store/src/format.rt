@@ -10,9 +10,10 @@ ghost use Rattle.store_journal.specs.Models.{model};
 ghost use Rattle.store_journal.specs.Turning.{Downgraded, Halted, Unwritten, Upgraded};
 ghost use Rattle.store_journal.specs.Writes.{downgrade_calls, upgrade_calls};
 ghost use Rattle.schema_rules.specs.declared.profile.Profile.TheVariants.{Two};
-ghost use Rattle.doc_changes.specs.State.{AreOffered, Good};
+ghost use Rattle.doc_changes.specs.State.{Good};
+ghost use Rattle.doc_changes.specs.Within.{AreBeyond, AreWithin};
 ghost use Rattle.doc_changes.specs.Refusals.{plain};
-ghost use Rattle.refusals.specs.declared.numbers.TheConstants.{DEVICE, MEMORY, NEWER_SCHEMA, SEQ_END};
+ghost use Rattle.refusals.specs.declared.numbers.TheConstants.{DEVICE, MEMORY, SEQ_END};
 ghost use Rattle.store_commits.specs.Account.{IsStanding, account_broken};
 ghost use Rattle.store_commits.specs.Snapshot.{snapshot_bytes, snapshot_size};
 ghost use Rattle.doc_store.specs.Formats.{FormatAnswers, HasWay, InEither, IsImageOf, OneOf, OneOfThree, StaysAs, account_over, account_ready, account_turned, calls_to, calls_to_ready, format_of, half_from, number_of, rides_in};
@@ -48,8 +49,8 @@ impl Format {
         }
     }
 
-    // Whether the last bytes ride in slots.
-    fn rides(self) -> bool
+    /// Whether the last bytes ride in slots: in format 3.
+    pub fn rides(self) -> bool
         ensures { result ≡ rides_in self }
     {
         match self {
@@ -78,8 +79,8 @@ impl<D: SectorDevice> Store<D> {
     /// snapshot first, and a snapshot is what it has then; a copy that runs is dropped. To format 3 each schema stays,
     /// since profile 3 accepts those of profile 2.
     ///
-    /// `NEWER_SCHEMA` if a document's schema isn't one of profile 2, to format 2; else `NO_ROOM` if a half hasn't room for the
-    /// snapshot, or the device has none for both formats; `SEQ_END` if no number of a commit is left in format 3. `MEMORY`
+    /// To format 2, `TOO_MANY` if there are over 1,024 documents; else `NEWER_SCHEMA` if a document's schema isn't one of
+    /// profile 2. Then `NO_ROOM` if a half hasn't room for the snapshot, or the device has none for both formats; `SEQ_END` if no number of a commit is left in format 3. `MEMORY`
     /// may come in place of any. Nothing is written then, and nothing changes; but to format 3 `MEMORY` and `SEQ_END` may
     /// also come once the store is in half 1.
     ///
@@ -187,7 +188,7 @@ impl<D: SectorDevice> Store<D> {
     fn way_down(&self) -> Result<Vec<u8>, Refusal>
         requires three { self.now.account.rides ≡ true }
         ensures frames { IfOk result (λ frames. frames.items ≡ snapshot_bytes self.now.account.state.documents) }
-        ensures offered { OnOk result (AreOffered Two self.now.account.state.documents) }
+        ensures within { OnOk result (AreWithin Two self.now.account.state.documents) }
         ensures way { OnOk result (HasWay self.now.account) }
         ensures refused { IfErr result (StaysAs FormatTwo self.now.account) }
     {
@@ -277,7 +278,7 @@ impl<D: SectorDevice> Store<D> {
         requires three { self.old.account.rides ≡ true }
         requires half { self.old.account.half ≡ 0 }
         requires snapshot { snapshot.now ≡ snapshot_bytes self.old.account.state.documents }
-        requires offered { AreOffered Two self.old.account.state.documents }
+        requires within { AreWithin Two self.old.account.state.documents }
         requires between { FitsBetween self.old.account.sectors self.old.account.used }
         requires fits { length snapshot.now ≤ capacity_of false self.old.account.sectors }
         ensures ok { OnOk result (self.new.account ≡ account_over false self.old.account) }
@@ -297,11 +298,12 @@ impl<D: SectorDevice> Store<D> {
         Ok(())
     }
 
-    /// The bytes of the snapshot, if each schema is one of profile 2: `NEWER_SCHEMA` or `MEMORY`. It only reads.
+    /// The bytes of the snapshot, if a store in format 2 may hold the documents: else `TOO_MANY` or `NEWER_SCHEMA`, and
+    /// `MEMORY` may come in place of the latter. It only reads.
     pub(crate) fn snapshot_in_profile_2(&self) -> Result<Vec<u8>, Refusal>
         ensures frames { IfOk result (λ frames. frames.items ≡ snapshot_bytes self.now.account.state.documents) }
-        ensures offered { OnOk result (AreOffered Two self.now.account.state.documents) }
-        ensures refused { IfErr result (λ refusal. ((refusal ≡ plain NEWER_SCHEMA) × (AreOffered Two self.now.account.state.documents → ⊥)) ⊎ (refusal ≡ plain MEMORY)) }
+        ensures within { OnOk result (AreWithin Two self.now.account.state.documents) }
+        ensures refused { IfErr result (λ refusal. AreBeyond Two self.now.account.state.documents refusal ⊎ (refusal ≡ plain MEMORY)) }
         ensures standing { IsStanding (D.disk self.now.device) self.now.account }
         ensures good { Good self.now.account.state }
     {

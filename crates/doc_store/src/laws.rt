@@ -1,5 +1,9 @@
 //! Laws of the definitions. Each function does nothing: its contract is the law.
-ghost use Rattle.std.specs.Prelude.{List, [], ◌++◌};
+ghost use Rattle.std.specs.Prelude.{◌≡◌, ◌⊎◌, ℕ, List, [], ◌++◌};
+ghost use Rattle.sector_device.specs.Disk.{Image};
+ghost use Rattle.slot_commits.specs.declared.found.Notice.{Notice};
+ghost use Rattle.slot_commits.specs.declared.found.Notice.TheVariants.{CutOff};
+ghost use Rattle.store_journal.specs.Damages.{IsNoticedDamage, LostBothCopies, StandsRiding};
 ghost use Rattle.doc_changes.specs.State.{State, Good};
 ghost use Rattle.doc_store.specs.Promise.{KeepsPromise};
 ghost use Rattle.store_commits.specs.Account.{IsStanding, StoreView};
@@ -8,7 +12,8 @@ ghost use Rattle.store_commits.specs.Run.{Event, Ran};
 ghost use Rattle.store_commits.specs.declared.event.Reply.{Reply};
 ghost use Rattle.doc_store.specs.Opening.{CopiesOpenAlike};
 ghost use Rattle.store_commits.specs.Snapshot.{RemakesAll};
-ghost use Rattle.store_commits.specs.Images.{HoldsOne, StandsForOne};
+ghost use Rattle.store_commits.specs.Images.{HoldsOne, Stands, StandsForOne};
+ghost use Rattle.doc_store.specs.Strict.{IsSaidOf};
 
 use sector_device::SectorDevice;
 use store_commits::laws;
@@ -43,9 +48,17 @@ pub fn snapshots_remake_all()
 }
 
 /// A copy of a store, whenever it is opened, gives the same documents, with their schemas and revisions, in their order, and
-/// the same number of accepted changes; and it counts one opening more than the store had.
+/// the same number of accepted changes, in the format of the copy; and it counts one opening more than the store had.
 pub fn copies_open_alike()
     ensures { CopiesOpenAlike }
 {
     one_state_stands();
 }
+
+/// Damage at rest of a store in format 3: what is found then is the same state, unless both copies of the last commit are
+/// lost, and then it is said that a commit was cut off.
+pub fn damage_is_told()
+    ensures { (number blocks : ℕ) (state other : State) (notice : Notice) (before image : Image) (stands : Stands state before) → StandsRiding number blocks stands.carried before
+        → IsNoticedDamage blocks stands.carried before image → Stands other image → IsSaidOf image notice
+        → (other ≡ state) ⊎ ((notice ≡ CutOff) × LostBothCopies number blocks stands.carried image) }
+{}

@@ -1,7 +1,7 @@
 //! Named JSON documents on a device, kept over crashes.
 //!
-//! For every device that keeps to the disk model: while `execute`, `transact`, `transact_batch`, `snapshot`, `pump` or
-//! `run` goes on, each image that a crash may leave at any moment is that of the state after a prefix of the accepted
+//! For every device that keeps to the disk model: while `execute`, `transact`, `transact_batch`, `snapshot`, `pump`,
+//! `seal` or `run` goes on, each image that a crash may leave at any moment is that of the state after a prefix of the accepted
 //! transactions, each whole. Once the call has answered, it is that of the state after all that were done (`Run.antt`). Of
 //! every device: each commit makes its known number of calls, and a fault is answered, as `DEVICE`, only if one of them
 //! failed (`Batch.antt`).
@@ -25,10 +25,13 @@ mod kept;
 pub mod laws;
 mod life;
 mod living;
+mod looking;
+mod opening;
 mod progress;
 mod pumping;
 mod reading;
 mod run;
+mod sealing;
 mod settling;
 mod snapshot;
 mod status;
@@ -40,8 +43,10 @@ pub use doc_machine::{
 };
 pub use format::Format;
 pub use life::{Life, Part};
+pub use looking::{Looked, look};
+pub use opening::Strictness;
 pub use status::Status;
 pub use store::Store;
 pub use store_commits::{CopyState, Event, Pump, Reply};
-pub use store_journal::OpenFault;
+pub use store_journal::{Notice, OpenFault};
 pub use whole::LivesFault;

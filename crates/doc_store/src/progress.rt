@@ -6,6 +6,7 @@ ghost use Rattle.doc_changes.specs.State.{Good};
 ghost use Rattle.store_commits.specs.Run.{Ran, change};
 ghost use Rattle.store_commits.specs.Run.{snapshot as a_snapshot};
 ghost use Rattle.store_commits.specs.Run.{pump as a_pump};
+ghost use Rattle.store_commits.specs.Run.{seal as a_seal};
 ghost use Rattle.store_commits.specs.Run.{Event as RunEvent};
 ghost use Rattle.doc_store.specs.Lives.{TellsNothing};
 ghost use Rattle.doc_store.specs.Ending.{Grows, Told, HasPlaces};
@@ -85,6 +86,7 @@ impl Part {
             Event::Run(transaction) => self.change(alloc, store, transaction),
             Event::Snapshot => snapshot(store),
             Event::Pump(max) => pump(store, max),
+            Event::Seal => seal(store),
         }
     }
 
@@ -138,6 +140,17 @@ fn pump<D: SectorDevice>(store: &mut Store<D>, max: u64) -> Reply
 {
     match store.pump(max) {
         Ok(pump) => Reply::Pumped(pump),
+        Err(refusal) => Reply::Refused(refusal),
+    }
+}
+
+// Asks for a seal.
+fn seal<D: SectorDevice>(store: &mut Store<D>) -> Reply
+    ensures ran { Ran D.disk store.old store.new (a_seal ∷ []) (result ∷ []) }
+    ensures standing { IsStanding (D.disk store.new.device) store.new.account }
+{
+    match store.seal() {
+        Ok(()) => Reply::Sealed,
         Err(refusal) => Reply::Refused(refusal),
     }
 }

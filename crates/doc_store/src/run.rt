@@ -49,6 +49,10 @@ impl<D: SectorDevice> Store<D> {
                 Ok(pump) => Reply::Pumped(pump),
                 Err(refusal) => Reply::Refused(refusal),
             },
+            Event::Seal => match self.seal() {
+                Ok(()) => Reply::Sealed,
+                Err(refusal) => Reply::Refused(refusal),
+            },
         }
     }
 }

@@ -8,7 +8,7 @@ use Rattle.doc_tree.specs.declared.tree.Tree.{Tree}
 use Rattle.record_text.specs.Change.{Change, command_object, object_of}
 use Rattle.doc_machine.specs.Transaction.{several, single}
 use Rattle.protocol.specs.Read.{others_of, transaction_members, word_of}
-use Rattle.protocol.specs.Request.{IsObjectOf, Request, change, get, get_schema, list, objects_of, pump, query, rev, snapshot, status}
+use Rattle.protocol.specs.Request.{IsObjectOf, Request, change, get, get_schema, list, objects_of, pump, query, rev, seal, snapshot, status}
 
 -- documents behind documents
 abbrev behind : List Doc → Elements → Elements
@@ -69,6 +69,7 @@ only_several ms next none (query name path) is = not_alone ms next (word_of (que
 only_several ms next none list is = not_alone ms next (word_of list) (others_of list) is.0
 only_several ms next none status is = not_alone ms next (word_of status) (others_of status) is.0
 only_several ms next none snapshot is = not_alone ms next (word_of snapshot) (others_of snapshot) is.0
+only_several ms next none seal is = not_alone ms next (word_of seal) (others_of seal) is.0
 only_several ms next none (pump most) is = not_alone ms next (word_of (pump most)) (others_of (pump most)) is.0
 
 pub same_changes : (ds es : Elements) → transaction_members ds ≡ transaction_members es → ds ≡ es

@@ -10,7 +10,7 @@ use Rattle.doc_tree.specs.Doc.{object, member, no_members, text, int, boolean}
 use Rattle.store_commits.specs.declared.pump.Pump.{Pump}
 use Rattle.store_commits.specs.declared.pump.CopyState.{CopyState}
 use Rattle.store_commits.specs.declared.pump.CopyState.TheVariants.{Running, Switched, Dropped}
-use Rattle.protocol.specs.Reply.{change_reply, snapshot_reply, copy_word, pump_reply, revision_reply, refusal_reply, line_of, with_number}
+use Rattle.protocol.specs.Reply.{change_reply, snapshot_reply, copy_word, pump_reply, revision_reply, refusal_reply, sealed_reply, line_of, with_number}
 use Rattle.protocol.specs.Written.{number_text, opening}
 
 pub line_of-change_reply : (seq : ℕ) → line_of (change_reply seq) ≡ codes "{\"ok\":true,\"seq\":" ++ (decimal seq ++ codes "}\n")
@@ -20,6 +20,10 @@ line_of-change_reply seq = ap (λ t. codes "{\"ok\":true,\"seq\":" ++ t) (append
 pub line_of-snapshot_reply : (used : ℕ) → line_of (snapshot_reply used) ≡ codes "{\"ok\":true,\"used\":" ++ (decimal used ++ codes "}\n")
 unfolding escape_byte
 line_of-snapshot_reply used = ap (λ t. codes "{\"ok\":true,\"used\":" ++ t) (append_assoc (decimal used) (codes "}") (codes "\n"))
+
+pub line_of-sealed_reply : line_of sealed_reply ≡ codes "{\"ok\":true}\n"
+unfolding escape_byte
+line_of-sealed_reply = refl
 
 pub line_of-revision_reply : (revision : ℕ) → line_of (revision_reply revision) ≡ codes "{\"ok\":true,\"rev\":" ++ (decimal revision ++ codes "}\n")
 unfolding escape_byte

@@ -14,7 +14,7 @@ use Rattle.refusals.specs.declared.numbers.TheConstants.{MEMORY}
 use Rattle.protocol.specs.Request as asked
 use Rattle.protocol.specs.Request.{objects_of, Asks, IsInRange, IsNoRequest, IsObjectOf}
 use Rattle.protocol.specs.declared.request.Request.{Request}
-use Rattle.protocol.specs.declared.request.Request.TheVariants.{Change, Get, GetSchema, Rev, Query, List as ListNames, Status, Snapshot, Pump}
+use Rattle.protocol.specs.declared.request.Request.TheVariants.{Change, Get, GetSchema, Rev, Query, List as ListNames, Status, Snapshot, Pump, Seal}
 
 -- a request, without its place in memory
 abbrev pub asked_by : Request → asked.Request
@@ -27,6 +27,7 @@ asked_by ListNames = asked.list
 asked_by Status = asked.status
 asked_by Snapshot = asked.snapshot
 asked_by (Pump most) = asked.pump most
+asked_by Seal = asked.seal
 
 -- the request that the line asks for, or the number of why it is none, or that memory ran out
 abbrev pub ReadsRequest : List ℕ → Result Request Refusal → Type 0
@@ -55,6 +56,7 @@ word_of asked.list = codes "list"
 word_of asked.status = codes "status"
 word_of asked.snapshot = codes "snapshot"
 word_of (asked.pump most) = codes "pump"
+word_of asked.seal = codes "seal"
 
 -- the members of its object after `cmd`, in byte order of their names
 abbrev pub others_of : asked.Request → Members
@@ -68,6 +70,7 @@ others_of asked.list = no_members
 others_of asked.status = no_members
 others_of asked.snapshot = no_members
 others_of (asked.pump most) = member (codes "max") (int (pos most)) no_members
+others_of asked.seal = no_members
 
 -- the members of a transaction's object: the list of its changes' objects, and `cmd`
 abbrev pub transaction_members : Elements → Members

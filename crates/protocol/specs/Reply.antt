@@ -34,6 +34,10 @@ abbrev pub pump_reply : Pump → Doc
 pump_reply p =
     object (member (codes "copy") (text (copy_word p.copy)) (member (codes "ok") (boolean true) (member (codes "written") (int (pos p.written)) no_members)))
 
+-- a seal was made
+abbrev pub sealed_reply : Doc
+sealed_reply = object (member (codes "ok") (boolean true) no_members)
+
 -- the value that was asked for
 abbrev pub value_reply : Doc → Doc
 value_reply value = object (member (codes "ok") (boolean true) (member (codes "value") value no_members))

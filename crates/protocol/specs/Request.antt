@@ -9,7 +9,7 @@ use Rattle.doc_machine.specs.Transaction.{Transaction, several, single}
 use Rattle.refusals.specs.declared.numbers.TheConstants.{NOT_JSON, NUMBER, LINE_TOO_LONG, COMMAND}
 use Rattle.protocol.specs.declared.limits.TheConstants.{LINE_BYTES, PUMP_SECTORS}
 
--- a transaction; a snapshot, or a step of one that is copied, which change no document; or a question, which changes nothing: the value at a pointer's place, a schema, a revision, the nodes of a query, all names, the status
+-- a transaction; a snapshot, a step of one that is copied, or a seal, which change no document; or a question, which changes nothing: the value at a pointer's place, a schema, a revision, the nodes of a query, all names, the status
 pub data Request : Type 0 where
   change : Transaction → Request
   get : (name path : List ℕ) → Request
@@ -20,6 +20,7 @@ pub data Request : Type 0 where
   status : Request
   snapshot : Request
   pump : (most : ℕ) → Request
+  seal : Request
 
 -- the objects of changes, in their order
 abbrev pub objects_of : List Change → Elements
@@ -38,6 +39,7 @@ object_of list = command_object (codes "list") no_members
 object_of status = command_object (codes "status") no_members
 object_of snapshot = command_object (codes "snapshot") no_members
 object_of (pump most) = command_object (codes "pump") (member (codes "max") (int (pos most)) no_members)
+object_of seal = command_object (codes "seal") no_members
 
 -- its number, or the number of its changes, is one that may be asked for
 abbrev pub IsInRange : Request → Type 0

@@ -5,7 +5,7 @@
 //! over the limit it keeps that it is so.
 //!
 //! A reply is a document (`specs/Reply`), and its line that document's compact text with a line feed. The lines of
-//! changes, snapshots, steps of copies, revisions and refusals are written without memory, into room that was taken
+//! changes, snapshots, steps of copies, seals, revisions and refusals are written without memory, into room that was taken
 //! once; a reply that shows values lends them from the store. The reply to a query is written node after node. If its
 //! text would be over the limit, it is refused at the node that passes it.
 #![tactic(auto)]

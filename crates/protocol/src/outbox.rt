@@ -1,7 +1,7 @@
 //! Reply lines that wait to be written.
 ghost use Rattle.std.specs.Prelude.{◌≡◌, ◌≤◌, ◌+◌, ◌++◌, [], length, decimal, IsTrue, ◌↔◌, IfOk};
 ghost use Rattle.std.specs.Vec.{vec_len, vec_capacity};
-ghost use Rattle.protocol.specs.Reply.{change_reply, copy_word, line_of, pump_reply, refusal_reply, revision_reply, snapshot_reply};
+ghost use Rattle.protocol.specs.Reply.{change_reply, copy_word, line_of, pump_reply, refusal_reply, revision_reply, sealed_reply, snapshot_reply};
 ghost use Rattle.protocol.specs.Written.{number_text, opening};
 ghost use Rattle.protocol.specs.declared.outbox.TheConstants.{ROOM};
 
@@ -93,6 +93,14 @@ impl Outbox {
         self.put(b"\",\"ok\":true,\"written\":");
         self.put_number(pump.written);
         self.put(b"}\n");
+    }
+
+    /// The reply to a seal, without memory.
+    pub fn put_sealed(&mut self)
+        requires { vec_len self.old.bytes + SHORT_REPLY ≤ ROOM }
+        ensures { self.new.bytes.items ≡ self.old.bytes.items ++ line_of sealed_reply }
+    {
+        self.put(b"{\"ok\":true}\n");
     }
 
     /// The reply that shows a revision, without memory.

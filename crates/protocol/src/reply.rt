@@ -3,7 +3,7 @@
 use doc_machine::Refusal;
 use doc_store::Pump;
 
-/// The reply to a line. That of a change, a snapshot, a step of a copy, a revision or a refusal takes
+/// The reply to a line. That of a change, a snapshot, a step of a copy, a seal, a revision or a refusal takes
 /// no memory.
 #[derive(Drop)]
 pub enum Reply {
@@ -13,6 +13,8 @@ pub enum Reply {
     Snapshot(u64),
     /// A step of a copy was made, and this is what it did.
     Pumped(Pump),
+    /// A seal was made.
+    Sealed,
     /// The revision that was asked for.
     Revision(u64),
     /// It was refused, or asks for nothing.

@@ -36,6 +36,8 @@ pub enum Request {
     Snapshot,
     /// A step of a snapshot that is copied, of at most `max` sectors.
     Pump { max: u64 },
+    /// What was committed last, in all slots of a store in format 3.
+    Seal,
 }
 
 /// Reads a line that is within the limit.
@@ -92,6 +94,7 @@ fn alone(members: MemberCursor) -> Option<Request>
         "status" => status(others),
         "snapshot" => snapshot(others),
         "pump" => pump(others),
+        "seal" => seal(others),
         word => {
             let command = command_with(word, others)?;
             Some(Request::Change(Transaction::Single(command)))
@@ -220,4 +223,11 @@ fn pump(others: MemberCursor) -> Option<Request>
     } else {
         None
     }
+}
+
+fn seal(others: MemberCursor) -> Option<Request>
+    ensures { AsksWith (codes "seal") (ahead others) result }
+{
+    others.end()?;
+    Some(Request::Seal)
 }

@@ -30,6 +30,7 @@ impl ReplyRoom {
             Reply::Changed(seq) => self.short.put_change(*seq),
             Reply::Snapshot(used) => self.short.put_snapshot(*used),
             Reply::Pumped(pump) => self.short.put_pump(*pump),
+            Reply::Sealed => self.short.put_sealed(),
             Reply::Revision(revision) => self.short.put_revision(*revision),
             Reply::Refused(refusal) => self.short.put_refusal(*refusal),
             Reply::Line(line) => return line.as_slice(),

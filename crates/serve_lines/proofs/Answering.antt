@@ -25,7 +25,7 @@ use Rattle.store_commits.specs.Account.{Account}
 use Rattle.store_commits.specs.Run.{Event}
 use Rattle.store_commits.specs.declared.event.Reply.{Reply}
 use Rattle.protocol.specs.declared.limits.TheConstants.{REPLY_BYTES}
-use Rattle.protocol.specs.Request.{Request, Asks, IsAskedBy, IsInRange, change, get, get_schema, rev, query, list, status, snapshot, pump, object_of}
+use Rattle.protocol.specs.Request.{Request, Asks, IsAskedBy, IsInRange, change, get, get_schema, rev, query, list, status, snapshot, pump, seal, object_of}
 use Rattle.protocol.specs.Reply.{change_reply, names_reply, node_object, nodes_reply, refusal_reply, revision_reply, texts, told_by, value_reply, with_number}
 use Rattle.serve_lines.specs.Kept.{AsksFor, Has, HaveOwnNames, IsRefusal, LineTells, Refuses, Shows, Tells}
 use Rattle.serve_lines.specs.Session.{AnswersOther, Finds, Replies, Selects, found_reply, reply_to_rev, selected_reply}
@@ -213,6 +213,8 @@ request_tells old new snapshot events said reply (Ok used, answers, is, asked, t
 request_tells old new snapshot events said reply (Err r, answers, is, asked, told) = inr (is_refusal reply r is)
 request_tells old new (pump most) events said reply (Ok step, answers, is, asked, told) = inl (ap (resolve (codes "seq" ∷ [])) is)
 request_tells old new (pump most) events said reply (Err r, answers, is, asked, told) = inr (is_refusal reply r is)
+request_tells old new seal events said reply (Ok done, answers, is, asked, told) = inl (ap (resolve (codes "seq" ∷ [])) is)
+request_tells old new seal events said reply (Err r, answers, is, asked, told) = inr (is_refusal reply r is)
 request_tells old new (get name path) events said reply h = value_answered old.state name path reply h.0 h.1 h.2
 request_tells old new (get_schema name) events said reply h = schema_answered old.state name reply (document_at old.state name) refl h.0
 request_tells old new (rev name) events said reply h = revision_answered old.state name reply (document_at old.state name) refl h.0
@@ -246,6 +248,7 @@ not_shown : (s : State) (question : Request) (seq : ℕ) → Shows s question (c
 not_shown s (change t) seq shows = shows
 not_shown s snapshot seq shows = shows
 not_shown s (pump most) seq shows = shows
+not_shown s seal seq shows = shows
 not_shown s (get name path) seq shows = other_member seq (codes "value") (value_reply shows.4) shows.4 shows.6 refl refl
 not_shown s (get_schema name) seq shows = other_member seq (codes "value") (value_reply shows.0.schema) shows.0.schema shows.2 refl refl
 not_shown s (rev name) seq shows = other_member seq (codes "rev") (revision_reply shows.0.revision) (int (pos shows.0.revision)) shows.2 refl refl
@@ -259,6 +262,7 @@ request_not_done : (s : State) (request : Request) (seq : ℕ) → Tells s reque
 request_not_done s (change t) seq refused = not_refused seq refused
 request_not_done s snapshot seq tells = ⊎_elim (no_seq seq) (not_refused seq) tells
 request_not_done s (pump most) seq tells = ⊎_elim (no_seq seq) (not_refused seq) tells
+request_not_done s seal seq tells = ⊎_elim (no_seq seq) (not_refused seq) tells
 request_not_done s (get name path) seq tells = ⊎_elim (not_shown s (get name path) seq) (λ refused. not_refused seq refused.0) tells
 request_not_done s (get_schema name) seq tells = ⊎_elim (not_shown s (get_schema name) seq) (λ refused. not_refused seq refused.0) tells
 request_not_done s (rev name) seq tells = ⊎_elim (not_shown s (rev name) seq) (λ refused. not_refused seq refused.0) tells

@@ -12,7 +12,7 @@ use Rattle.store_commits.specs.Batch.{Commit, IsBatch, changes}
 use Rattle.store_commits.specs.Run as store
 use Rattle.store_commits.specs.declared.event.Reply.{Reply as StoreReply}
 use Rattle.store_commits.specs.Run.{Batched, Ran, reply_of}
-use Rattle.store_commits.specs.declared.event.Reply.TheVariants.{Done, Snapped, Pumped, Refused}
+use Rattle.store_commits.specs.declared.event.Reply.TheVariants.{Done, Snapped, Pumped, Sealed, Refused}
 use Rattle.store_commits.proofs.Modelled.{AreCoherent}
 use Rattle.store_commits.proofs.Running.{batch_paired, ran_joined}
 use Rattle.protocol.specs.Reply.{refusal_reply}
@@ -45,6 +45,7 @@ says_shown [] = tt
 says_shown (Done seq ∷ said) = (refl, says_shown said)
 says_shown (Snapped used ∷ said) = (refl, says_shown said)
 says_shown (Pumped step ∷ said) = (refl, says_shown said)
+says_shown (Sealed ∷ said) = (refl, says_shown said)
 says_shown (Refused refusal ∷ said) = (refl, says_shown said)
 
 -- one refusal to each

@@ -14,6 +14,7 @@ use Rattle.store_commits.specs.Batch.{changes}
 use Rattle.store_commits.specs.Events.{dones_of, hits_of}
 use Rattle.store_commits.specs.Folds.{after_each}
 use Rattle.store_commits.specs.Copying.{PumpAnswers}
+use Rattle.store_commits.specs.Sealing.{SealAnswers}
 use Rattle.store_commits.specs.Snapshot.{SnapshotAnswers}
 use Rattle.doc_store.specs.Promise.{KeepsPromise}
 use Rattle.store_commits.specs.Run as store
@@ -95,10 +96,25 @@ pump_state old new most (Ok p) is = pumped_state old new most p is
 pump_state old new most (Err r) (inl is) = ap (λ (a : Account). a.state) is.1.new_is
 pump_state old new most (Err r) (inr is) = ap (λ (a : Account). a.state) is.1
 
+quiet_seal : (old new : Account) (events : List Event) (said : List Reply) (r : Reply) → events ≡ store.seal ∷ [] → said ≡ r ∷ [] → new.state ≡ old.state → (old.broken ≡ true → new.broken ≡ true) → Quiet old new events said
+quiet_seal old new events said r es rs same still = subst (λ (l : List Event). Quiet old new l said) (sym es)
+    (subst (λ (l : List Reply). Quiet old new (store.seal ∷ []) l) (sym rs) (record { each = refl; none_done = refl; none_hit = refl; same = same; still = still }))
+
+seal_still : (old new : Account) (outcome : Result (Unit {0}) _) → SealAnswers old outcome new → old.broken ≡ true → new.broken ≡ true
+seal_still old new (Ok done) is broken = works_not old is.works broken
+seal_still old new (Err r) (inl is) broken = works_not old is.1.works broken
+seal_still old new (Err r) (inr is) broken = ap (λ (a : Account). a.broken) is.1 ∙ broken
+
+seal_state : (old new : Account) (outcome : Result (Unit {0}) _) → SealAnswers old outcome new → new.state ≡ old.state
+seal_state old new (Ok done) is = ap (λ (a : Account). a.state) is.new_is
+seal_state old new (Err r) (inl is) = ap (λ (a : Account). a.state) is.1.new_is
+seal_state old new (Err r) (inr is) = ap (λ (a : Account). a.state) is.1
+
 quiet_request : (old new : Account) (request : asked.Request) (events : List Event) (said : List Reply) (reply : Doc) → Replies old request events said reply new → Quiet old new events said
 quiet_request old new (asked.change t) events said reply h = absurd h
 quiet_request old new asked.snapshot events said reply h = quiet_snapshot old new events said _ h.3 h.4 (snapshot_state old new h.0 h.1) (snapshot_still old new h.0 h.1)
 quiet_request old new (asked.pump most) events said reply h = quiet_pump old new events said most _ h.3 h.4 (pump_state old new most h.0 h.1) (pump_still old new most h.0 h.1)
+quiet_request old new asked.seal events said reply h = quiet_seal old new events said _ h.3 h.4 (seal_state old new h.0 h.1) (seal_still old new h.0 h.1)
 quiet_request old new (asked.get name path) events said reply h = quiet_none old new events said h.3.0 h.3.1 h.3.2
 quiet_request old new (asked.get_schema name) events said reply h = quiet_none old new events said h.1.0 h.1.1 h.1.2
 quiet_request old new (asked.rev name) events said reply h = quiet_none old new events said h.1.0 h.1.1 h.1.2

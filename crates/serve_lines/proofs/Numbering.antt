@@ -13,11 +13,13 @@ use Rattle.doc_machine.specs.Transaction.{Transaction, after_all, after_in, chan
 use Rattle.doc_machine.proofs.Transactions.{own_transaction}
 use Rattle.refusals.specs.declared.numbers.TheConstants.{BROKEN, DEVICE, FULL, MEMORY}
 use Rattle.store_commits.specs.Account.{Account, account_broken}
-use Rattle.store_commits.specs.Batch.{Commit, IsBatch, behind_in_doubt, commit_in_doubt, commit_made, is_full, no_more, room_in_doubt, room_made, stays_broken, AreJudged, Slot, account_behind, account_committed, asked, changes, replies_done, replies_in_doubt, said, waiting, waits}
+use Rattle.store_commits.specs.Batch.{Commit, IsBatch, as_snapshot, as_snapshot_in_doubt, behind_in_doubt, commit_in_doubt, commit_made, is_full, no_more, room_in_doubt, room_made, stays_broken, AreJudged, Slot, account_behind, account_committed, asked, changes, replies_done, replies_in_doubt, said, waiting, waits}
 use Rattle.store_commits.specs.Events.{dones_of, hit_by, hits_of, change as change_event}
 use Rattle.store_commits.specs.Folds.{after_each}
+use Rattle.store_commits.specs.Replacing.{account_after}
+use Rattle.store_commits.specs.Snapshot.{account_with_snapshot}
 use Rattle.store_commits.specs.declared.event.Reply.{Reply}
-use Rattle.store_commits.specs.declared.event.Reply.TheVariants.{Done, Snapped, Pumped, Refused}
+use Rattle.store_commits.specs.declared.event.Reply.TheVariants.{Done, Snapped, Pumped, Sealed, Refused}
 use Rattle.protocol.specs.Request.{change}
 use Rattle.protocol.specs.Reply.{change_reply, refusal_reply}
 use Rattle.serve_lines.specs.Kept.{Refuses, Replied, no_line, was_done, was_hit, was_told}
@@ -49,6 +51,7 @@ dones_both s (t ∷ ts) us (Done seq ∷ rs) qs first = ap (λ (l : List Transac
 dones_both s (t ∷ ts) us (Refused r ∷ rs) qs first = dones_both s ts us rs qs first.1
 dones_both s (t ∷ ts) us (Snapped used ∷ rs) qs first = absurd first
 dones_both s (t ∷ ts) us (Pumped p ∷ rs) qs first = absurd first
+dones_both s (t ∷ ts) us (Sealed ∷ rs) qs first = absurd first
 
 hits_both : (s : State) (ts us : List Transaction) (rs qs : List Reply) → Counts s ts rs → hits_of (changes (ts ++ us)) (rs ++ qs) ≡ hits_of (changes ts) rs ++ hits_of (changes us) qs
 hits_both s [] us [] qs first = refl
@@ -59,6 +62,7 @@ hits_both s (t ∷ ts) us (Refused r ∷ rs) qs first =
     ap (λ (l : List Transaction). hit_by (change_event t) (Refused r) ++ l) (hits_both s ts us rs qs first.1) ∙ sym (append_assoc (hit_by (change_event t) (Refused r)) (hits_of (changes ts) rs) (hits_of (changes us) qs))
 hits_both s (t ∷ ts) us (Snapped used ∷ rs) qs first = absurd first
 hits_both s (t ∷ ts) us (Pumped p ∷ rs) qs first = absurd first
+hits_both s (t ∷ ts) us (Sealed ∷ rs) qs first = absurd first
 
 -- the first has no hit, or the second nothing that was done
 abbrev AreApart : List Transaction → List Reply → List Transaction → List Reply → Type 0
@@ -87,6 +91,7 @@ counts_behind s (t ∷ ts) us (Refused r ∷ rs) qs first second apart = (
 )
 counts_behind s (t ∷ ts) us (Snapped used ∷ rs) qs first second apart = absurd first
 counts_behind s (t ∷ ts) us (Pumped p ∷ rs) qs first second apart = absurd first
+counts_behind s (t ∷ ts) us (Sealed ∷ rs) qs first second apart = absurd first
 
 state_behind : (s : State) (ts us : List Transaction) (rs qs : List Reply) → Counts s ts rs
     → after_each s (dones_of (changes (ts ++ us)) (rs ++ qs)) ≡ after_each (after_each s (dones_of (changes ts) rs)) (dones_of (changes us) qs)
@@ -97,6 +102,7 @@ state_behind s (t ∷ ts) us (Done seq ∷ rs) qs first = state_behind (after_in
 state_behind s (t ∷ ts) us (Refused r ∷ rs) qs first = state_behind s ts us rs qs first.1
 state_behind s (t ∷ ts) us (Snapped used ∷ rs) qs first = absurd first
 state_behind s (t ∷ ts) us (Pumped p ∷ rs) qs first = absurd first
+state_behind s (t ∷ ts) us (Sealed ∷ rs) qs first = absurd first
 
 -- from an account to an account, transactions of a batch: a hit breaks the store, and a broken one does nothing
 pub record Counted (a b : Account) (ts : List Transaction) (rs : List Reply) : Type 0 where
@@ -196,6 +202,17 @@ batch_counts _ _ _ _ _ (behind_in_doubt a b d t ts rs more goes hit rest) =
 batch_counts _ _ _ _ _ (room_in_doubt a d t ts rs more goes rest) =
     let b = account_broken a in
     behind a b d (t ∷ []) ts (Refused (plain DEVICE) ∷ []) rs (refused a b t (plain DEVICE) refl (inr refl) (λ _. refl)) (batch_counts b d ts rs more rest)
+batch_counts _ _ _ _ _ (as_snapshot a d t ts rs more goes rest) =
+    let b = account_with_snapshot (account_after a t) in
+    behind a b d (t ∷ []) ts (replies_done a.state.seq (waits t ∷ [])) rs (record {
+      counts = (seq_all a.state (changes_of t), tt);
+      state = refl;
+      hit = inl refl;
+      broke = λ broken. works_not a goes.works broken;
+    }) (batch_counts b d ts rs more rest)
+batch_counts _ _ _ _ _ (as_snapshot_in_doubt a d t ts rs more goes rest) =
+    let b = account_broken a in
+    behind a b d (t ∷ []) ts (Refused (plain DEVICE) ∷ []) rs (refused a b t (plain DEVICE) refl (inr refl) (λ _. refl)) (batch_counts b d ts rs more rest)
 batch_counts _ _ _ _ _ (is_full a d t ts rs more works accepted none rest) =
     behind a a d (t ∷ []) ts (Refused (plain FULL) ∷ []) rs (refused a a t (plain FULL) refl (inl refl) (λ is. is)) (batch_counts a d ts rs more rest)
 batch_counts _ _ _ _ _ (stays_broken a d t ts rs more broken rest) =
@@ -226,6 +243,7 @@ batch_replied s (line ∷ lines) (t ∷ ts) (Refused r ∷ rs) asks counts =
     line_refused s line t lines (map shown_reply rs) r (dones_of (changes ts) rs) (hits_of (changes ts) rs) (asks.0, tt) (batch_replied s lines ts rs asks.1 counts.1) (nat_eq r.number DEVICE) refl counts.0
 batch_replied s (line ∷ lines) (t ∷ ts) (Snapped used ∷ rs) asks counts = absurd counts
 batch_replied s (line ∷ lines) (t ∷ ts) (Pumped p ∷ rs) asks counts = absurd counts
+batch_replied s (line ∷ lines) (t ∷ ts) (Sealed ∷ rs) asks counts = absurd counts
 
 -- where memory was refused to the whole batch
 pub batch_unmade : (s : State) (lines : List (List ℕ)) (ts : List Transaction) → AskFor lines ts → Replied s lines (map (λ _. refusal_reply (plain MEMORY)) ts) [] []

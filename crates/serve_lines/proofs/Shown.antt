@@ -8,12 +8,13 @@ use Rattle.refusals.specs.declared.numbers.TheConstants.{MEMORY}
 use Rattle.store_commits.specs.Account.{Account, StoreView}
 use Rattle.store_commits.specs.Snapshot.{SnapshotAnswers}
 use Rattle.store_commits.specs.Copying.{PumpAnswers}
+use Rattle.store_commits.specs.Sealing.{SealAnswers}
 use Rattle.store_commits.specs.declared.pump.Pump.{Pump}
 use Rattle.store_commits.specs.Run as store
 use Rattle.store_commits.specs.declared.event.Reply.{Reply as StoreReply}
 use Rattle.store_commits.specs.Run.{Event, reply_of, Ran}
-use Rattle.store_commits.specs.declared.event.Reply.TheVariants.{Snapped, Pumped, Refused}
-use Rattle.protocol.specs.Request.{Request, Asks, snapshot, pump}
+use Rattle.store_commits.specs.declared.event.Reply.TheVariants.{Snapped, Pumped, Sealed, Refused}
+use Rattle.protocol.specs.Request.{Request, Asks, snapshot, pump, seal}
 use Rattle.protocol.specs.Reply.{refusal_reply}
 use Rattle.serve_lines.specs.Session.{AnswersOther, Follows, HasDone, Replies, shown_reply}
 use Rattle.protocol.specs.Says.{Says}
@@ -98,6 +99,14 @@ is_pump_event disk old new most (Ok step) answers ran = λ options.
     one_event disk options old new (pump most) (shown_reply (reply_of Pumped (Ok step))) (store.pump most) (Pumped step) (λ none. absurd (cc none)) (Ok step, answers, refl, refl, refl) ran
 is_pump_event disk old new most (Err refusal) answers ran = λ options.
     one_event disk options old new (pump most) (shown_reply (reply_of Pumped (Err refusal))) (store.pump most) (Refused refusal) (λ none. absurd (cc none)) (Err refusal, answers, refl, refl, refl) ran
+
+-- and so is a seal
+pub is_seal_event : {D : Type 0} (disk : D → Disk) (old new : StoreView D) (outcome : Result (Unit {0}) Refusal) → SealAnswers old.account outcome new.account
+    → Ran disk old new (store.seal ∷ []) (reply_of (λ done. Sealed) outcome ∷ []) → IsAnsweredAlone disk old seal (shown_reply (reply_of (λ done. Sealed) outcome)) new
+is_seal_event disk old new (Ok done) answers ran = λ options.
+    one_event disk options old new seal (shown_reply (reply_of {A = Unit {0}} (λ done. Sealed) (Ok done))) store.seal Sealed (λ none. absurd (cc none)) (Ok done, answers, refl, refl, refl) ran
+is_seal_event disk old new (Err refusal) answers ran = λ options.
+    one_event disk options old new seal (shown_reply (reply_of {A = Unit {0}} (λ done. Sealed) (Err refusal))) store.seal (Refused refusal) (λ none. absurd (cc none)) (Err refusal, answers, refl, refl, refl) ran
 
 -- a line that asks for a request, no change, is answered as the request is
 pub asks_so : {D : Type 0} (disk : D → Disk) (options : Options) (old new : StoreView D) (line : List ℕ) (request : Request) (reply : Doc) → Asks line (Ok request)

@@ -20,7 +20,7 @@ use Rattle.store_commits.specs.Account.{StoreView}
 use Rattle.doc_store.specs.Promise.{KeepsPromise}
 use Rattle.protocol.specs.declared.limits.TheConstants.{LINE_BYTES, REPLY_BYTES}
 use Rattle.protocol.specs.Lines.{lines_of}
-use Rattle.protocol.specs.Request.{Request, change, get, get_schema, rev, query, list, status, snapshot, pump, object_of, IsInRange}
+use Rattle.protocol.specs.Request.{Request, change, get, get_schema, rev, query, list, status, snapshot, pump, seal, object_of, IsInRange}
 use Rattle.protocol.specs.Reply.{change_reply, names_reply, nodes_reply, revision_reply, value_reply}
 
 -- A line asks for a request: it isn't too long, and read as JSON it is the request's object.
@@ -56,11 +56,12 @@ Shows s list reply = reply ≡ names_reply (map (λ d. d.name) s.documents)
 Shows s status reply = (resolve (codes "seq" ∷ []) reply ≡ Some (int (pos s.seq))) × (resolve (codes "documents" ∷ []) reply ≡ Some (int (pos (length s.documents))))
 Shows s _ reply = ⊥
 
--- What a request is answered that makes no transaction: one for a transaction is refused; to a snapshot, or a step of one, no seq is replied, or it is refused; a question, which any other is, is answered by what the state shows, and refused only if it shows nothing.
+-- What a request is answered that makes no transaction: one for a transaction is refused; to a snapshot, a step of one, or a seal, no seq is replied, or it is refused; a question, which any other is, is answered by what the state shows, and refused only if it shows nothing.
 abbrev pub Tells : State → Request → Doc → Type 0
 Tells s (change t) reply = IsRefusal reply
 Tells s snapshot reply = (resolve (codes "seq" ∷ []) reply ≡ None) ⊎ IsRefusal reply
 Tells s (pump most) reply = (resolve (codes "seq" ∷ []) reply ≡ None) ⊎ IsRefusal reply
+Tells s seal reply = (resolve (codes "seq" ∷ []) reply ≡ None) ⊎ IsRefusal reply
 Tells s question reply = Shows s question reply ⊎ (IsRefusal reply × ((shown : Doc) → Shows s question shown → ⊥))
 
 -- The same of a line. One that asks for nothing is refused, and any line may be: out of memory, or since the store is broken.

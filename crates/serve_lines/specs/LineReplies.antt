@@ -17,7 +17,7 @@ use Rattle.protocol.specs.Request.{Request}
 use Rattle.protocol.specs.Reply.{refusal_reply}
 use Rattle.protocol.specs.Says.{Says}
 use Rattle.protocol.specs.declared.reply.Reply.{Reply}
-use Rattle.protocol.specs.declared.reply.Reply.TheVariants.{Changed, Snapshot, Pumped, Refused}
+use Rattle.protocol.specs.declared.reply.Reply.TheVariants.{Changed, Snapshot, Pumped, Sealed, Refused}
 use Rattle.serve_lines.specs.Session.{AnswersBatch, ChangesNothing, Does, Follows, HasDone, Replies, WantsStep, alone}
 use Rattle.serve_lines.specs.declared.options.Options.{Options}
 
@@ -79,6 +79,7 @@ abbrev pub shown_as : StoreReply → Reply
 shown_as (store_replies.Done seq) = Changed seq
 shown_as (store_replies.Snapped used) = Snapshot used
 shown_as (store_replies.Pumped step) = Pumped step
+shown_as store_replies.Sealed = Sealed
 shown_as (store_replies.Refused refusal) = Refused refusal
 
 -- the replies say these documents, one each

@@ -20,15 +20,16 @@ use Rattle.store_commits.specs.Batch.{Commit, IsBatch, changes}
 use Rattle.store_commits.specs.Events.{is_done}
 use Rattle.store_commits.specs.Snapshot.{SnapshotAnswers}
 use Rattle.store_commits.specs.Copying.{PumpAnswers}
+use Rattle.store_commits.specs.Sealing.{SealAnswers}
 use Rattle.store_commits.specs.Run as store
 use Rattle.store_commits.specs.Run.{Event, reply_of}
 use Rattle.store_commits.specs.declared.event.Reply.{Reply}
-use Rattle.store_commits.specs.declared.event.Reply.TheVariants.{Done, Snapped, Pumped, Refused}
+use Rattle.store_commits.specs.declared.event.Reply.TheVariants.{Done, Snapped, Pumped, Sealed, Refused}
 use Rattle.doc_store.specs.Formats.{status_of}
 use Rattle.store_commits.specs.declared.pump.Pump.{Pump}
 use Rattle.protocol.specs.declared.limits.TheConstants.{REPLY_BYTES}
-use Rattle.protocol.specs.Request.{Request, change, get, get_schema, rev, query, list, status, snapshot, pump, Asks}
-use Rattle.protocol.specs.Reply.{change_reply, snapshot_reply, pump_reply, value_reply, revision_reply, nodes_reply, names_reply, refusal_reply}
+use Rattle.protocol.specs.Request.{Request, change, get, get_schema, rev, query, list, status, snapshot, pump, seal, Asks}
+use Rattle.protocol.specs.Reply.{change_reply, snapshot_reply, pump_reply, sealed_reply, value_reply, revision_reply, nodes_reply, names_reply, refusal_reply}
 use Rattle.serve_lines.specs.declared.options.Options.{Options}
 use Rattle.serde.specs.Event.{Log, Logs, field_key, unsigned}
 use Rattle.serde.specs.declared.name.Case.TheVariants.{AsIs}
@@ -58,6 +59,7 @@ abbrev pub shown_reply : Reply → Doc
 shown_reply (Done seq) = change_reply seq
 shown_reply (Snapped used) = snapshot_reply used
 shown_reply (Pumped step) = pump_reply step
+shown_reply Sealed = sealed_reply
 shown_reply (Refused refusal) = refusal_reply refusal
 
 -- the reply to a request for a value
@@ -95,7 +97,7 @@ abbrev pub ChangesNothing : Account → List Event → List Reply → Account �
 ChangesNothing old events said new = (events ≡ []) × (said ≡ []) × (new ≡ old)
 
 -- From old, a request was given this reply and led to new, and these events of the store were given these replies: a
--- snapshot or a step of a copy is one event, and answered as the store answers it; a question is none, is answered by
+-- snapshot, a step of a copy or a seal is one event, and answered as the store answers it; a question is none, is answered by
 -- what is stored, and changes nothing. A transaction is answered in its batch.
 abbrev pub Replies : Account → Request → List Event → List Reply → Doc → Account → Type 0
 Replies old (change t) events said reply new = ⊥
@@ -103,6 +105,8 @@ Replies old snapshot events said reply new =
     (outcome : Result ℕ Refusal) × SnapshotAnswers old outcome new × (reply ≡ shown_reply (reply_of Snapped outcome)) × (events ≡ store.snapshot ∷ []) × (said ≡ reply_of Snapped outcome ∷ [])
 Replies old (pump most) events said reply new =
     (outcome : Result Pump Refusal) × PumpAnswers old most outcome new × (reply ≡ shown_reply (reply_of Pumped outcome)) × (events ≡ store.pump most ∷ []) × (said ≡ reply_of Pumped outcome ∷ [])
+Replies old seal events said reply new =
+    (outcome : Result (Unit {0}) Refusal) × SealAnswers old outcome new × (reply ≡ shown_reply (reply_of (λ done. Sealed) outcome)) × (events ≡ store.seal ∷ []) × (said ≡ reply_of (λ done. Sealed) outcome ∷ [])
 Replies old (get name path) events said reply new = (found : Result Doc Refusal) × Finds old.state name path found × (reply ≡ found_reply found) × ChangesNothing old events said new
 Replies old (get_schema name) events said reply new = (reply ≡ found_reply (schema_at old.state name)) × ChangesNothing old events said new
 Replies old (rev name) events said reply new = (reply ≡ reply_to_rev (revision_at old.state name)) × ChangesNothing old events said new

@@ -54,6 +54,7 @@ fn reply_to<D: SectorDevice>(alloc: Global, store: &mut Store<D>, request: Reque
         Request::Status => status(alloc, store),
         Request::Snapshot => snapshot(store),
         Request::Pump { max } => pump(store, max),
+        Request::Seal => seal(store),
     }
 }
 
@@ -71,6 +72,15 @@ fn pump<D: SectorDevice>(store: &mut Store<D>, most: u64) -> Reply
 {
     match store.pump(most) {
         Ok(pump) => Reply::Pumped(pump),
+        Err(refusal) => Reply::Refused(refusal),
+    }
+}
+
+fn seal<D: SectorDevice>(store: &mut Store<D>) -> Reply
+    ensures { (reply : Doc) × Says result reply × IsAnsweredAlone D.disk store.old asked.seal reply store.new }
+{
+    match store.seal() {
+        Ok(()) => Reply::Sealed,
         Err(refusal) => Reply::Refused(refusal),
     }
 }

@@ -135,6 +135,7 @@ fn shown(reply: doc_store::Reply) -> Reply
         doc_store::Reply::Done(seq) => Reply::Changed(seq),
         doc_store::Reply::Snapped(used) => Reply::Snapshot(used),
         doc_store::Reply::Pumped(pump) => Reply::Pumped(pump),
+        doc_store::Reply::Sealed => Reply::Sealed,
         doc_store::Reply::Refused(refusal) => Reply::Refused(refusal),
     }
 }

@@ -58,6 +58,10 @@ pub(crate) fn put<W: Write>(
             outbox.put_pump(pump);
             Ok(())
         }
+        Reply::Sealed => {
+            outbox.put_sealed();
+            Ok(())
+        }
         Reply::Revision(revision) => {
             outbox.put_revision(revision);
             Ok(())

@@ -13,4 +13,4 @@ pub returns : goal.returns
 returns c =
     let same = c.in_ok-read_in.ensures.ok.0 in
     let faultless = subst (IsFaultless c.args.profile) same c.in_ok-read_in.ensures.ok.1 in
-    (same, unrefused c.args.profile (c.first_faults_are_found.ensures.none c.args.profile) (view c.args.source.now) faultless, faultless, subst IsSound same c.in_ok-read_in.ensures.sound)
+    (same, (unrefused c.args.profile (c.first_faults_are_found.ensures.none c.args.profile) (view c.args.source.now) faultless, faultless, subst IsSound same c.in_ok-read_in.ensures.sound))

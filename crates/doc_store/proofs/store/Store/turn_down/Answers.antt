@@ -1,6 +1,7 @@
 use Rattle.std.proofs.Common.{◌≡◌, ◌∙◌, ap, sym, subst, true, false, None}
 use Rattle.schema_rules.specs.declared.profile.Profile.TheVariants.{Two}
-use Rattle.doc_changes.specs.State.{AreOffered, Good, State}
+use Rattle.doc_changes.specs.State.{Good, State}
+use Rattle.doc_changes.specs.Within.{AreWithin}
 use Rattle.store_commits.specs.Account.{StoreView}
 use Rattle.store_commits.specs.Copying.{copy_of, target_of}
 use Rattle.store_commits.specs.Inside.{IsStored}
@@ -18,8 +19,8 @@ returns-in_err-downgrade-clause-any_moment g c =
     let k = copy_of (target_of c.self.inside.copy) in
     let held = c.self.invariant.held in
     let bytes : c.args.snapshot.now ≡ snapshot_bytes state.documents = c.requires.snapshot ∙ ap (λ (v : StoreView g.row.D.Denot). snapshot_bytes v.account.state.documents) (sym c.self.view_is) in
-    let offered = subst (λ (v : StoreView g.row.D.Denot). AreOffered Two v.account.state.documents) (sym c.self.view_is) c.requires.offered in
-    let holds = holds_down disk before state k held offered in
+    let within = subst (λ (v : StoreView g.row.D.Denot). AreWithin Two v.account.state.documents) (sym c.self.view_is) c.requires.within in
+    let holds = holds_down disk before state k held within in
     rw (← c.self.view_is) (λ honest. over_moments disk before state k held false holds now honest ((rw bytes at c.downgrade.ensures.any_moment) honest))
 
 pub returns-clause-any_moment : goal.returns-clause-any_moment
@@ -31,8 +32,8 @@ returns-clause-any_moment g c =
     let k = copy_of (target_of c.self.inside.copy) in
     let held = c.self.invariant.held in
     let bytes : c.args.snapshot.now ≡ snapshot_bytes state.documents = c.requires.snapshot ∙ ap (λ (v : StoreView g.row.D.Denot). snapshot_bytes v.account.state.documents) (sym c.self.view_is) in
-    let offered = subst (λ (v : StoreView g.row.D.Denot). AreOffered Two v.account.state.documents) (sym c.self.view_is) c.requires.offered in
-    let holds = holds_down disk before state k held offered in
+    let within = subst (λ (v : StoreView g.row.D.Denot). AreWithin Two v.account.state.documents) (sym c.self.view_is) c.requires.within in
+    let holds = holds_down disk before state k held within in
     rw (← c.self.view_is) (λ honest. over_moments disk before state k held false holds now honest ((rw bytes at c.downgrade.ensures.any_moment) honest))
 
 pub invariant_of-self-2 : goal.invariant_of-self-2
@@ -44,8 +45,8 @@ invariant_of-self-2 g c =
     let k = copy_of (target_of c.self.inside.copy) in
     let held = c.self.invariant.held in
     let bytes : c.args.snapshot.now ≡ snapshot_bytes state.documents = c.requires.snapshot ∙ ap (λ (v : StoreView g.row.D.Denot). snapshot_bytes v.account.state.documents) (sym c.self.view_is) in
-    let offered = subst (λ (v : StoreView g.row.D.Denot). AreOffered Two v.account.state.documents) (sym c.self.view_is) c.requires.offered in
-    let holds = holds_down disk before state k held offered in
+    let within = subst (λ (v : StoreView g.row.D.Denot). AreWithin Two v.account.state.documents) (sym c.self.view_is) c.requires.within in
+    let holds = holds_down disk before state k held within in
     let told = c.downgrade.ensures in
     let went = over_down disk before now (snapshot_bytes state.documents) told.kept told.honest (rw bytes at c.in_ok-downgrade.ensures.ok) in
     let set = c.set_profile.ensures.set in

@@ -1,13 +1,17 @@
 use Rattle.std.proofs.Common.{◌≡◌, ◌∙◌, ap, sym, subst, true, false, None}
 use Rattle.schema_rules.specs.declared.profile.Profile.TheVariants.{Two}
-use Rattle.doc_changes.specs.State.{AreOffered, Good, State}
+use Rattle.doc_changes.specs.State.{Good, State}
 use Rattle.store_commits.specs.Account.{StoreView}
 use Rattle.store_commits.specs.Copying.{copy_of, target_of}
 use Rattle.store_commits.specs.Inside.{IsStored}
 use Rattle.store_commits.specs.Snapshot.{snapshot_bytes}
 use Rattle.store_commits.proofs.Standing.{standing}
-use Rattle.doc_store.proofs.Formats.{holds_up, images_are, over_held, over_moments, over_up}
+use Rattle.doc_store.proofs.Formats.{holds_up, images_are, over_held, over_moments, over_up, within_up}
 use Rattle.doc_store.proofs.store.Store.turn_up.Goals as goal
+
+pub set_profile-requires : goal.set_profile-requires
+set_profile-requires g c =
+    within_up g.D.SectorDevice.disk c.self.inside.journal c.self.inside.machine (copy_of (target_of c.self.inside.copy)) c.self.invariant.held c.earlier_profiles_stay.ensures.documents
 
 pub returns-in_err-upgrade-clause-any_moment : goal.returns-in_err-upgrade-clause-any_moment
 returns-in_err-upgrade-clause-any_moment g c =

@@ -1,6 +1,6 @@
 use Rattle.std.proofs.Common.{drop}
 use Rattle.doc_changes.specs.State.{AreOffered}
-use Rattle.doc_changes.proofs.documents.Documents.check_profile.Given as goal
+use Rattle.doc_changes.proofs.documents.Documents.check_schemas.Given as goal
 
 -- all are offered if those are that are left
 abbrev pub invariant-loop-place : goal.invariant-loop-place

@@ -7,7 +7,7 @@ use Rattle.doc_changes.specs.StateView.{lent_of}
 use Rattle.doc_changes.specs.declared.refusal.Refusal.{Refusal}
 use Rattle.doc_changes.proofs.EachOffered.{all_at, all_end, all_more}
 use Rattle.doc_changes.proofs.Judgements.{err_same}
-use Rattle.doc_changes.proofs.documents.Documents.check_profile.Goals as goal
+use Rattle.doc_changes.proofs.documents.Documents.check_schemas.Goals as goal
 
 pub loop-place-preserved : goal.loop-place-preserved
 loop-place-preserved c = λ rest.
