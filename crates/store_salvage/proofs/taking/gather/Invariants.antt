@@ -1,0 +1,13 @@
+use Rattle.std.proofs.Common.{◌-◌, length}
+use Rattle.doc_changes.specs.State.{Good}
+use Rattle.store_salvage.specs.Gathering.{GathersTo}
+use Rattle.store_salvage.proofs.taking.gather.Given as goal
+
+abbrev pub invariant-loop-from : goal.invariant-loop-from
+invariant-loop-from l = record {
+  gathers : GathersTo l.version l.bytes l.from l.fn.machine l.gathered.machine;
+  good : Good l.gathered.machine;
+}
+
+abbrev pub decreases-loop-from : goal.decreases-loop-from
+decreases-loop-from l = length l.bytes - l.from
