@@ -4,21 +4,24 @@ _jpstore() {
     local cur prev words cword
     _init_completion || return
     if ((cword == 1)); then
-        COMPREPLY=($(compgen -W "format serve check copy upgrade mem help --help --version" -- "$cur"))
+        COMPREPLY=($(compgen -W "format serve check repair salvage dump copy upgrade mem help --help --version" -- "$cur"))
         return
     fi
     case $prev in
     --sectors | --format | --mode | --batch | --pump) return ;;
     esac
     case ${words[1]}$cur in
-    serve-*) COMPREPLY=($(compgen -W "--batch --pump --why --help" -- "$cur")) ;;
+    serve-*) COMPREPLY=($(compgen -W "--batch --pump --strict --why --help" -- "$cur")) ;;
     format-*) COMPREPLY=($(compgen -W "--sectors --format --mode --sparse --why --help" -- "$cur")) ;;
     upgrade-*) COMPREPLY=($(compgen -W "--format --why --help" -- "$cur")) ;;
-    copy-*) COMPREPLY=($(compgen -W "--sectors --why --help" -- "$cur")) ;;
+    copy-*) COMPREPLY=($(compgen -W "--sectors --format --why --help" -- "$cur")) ;;
     mem-*) COMPREPLY=($(compgen -W "--sectors --help" -- "$cur")) ;;
-    check-*) COMPREPLY=($(compgen -W "--why --help" -- "$cur")) ;;
-    help*) COMPREPLY=($(compgen -W "format serve check copy upgrade mem" -- "$cur")) ;;
-    format* | serve* | check* | copy* | upgrade*) _filedir ;;
+    check-*) COMPREPLY=($(compgen -W "--strict --deep --why --help" -- "$cur")) ;;
+    salvage-*) COMPREPLY=($(compgen -W "--frames --why --help" -- "$cur")) ;;
+    dump-*) COMPREPLY=($(compgen -W "--read-only --why --help" -- "$cur")) ;;
+    repair-*) COMPREPLY=($(compgen -W "--why --help" -- "$cur")) ;;
+    help*) COMPREPLY=($(compgen -W "format serve check repair salvage dump copy upgrade mem" -- "$cur")) ;;
+    format* | serve* | check* | repair* | salvage* | dump* | copy* | upgrade*) _filedir ;;
     esac
 }
 complete -F _jpstore jpstore

@@ -17,7 +17,7 @@ use Rattle.clap.proofs.OnLiterals.{clap_on_literals}
 use Rattle.clap.proofs.ValueTestLemmas.{Accepts-accepts}
 use Rattle.command_line.proofs.Walks.{IsPlain, Steps, Goes, gone, goes, held, standing, plain_passes, plain_stands, value_passes, value_stands}
 use Rattle.command_line.specs.declared.limits.TheConstants.{MIN_SECTORS, MAX_SECTORS, MAX_MEMORY_SECTORS, MIN_FORMAT, MAX_FORMAT, MAX_BATCH, MAX_PUMP}
-use Rattle.command_line.specs.Call.{Asked, format, serve, check, copy, upgrade, mem, InRange, IsGiven, IsModeGiven, IsNoOption, IsRowOf, flag_words}
+use Rattle.command_line.specs.Call.{Asked, format, serve, check, repair, copy, upgrade, mem, deep, salvage, dump, InRange, IsGiven, IsModeGiven, IsNoOption, IsRowOf, flag_words}
 use Rattle.command_line.specs.Options.{app, HoldsFile, HoldsFlag, HoldsMode, HoldsNew, MayHold, Means, MeansWhy, Spells, flag_text}
 
 pub simple : is_simple app ≡ true
@@ -164,33 +164,115 @@ record Read (words : List Text) (name : Text) (Found : List Row → Type 0) : Ty
 abbrev check_built : Shape
 check_built = built_for (codes "check")
 
+abbrev repair_built : Shape
+repair_built = built_for (codes "repair")
+
 abbrev copy_built : Shape
 copy_built = built_for (codes "copy")
 
-check_read : (file : Text) (why : Bool) → IsPlain file
-    → Read (codes "check" ∷ file ∷ flag_words (codes "--why") why) (codes "check") (λ rows. HoldsFile file rows × HoldsFlag (codes "why") why rows)
+abbrev salvage_built : Shape
+salvage_built = built_for (codes "salvage")
+
+abbrev dump_built : Shape
+dump_built = built_for (codes "dump")
+
+check_read : (file : Text) (strict why : Bool) → IsPlain file
+    → Read (codes "check" ∷ file ∷ flag_words (codes "--strict") strict ++ flag_words (codes "--why") why) (codes "check")
+    (λ rows. HoldsFile file rows × HoldsFlag (codes "strict") strict rows × HoldsFlag (codes "deep") false rows × HoldsFlag (codes "why") why rows)
 unfolding clap_on_literals
-check_read file true h =
+check_read file true true h =
+    let walked = goes (plain_step check_built None 1 file h refl) (goes (met check_built (standing [] (Some (codes "file", file ∷ [])) idle 2) (codes "--strict") refl) (goes (met check_built (standing (given (codes "file") file ∷ flag_row (codes "strict") true ∷ []) None idle 2) (codes "--why") refl) (gone check_built (standing (given (codes "file") file ∷ flag_row (codes "strict") true ∷ flag_row (codes "why") true ∷ []) None idle 2)))) in
+    let read = read_by (file ∷ codes "--strict" ∷ codes "--why" ∷ []) (codes "check") check_built (standing (given (codes "file") file ∷ flag_row (codes "strict") true ∷ flag_row (codes "why") true ∷ []) None idle 2) refl refl refl walked refl refl refl in
+    record { rows = _; met = read.0; taken = read.1; holds = (refl, refl, refl, refl) }
+check_read file true false h =
+    let walked = goes (plain_step check_built None 1 file h refl) (goes (met check_built (standing [] (Some (codes "file", file ∷ [])) idle 2) (codes "--strict") refl) (gone check_built (standing (given (codes "file") file ∷ flag_row (codes "strict") true ∷ []) None idle 2))) in
+    let read = read_by (file ∷ codes "--strict" ∷ []) (codes "check") check_built (standing (given (codes "file") file ∷ flag_row (codes "strict") true ∷ []) None idle 2) refl refl refl walked refl refl refl in
+    record { rows = _; met = read.0; taken = read.1; holds = (refl, refl, refl, refl) }
+check_read file false true h =
     let walked = goes (plain_step check_built None 1 file h refl) (goes (met check_built (standing [] (Some (codes "file", file ∷ [])) idle 2) (codes "--why") refl) (gone check_built (standing (given (codes "file") file ∷ flag_row (codes "why") true ∷ []) None idle 2))) in
     let read = read_by (file ∷ codes "--why" ∷ []) (codes "check") check_built (standing (given (codes "file") file ∷ flag_row (codes "why") true ∷ []) None idle 2) refl refl refl walked refl refl refl in
-    record { rows = _; met = read.0; taken = read.1; holds = (refl, refl) }
-check_read file false h =
+    record { rows = _; met = read.0; taken = read.1; holds = (refl, refl, refl, refl) }
+check_read file false false h =
     let walked = goes (plain_step check_built None 1 file h refl) (gone check_built (standing [] (Some (codes "file", file ∷ [])) idle 2)) in
     let read = read_by (file ∷ []) (codes "check") check_built (standing [] (Some (codes "file", file ∷ [])) idle 2) refl refl refl walked refl refl refl in
+    record { rows = _; met = read.0; taken = read.1; holds = (refl, refl, refl, refl) }
+
+deep_read : (file : Text) (why : Bool) → IsPlain file
+    → Read (codes "check" ∷ file ∷ codes "--deep" ∷ flag_words (codes "--why") why) (codes "check") (λ rows. HoldsFile file rows × HoldsFlag (codes "deep") true rows × HoldsFlag (codes "why") why rows)
+unfolding clap_on_literals
+deep_read file true h =
+    let walked = goes (plain_step check_built None 1 file h refl) (goes (met check_built (standing [] (Some (codes "file", file ∷ [])) idle 2) (codes "--deep") refl) (goes (met check_built (standing (given (codes "file") file ∷ flag_row (codes "deep") true ∷ []) None idle 2) (codes "--why") refl) (gone check_built (standing (given (codes "file") file ∷ flag_row (codes "deep") true ∷ flag_row (codes "why") true ∷ []) None idle 2)))) in
+    let read = read_by (file ∷ codes "--deep" ∷ codes "--why" ∷ []) (codes "check") check_built (standing (given (codes "file") file ∷ flag_row (codes "deep") true ∷ flag_row (codes "why") true ∷ []) None idle 2) refl refl refl walked refl refl refl in
+    record { rows = _; met = read.0; taken = read.1; holds = (refl, refl, refl) }
+deep_read file false h =
+    let walked = goes (plain_step check_built None 1 file h refl) (goes (met check_built (standing [] (Some (codes "file", file ∷ [])) idle 2) (codes "--deep") refl) (gone check_built (standing (given (codes "file") file ∷ flag_row (codes "deep") true ∷ []) None idle 2))) in
+    let read = read_by (file ∷ codes "--deep" ∷ []) (codes "check") check_built (standing (given (codes "file") file ∷ flag_row (codes "deep") true ∷ []) None idle 2) refl refl refl walked refl refl refl in
+    record { rows = _; met = read.0; taken = read.1; holds = (refl, refl, refl) }
+
+repair_read : (file : Text) (why : Bool) → IsPlain file
+    → Read (codes "repair" ∷ file ∷ flag_words (codes "--why") why) (codes "repair") (λ rows. HoldsFile file rows × HoldsFlag (codes "why") why rows)
+unfolding clap_on_literals
+repair_read file true h =
+    let walked = goes (plain_step repair_built None 1 file h refl) (goes (met repair_built (standing [] (Some (codes "file", file ∷ [])) idle 2) (codes "--why") refl) (gone repair_built (standing (given (codes "file") file ∷ flag_row (codes "why") true ∷ []) None idle 2))) in
+    let read = read_by (file ∷ codes "--why" ∷ []) (codes "repair") repair_built (standing (given (codes "file") file ∷ flag_row (codes "why") true ∷ []) None idle 2) refl refl refl walked refl refl refl in
+    record { rows = _; met = read.0; taken = read.1; holds = (refl, refl) }
+repair_read file false h =
+    let walked = goes (plain_step repair_built None 1 file h refl) (gone repair_built (standing [] (Some (codes "file", file ∷ [])) idle 2)) in
+    let read = read_by (file ∷ []) (codes "repair") repair_built (standing [] (Some (codes "file", file ∷ [])) idle 2) refl refl refl walked refl refl refl in
     record { rows = _; met = read.0; taken = read.1; holds = (refl, refl) }
 
-copy_read : (file new sectors : Text) (why : Bool) → IsPlain file → IsPlain new → IsChecked MIN_SECTORS MAX_SECTORS sectors
-    → Read (codes "copy" ∷ file ∷ new ∷ codes "--sectors" ∷ sectors ∷ flag_words (codes "--why") why) (codes "copy")
-    (λ rows. HoldsFile file rows × HoldsNew new rows × (one_of (codes "sectors") rows ≡ Some sectors) × HoldsFlag (codes "why") why rows)
+salvage_read : (file : Text) (set why : Bool) → IsPlain file
+    → Read (codes "salvage" ∷ file ∷ flag_words (codes "--frames") set ++ flag_words (codes "--why") why) (codes "salvage") (λ rows. HoldsFile file rows × HoldsFlag (codes "frames") set rows × HoldsFlag (codes "why") why rows)
 unfolding clap_on_literals
-copy_read file new sectors true h k s =
+salvage_read file true true h =
+    let walked = goes (plain_step salvage_built None 1 file h refl) (goes (met salvage_built (standing [] (Some (codes "file", file ∷ [])) idle 2) (codes "--frames") refl) (goes (met salvage_built (standing (given (codes "file") file ∷ flag_row (codes "frames") true ∷ []) None idle 2) (codes "--why") refl) (gone salvage_built (standing (given (codes "file") file ∷ flag_row (codes "frames") true ∷ flag_row (codes "why") true ∷ []) None idle 2)))) in
+    let read = read_by (file ∷ codes "--frames" ∷ codes "--why" ∷ []) (codes "salvage") salvage_built (standing (given (codes "file") file ∷ flag_row (codes "frames") true ∷ flag_row (codes "why") true ∷ []) None idle 2) refl refl refl walked refl refl refl in
+    record { rows = _; met = read.0; taken = read.1; holds = (refl, refl, refl) }
+salvage_read file true false h =
+    let walked = goes (plain_step salvage_built None 1 file h refl) (goes (met salvage_built (standing [] (Some (codes "file", file ∷ [])) idle 2) (codes "--frames") refl) (gone salvage_built (standing (given (codes "file") file ∷ flag_row (codes "frames") true ∷ []) None idle 2))) in
+    let read = read_by (file ∷ codes "--frames" ∷ []) (codes "salvage") salvage_built (standing (given (codes "file") file ∷ flag_row (codes "frames") true ∷ []) None idle 2) refl refl refl walked refl refl refl in
+    record { rows = _; met = read.0; taken = read.1; holds = (refl, refl, refl) }
+salvage_read file false true h =
+    let walked = goes (plain_step salvage_built None 1 file h refl) (goes (met salvage_built (standing [] (Some (codes "file", file ∷ [])) idle 2) (codes "--why") refl) (gone salvage_built (standing (given (codes "file") file ∷ flag_row (codes "why") true ∷ []) None idle 2))) in
+    let read = read_by (file ∷ codes "--why" ∷ []) (codes "salvage") salvage_built (standing (given (codes "file") file ∷ flag_row (codes "why") true ∷ []) None idle 2) refl refl refl walked refl refl refl in
+    record { rows = _; met = read.0; taken = read.1; holds = (refl, refl, refl) }
+salvage_read file false false h =
+    let walked = goes (plain_step salvage_built None 1 file h refl) (gone salvage_built (standing [] (Some (codes "file", file ∷ [])) idle 2)) in
+    let read = read_by (file ∷ []) (codes "salvage") salvage_built (standing [] (Some (codes "file", file ∷ [])) idle 2) refl refl refl walked refl refl refl in
+    record { rows = _; met = read.0; taken = read.1; holds = (refl, refl, refl) }
+
+dump_read : (file : Text) (why : Bool) → IsPlain file
+    → Read (codes "dump" ∷ file ∷ codes "--read-only" ∷ flag_words (codes "--why") why) (codes "dump") (λ rows. HoldsFile file rows × HoldsFlag (codes "read-only") true rows × HoldsFlag (codes "why") why rows)
+unfolding clap_on_literals
+dump_read file true h =
+    let walked = goes (plain_step dump_built None 1 file h refl) (goes (met dump_built (standing [] (Some (codes "file", file ∷ [])) idle 2) (codes "--read-only") refl) (goes (met dump_built (standing (given (codes "file") file ∷ flag_row (codes "read-only") true ∷ []) None idle 2) (codes "--why") refl) (gone dump_built (standing (given (codes "file") file ∷ flag_row (codes "read-only") true ∷ flag_row (codes "why") true ∷ []) None idle 2)))) in
+    let read = read_by (file ∷ codes "--read-only" ∷ codes "--why" ∷ []) (codes "dump") dump_built (standing (given (codes "file") file ∷ flag_row (codes "read-only") true ∷ flag_row (codes "why") true ∷ []) None idle 2) refl refl refl walked refl refl refl in
+    record { rows = _; met = read.0; taken = read.1; holds = (refl, refl, refl) }
+dump_read file false h =
+    let walked = goes (plain_step dump_built None 1 file h refl) (goes (met dump_built (standing [] (Some (codes "file", file ∷ [])) idle 2) (codes "--read-only") refl) (gone dump_built (standing (given (codes "file") file ∷ flag_row (codes "read-only") true ∷ []) None idle 2))) in
+    let read = read_by (file ∷ codes "--read-only" ∷ []) (codes "dump") dump_built (standing (given (codes "file") file ∷ flag_row (codes "read-only") true ∷ []) None idle 2) refl refl refl walked refl refl refl in
+    record { rows = _; met = read.0; taken = read.1; holds = (refl, refl, refl) }
+
+copy_read : (file new sectors : Text) (version : Option Text) (why : Bool) → IsPlain file → IsPlain new → IsChecked MIN_SECTORS MAX_SECTORS sectors → IfSome version (IsChecked MIN_FORMAT MAX_FORMAT)
+    → Read (codes "copy" ∷ file ∷ new ∷ codes "--sectors" ∷ sectors ∷ option_words (codes "--format") version ++ flag_words (codes "--why") why) (codes "copy")
+    (λ rows. HoldsFile file rows × HoldsNew new rows × (one_of (codes "sectors") rows ≡ Some sectors) × (one_of (codes "format") rows ≡ version) × (first_of (codes "format") rows ≡ version) × HoldsFlag (codes "why") why rows)
+unfolding clap_on_literals
+copy_read file new sectors (Some version) true h k s v =
+    let walked = goes (plain_step copy_built None 1 file h refl) (goes (plain_step copy_built (Some (codes "file", file ∷ [])) 2 new k refl) (goes (met copy_built (standing (given (codes "file") file ∷ []) (Some (codes "new", new ∷ [])) idle 3) (codes "--sectors") refl) (goes (value_step copy_built (given (codes "file") file ∷ given (codes "new") new ∷ []) (codes "sectors") 3 sectors s.0) (goes (met copy_built (standing (given (codes "file") file ∷ given (codes "new") new ∷ []) (Some (codes "sectors", sectors ∷ [])) idle 3) (codes "--format") (simp s.1)) (goes (value_step copy_built (given (codes "file") file ∷ given (codes "new") new ∷ given (codes "sectors") sectors ∷ []) (codes "format") 3 version v.0) (goes (met copy_built (standing (given (codes "file") file ∷ given (codes "new") new ∷ given (codes "sectors") sectors ∷ []) (Some (codes "format", version ∷ [])) idle 3) (codes "--why") (simp v.1)) (gone copy_built (standing (given (codes "file") file ∷ given (codes "new") new ∷ given (codes "sectors") sectors ∷ given (codes "format") version ∷ flag_row (codes "why") true ∷ []) None idle 3)))))))) in
+    let read = read_by (file ∷ new ∷ codes "--sectors" ∷ sectors ∷ codes "--format" ∷ version ∷ codes "--why" ∷ []) (codes "copy") copy_built (standing (given (codes "file") file ∷ given (codes "new") new ∷ given (codes "sectors") sectors ∷ given (codes "format") version ∷ flag_row (codes "why") true ∷ []) None idle 3) refl refl refl walked refl refl refl in
+    record { rows = _; met = read.0; taken = read.1; holds = (refl, refl, refl, refl, refl, refl) }
+copy_read file new sectors (Some version) false h k s v =
+    let walked = goes (plain_step copy_built None 1 file h refl) (goes (plain_step copy_built (Some (codes "file", file ∷ [])) 2 new k refl) (goes (met copy_built (standing (given (codes "file") file ∷ []) (Some (codes "new", new ∷ [])) idle 3) (codes "--sectors") refl) (goes (value_step copy_built (given (codes "file") file ∷ given (codes "new") new ∷ []) (codes "sectors") 3 sectors s.0) (goes (met copy_built (standing (given (codes "file") file ∷ given (codes "new") new ∷ []) (Some (codes "sectors", sectors ∷ [])) idle 3) (codes "--format") (simp s.1)) (goes (value_step copy_built (given (codes "file") file ∷ given (codes "new") new ∷ given (codes "sectors") sectors ∷ []) (codes "format") 3 version v.0) (gone copy_built (standing (given (codes "file") file ∷ given (codes "new") new ∷ given (codes "sectors") sectors ∷ []) (Some (codes "format", version ∷ [])) idle 3))))))) in
+    let read = read_by (file ∷ new ∷ codes "--sectors" ∷ sectors ∷ codes "--format" ∷ version ∷ []) (codes "copy") copy_built (standing (given (codes "file") file ∷ given (codes "new") new ∷ given (codes "sectors") sectors ∷ []) (Some (codes "format", version ∷ [])) idle 3) refl refl refl walked (simp v.1) refl refl in
+    record { rows = _; met = read.0; taken = read.1; holds = (refl, refl, refl, refl, refl, refl) }
+copy_read file new sectors None true h k s v =
     let walked = goes (plain_step copy_built None 1 file h refl) (goes (plain_step copy_built (Some (codes "file", file ∷ [])) 2 new k refl) (goes (met copy_built (standing (given (codes "file") file ∷ []) (Some (codes "new", new ∷ [])) idle 3) (codes "--sectors") refl) (goes (value_step copy_built (given (codes "file") file ∷ given (codes "new") new ∷ []) (codes "sectors") 3 sectors s.0) (goes (met copy_built (standing (given (codes "file") file ∷ given (codes "new") new ∷ []) (Some (codes "sectors", sectors ∷ [])) idle 3) (codes "--why") (simp s.1)) (gone copy_built (standing (given (codes "file") file ∷ given (codes "new") new ∷ given (codes "sectors") sectors ∷ flag_row (codes "why") true ∷ []) None idle 3)))))) in
     let read = read_by (file ∷ new ∷ codes "--sectors" ∷ sectors ∷ codes "--why" ∷ []) (codes "copy") copy_built (standing (given (codes "file") file ∷ given (codes "new") new ∷ given (codes "sectors") sectors ∷ flag_row (codes "why") true ∷ []) None idle 3) refl refl refl walked refl refl refl in
-    record { rows = _; met = read.0; taken = read.1; holds = (refl, refl, refl, refl) }
-copy_read file new sectors false h k s =
+    record { rows = _; met = read.0; taken = read.1; holds = (refl, refl, refl, refl, refl, refl) }
+copy_read file new sectors None false h k s v =
     let walked = goes (plain_step copy_built None 1 file h refl) (goes (plain_step copy_built (Some (codes "file", file ∷ [])) 2 new k refl) (goes (met copy_built (standing (given (codes "file") file ∷ []) (Some (codes "new", new ∷ [])) idle 3) (codes "--sectors") refl) (goes (value_step copy_built (given (codes "file") file ∷ given (codes "new") new ∷ []) (codes "sectors") 3 sectors s.0) (gone copy_built (standing (given (codes "file") file ∷ given (codes "new") new ∷ []) (Some (codes "sectors", sectors ∷ [])) idle 3))))) in
     let read = read_by (file ∷ new ∷ codes "--sectors" ∷ sectors ∷ []) (codes "copy") copy_built (standing (given (codes "file") file ∷ given (codes "new") new ∷ []) (Some (codes "sectors", sectors ∷ [])) idle 3) refl refl refl walked (simp s.1) refl refl in
-    record { rows = _; met = read.0; taken = read.1; holds = (refl, refl, refl, refl) }
+    record { rows = _; met = read.0; taken = read.1; holds = (refl, refl, refl, refl, refl, refl) }
 
 upgrade_read : (file : Text) (version : Option Text) (why : Bool) → IsPlain file → IfSome version (IsChecked MIN_FORMAT MAX_FORMAT)
     → Read (codes "upgrade" ∷ file ∷ option_words (codes "--format") version ++ flag_words (codes "--why") why) (codes "upgrade")
@@ -290,84 +372,148 @@ format_read file sectors None None false false h s v m =
     record { rows = _; met = read.0; taken = read.1; holds = (refl, refl, refl, refl, refl, refl, refl) }
 
 -- what is found for the arguments of `serve`
-abbrev FoundServe : Text → Option Text → Option Text → Bool → List Row → Type 0
-FoundServe file batch pump why rows =
+abbrev FoundServe : Text → Option Text → Option Text → Bool → Bool → List Row → Type 0
+FoundServe file batch pump strict why rows =
     HoldsFile file rows × (one_of (codes "batch") rows ≡ batch) × (first_of (codes "batch") rows ≡ batch)
-    × (one_of (codes "pump") rows ≡ pump) × (first_of (codes "pump") rows ≡ pump) × HoldsFlag (codes "why") why rows
+    × (one_of (codes "pump") rows ≡ pump) × (first_of (codes "pump") rows ≡ pump) × HoldsFlag (codes "strict") strict rows × HoldsFlag (codes "why") why rows
 
-batch_first_read : (file : Text) (batch pump : Option Text) (why : Bool) → IsPlain file → IfSome batch (IsChecked 1 MAX_BATCH) → IfSome pump (IsChecked 1 MAX_PUMP)
-    → Read (codes "serve" ∷ file ∷ option_words (codes "--batch") batch ++ option_words (codes "--pump") pump ++ flag_words (codes "--why") why)
-    (codes "serve") (FoundServe file batch pump why)
+batch_first_read : (file : Text) (batch pump : Option Text) (strict why : Bool) → IsPlain file → IfSome batch (IsChecked 1 MAX_BATCH) → IfSome pump (IsChecked 1 MAX_PUMP)
+    → Read (codes "serve" ∷ file ∷ option_words (codes "--batch") batch ++ option_words (codes "--pump") pump ++ flag_words (codes "--strict") strict ++ flag_words (codes "--why") why)
+    (codes "serve") (FoundServe file batch pump strict why)
 unfolding clap_on_literals
-batch_first_read file (Some batch) (Some pump) true h b p =
+batch_first_read file (Some batch) (Some pump) true true h b p =
+    let walked = goes (plain_step serve_built None 1 file h refl) (goes (met serve_built (standing [] (Some (codes "file", file ∷ [])) idle 2) (codes "--batch") refl) (goes (value_step serve_built (given (codes "file") file ∷ []) (codes "batch") 2 batch b.0) (goes (met serve_built (standing (given (codes "file") file ∷ []) (Some (codes "batch", batch ∷ [])) idle 2) (codes "--pump") (simp b.1)) (goes (value_step serve_built (given (codes "file") file ∷ given (codes "batch") batch ∷ []) (codes "pump") 2 pump p.0) (goes (met serve_built (standing (given (codes "file") file ∷ given (codes "batch") batch ∷ []) (Some (codes "pump", pump ∷ [])) idle 2) (codes "--strict") (simp p.1)) (goes (met serve_built (standing (given (codes "file") file ∷ given (codes "batch") batch ∷ given (codes "pump") pump ∷ flag_row (codes "strict") true ∷ []) None idle 2) (codes "--why") refl) (gone serve_built (standing (given (codes "file") file ∷ given (codes "batch") batch ∷ given (codes "pump") pump ∷ flag_row (codes "strict") true ∷ flag_row (codes "why") true ∷ []) None idle 2)))))))) in
+    let read = read_by (file ∷ codes "--batch" ∷ batch ∷ codes "--pump" ∷ pump ∷ codes "--strict" ∷ codes "--why" ∷ []) (codes "serve") serve_built (standing (given (codes "file") file ∷ given (codes "batch") batch ∷ given (codes "pump") pump ∷ flag_row (codes "strict") true ∷ flag_row (codes "why") true ∷ []) None idle 2) refl refl refl walked refl refl refl in
+    record { rows = _; met = read.0; taken = read.1; holds = (refl, refl, refl, refl, refl, refl, refl) }
+batch_first_read file (Some batch) (Some pump) true false h b p =
+    let walked = goes (plain_step serve_built None 1 file h refl) (goes (met serve_built (standing [] (Some (codes "file", file ∷ [])) idle 2) (codes "--batch") refl) (goes (value_step serve_built (given (codes "file") file ∷ []) (codes "batch") 2 batch b.0) (goes (met serve_built (standing (given (codes "file") file ∷ []) (Some (codes "batch", batch ∷ [])) idle 2) (codes "--pump") (simp b.1)) (goes (value_step serve_built (given (codes "file") file ∷ given (codes "batch") batch ∷ []) (codes "pump") 2 pump p.0) (goes (met serve_built (standing (given (codes "file") file ∷ given (codes "batch") batch ∷ []) (Some (codes "pump", pump ∷ [])) idle 2) (codes "--strict") (simp p.1)) (gone serve_built (standing (given (codes "file") file ∷ given (codes "batch") batch ∷ given (codes "pump") pump ∷ flag_row (codes "strict") true ∷ []) None idle 2))))))) in
+    let read = read_by (file ∷ codes "--batch" ∷ batch ∷ codes "--pump" ∷ pump ∷ codes "--strict" ∷ []) (codes "serve") serve_built (standing (given (codes "file") file ∷ given (codes "batch") batch ∷ given (codes "pump") pump ∷ flag_row (codes "strict") true ∷ []) None idle 2) refl refl refl walked refl refl refl in
+    record { rows = _; met = read.0; taken = read.1; holds = (refl, refl, refl, refl, refl, refl, refl) }
+batch_first_read file (Some batch) (Some pump) false true h b p =
     let walked = goes (plain_step serve_built None 1 file h refl) (goes (met serve_built (standing [] (Some (codes "file", file ∷ [])) idle 2) (codes "--batch") refl) (goes (value_step serve_built (given (codes "file") file ∷ []) (codes "batch") 2 batch b.0) (goes (met serve_built (standing (given (codes "file") file ∷ []) (Some (codes "batch", batch ∷ [])) idle 2) (codes "--pump") (simp b.1)) (goes (value_step serve_built (given (codes "file") file ∷ given (codes "batch") batch ∷ []) (codes "pump") 2 pump p.0) (goes (met serve_built (standing (given (codes "file") file ∷ given (codes "batch") batch ∷ []) (Some (codes "pump", pump ∷ [])) idle 2) (codes "--why") (simp p.1)) (gone serve_built (standing (given (codes "file") file ∷ given (codes "batch") batch ∷ given (codes "pump") pump ∷ flag_row (codes "why") true ∷ []) None idle 2))))))) in
     let read = read_by (file ∷ codes "--batch" ∷ batch ∷ codes "--pump" ∷ pump ∷ codes "--why" ∷ []) (codes "serve") serve_built (standing (given (codes "file") file ∷ given (codes "batch") batch ∷ given (codes "pump") pump ∷ flag_row (codes "why") true ∷ []) None idle 2) refl refl refl walked refl refl refl in
-    record { rows = _; met = read.0; taken = read.1; holds = (refl, refl, refl, refl, refl, refl) }
-batch_first_read file (Some batch) (Some pump) false h b p =
+    record { rows = _; met = read.0; taken = read.1; holds = (refl, refl, refl, refl, refl, refl, refl) }
+batch_first_read file (Some batch) (Some pump) false false h b p =
     let walked = goes (plain_step serve_built None 1 file h refl) (goes (met serve_built (standing [] (Some (codes "file", file ∷ [])) idle 2) (codes "--batch") refl) (goes (value_step serve_built (given (codes "file") file ∷ []) (codes "batch") 2 batch b.0) (goes (met serve_built (standing (given (codes "file") file ∷ []) (Some (codes "batch", batch ∷ [])) idle 2) (codes "--pump") (simp b.1)) (goes (value_step serve_built (given (codes "file") file ∷ given (codes "batch") batch ∷ []) (codes "pump") 2 pump p.0) (gone serve_built (standing (given (codes "file") file ∷ given (codes "batch") batch ∷ []) (Some (codes "pump", pump ∷ [])) idle 2)))))) in
     let read = read_by (file ∷ codes "--batch" ∷ batch ∷ codes "--pump" ∷ pump ∷ []) (codes "serve") serve_built (standing (given (codes "file") file ∷ given (codes "batch") batch ∷ []) (Some (codes "pump", pump ∷ [])) idle 2) refl refl refl walked (simp p.1) refl refl in
-    record { rows = _; met = read.0; taken = read.1; holds = (refl, refl, refl, refl, refl, refl) }
-batch_first_read file (Some batch) None true h b p =
+    record { rows = _; met = read.0; taken = read.1; holds = (refl, refl, refl, refl, refl, refl, refl) }
+batch_first_read file (Some batch) None true true h b p =
+    let walked = goes (plain_step serve_built None 1 file h refl) (goes (met serve_built (standing [] (Some (codes "file", file ∷ [])) idle 2) (codes "--batch") refl) (goes (value_step serve_built (given (codes "file") file ∷ []) (codes "batch") 2 batch b.0) (goes (met serve_built (standing (given (codes "file") file ∷ []) (Some (codes "batch", batch ∷ [])) idle 2) (codes "--strict") (simp b.1)) (goes (met serve_built (standing (given (codes "file") file ∷ given (codes "batch") batch ∷ flag_row (codes "strict") true ∷ []) None idle 2) (codes "--why") refl) (gone serve_built (standing (given (codes "file") file ∷ given (codes "batch") batch ∷ flag_row (codes "strict") true ∷ flag_row (codes "why") true ∷ []) None idle 2)))))) in
+    let read = read_by (file ∷ codes "--batch" ∷ batch ∷ codes "--strict" ∷ codes "--why" ∷ []) (codes "serve") serve_built (standing (given (codes "file") file ∷ given (codes "batch") batch ∷ flag_row (codes "strict") true ∷ flag_row (codes "why") true ∷ []) None idle 2) refl refl refl walked refl refl refl in
+    record { rows = _; met = read.0; taken = read.1; holds = (refl, refl, refl, refl, refl, refl, refl) }
+batch_first_read file (Some batch) None true false h b p =
+    let walked = goes (plain_step serve_built None 1 file h refl) (goes (met serve_built (standing [] (Some (codes "file", file ∷ [])) idle 2) (codes "--batch") refl) (goes (value_step serve_built (given (codes "file") file ∷ []) (codes "batch") 2 batch b.0) (goes (met serve_built (standing (given (codes "file") file ∷ []) (Some (codes "batch", batch ∷ [])) idle 2) (codes "--strict") (simp b.1)) (gone serve_built (standing (given (codes "file") file ∷ given (codes "batch") batch ∷ flag_row (codes "strict") true ∷ []) None idle 2))))) in
+    let read = read_by (file ∷ codes "--batch" ∷ batch ∷ codes "--strict" ∷ []) (codes "serve") serve_built (standing (given (codes "file") file ∷ given (codes "batch") batch ∷ flag_row (codes "strict") true ∷ []) None idle 2) refl refl refl walked refl refl refl in
+    record { rows = _; met = read.0; taken = read.1; holds = (refl, refl, refl, refl, refl, refl, refl) }
+batch_first_read file (Some batch) None false true h b p =
     let walked = goes (plain_step serve_built None 1 file h refl) (goes (met serve_built (standing [] (Some (codes "file", file ∷ [])) idle 2) (codes "--batch") refl) (goes (value_step serve_built (given (codes "file") file ∷ []) (codes "batch") 2 batch b.0) (goes (met serve_built (standing (given (codes "file") file ∷ []) (Some (codes "batch", batch ∷ [])) idle 2) (codes "--why") (simp b.1)) (gone serve_built (standing (given (codes "file") file ∷ given (codes "batch") batch ∷ flag_row (codes "why") true ∷ []) None idle 2))))) in
     let read = read_by (file ∷ codes "--batch" ∷ batch ∷ codes "--why" ∷ []) (codes "serve") serve_built (standing (given (codes "file") file ∷ given (codes "batch") batch ∷ flag_row (codes "why") true ∷ []) None idle 2) refl refl refl walked refl refl refl in
-    record { rows = _; met = read.0; taken = read.1; holds = (refl, refl, refl, refl, refl, refl) }
-batch_first_read file (Some batch) None false h b p =
+    record { rows = _; met = read.0; taken = read.1; holds = (refl, refl, refl, refl, refl, refl, refl) }
+batch_first_read file (Some batch) None false false h b p =
     let walked = goes (plain_step serve_built None 1 file h refl) (goes (met serve_built (standing [] (Some (codes "file", file ∷ [])) idle 2) (codes "--batch") refl) (goes (value_step serve_built (given (codes "file") file ∷ []) (codes "batch") 2 batch b.0) (gone serve_built (standing (given (codes "file") file ∷ []) (Some (codes "batch", batch ∷ [])) idle 2)))) in
     let read = read_by (file ∷ codes "--batch" ∷ batch ∷ []) (codes "serve") serve_built (standing (given (codes "file") file ∷ []) (Some (codes "batch", batch ∷ [])) idle 2) refl refl refl walked (simp b.1) refl refl in
-    record { rows = _; met = read.0; taken = read.1; holds = (refl, refl, refl, refl, refl, refl) }
-batch_first_read file None (Some pump) true h b p =
+    record { rows = _; met = read.0; taken = read.1; holds = (refl, refl, refl, refl, refl, refl, refl) }
+batch_first_read file None (Some pump) true true h b p =
+    let walked = goes (plain_step serve_built None 1 file h refl) (goes (met serve_built (standing [] (Some (codes "file", file ∷ [])) idle 2) (codes "--pump") refl) (goes (value_step serve_built (given (codes "file") file ∷ []) (codes "pump") 2 pump p.0) (goes (met serve_built (standing (given (codes "file") file ∷ []) (Some (codes "pump", pump ∷ [])) idle 2) (codes "--strict") (simp p.1)) (goes (met serve_built (standing (given (codes "file") file ∷ given (codes "pump") pump ∷ flag_row (codes "strict") true ∷ []) None idle 2) (codes "--why") refl) (gone serve_built (standing (given (codes "file") file ∷ given (codes "pump") pump ∷ flag_row (codes "strict") true ∷ flag_row (codes "why") true ∷ []) None idle 2)))))) in
+    let read = read_by (file ∷ codes "--pump" ∷ pump ∷ codes "--strict" ∷ codes "--why" ∷ []) (codes "serve") serve_built (standing (given (codes "file") file ∷ given (codes "pump") pump ∷ flag_row (codes "strict") true ∷ flag_row (codes "why") true ∷ []) None idle 2) refl refl refl walked refl refl refl in
+    record { rows = _; met = read.0; taken = read.1; holds = (refl, refl, refl, refl, refl, refl, refl) }
+batch_first_read file None (Some pump) true false h b p =
+    let walked = goes (plain_step serve_built None 1 file h refl) (goes (met serve_built (standing [] (Some (codes "file", file ∷ [])) idle 2) (codes "--pump") refl) (goes (value_step serve_built (given (codes "file") file ∷ []) (codes "pump") 2 pump p.0) (goes (met serve_built (standing (given (codes "file") file ∷ []) (Some (codes "pump", pump ∷ [])) idle 2) (codes "--strict") (simp p.1)) (gone serve_built (standing (given (codes "file") file ∷ given (codes "pump") pump ∷ flag_row (codes "strict") true ∷ []) None idle 2))))) in
+    let read = read_by (file ∷ codes "--pump" ∷ pump ∷ codes "--strict" ∷ []) (codes "serve") serve_built (standing (given (codes "file") file ∷ given (codes "pump") pump ∷ flag_row (codes "strict") true ∷ []) None idle 2) refl refl refl walked refl refl refl in
+    record { rows = _; met = read.0; taken = read.1; holds = (refl, refl, refl, refl, refl, refl, refl) }
+batch_first_read file None (Some pump) false true h b p =
     let walked = goes (plain_step serve_built None 1 file h refl) (goes (met serve_built (standing [] (Some (codes "file", file ∷ [])) idle 2) (codes "--pump") refl) (goes (value_step serve_built (given (codes "file") file ∷ []) (codes "pump") 2 pump p.0) (goes (met serve_built (standing (given (codes "file") file ∷ []) (Some (codes "pump", pump ∷ [])) idle 2) (codes "--why") (simp p.1)) (gone serve_built (standing (given (codes "file") file ∷ given (codes "pump") pump ∷ flag_row (codes "why") true ∷ []) None idle 2))))) in
     let read = read_by (file ∷ codes "--pump" ∷ pump ∷ codes "--why" ∷ []) (codes "serve") serve_built (standing (given (codes "file") file ∷ given (codes "pump") pump ∷ flag_row (codes "why") true ∷ []) None idle 2) refl refl refl walked refl refl refl in
-    record { rows = _; met = read.0; taken = read.1; holds = (refl, refl, refl, refl, refl, refl) }
-batch_first_read file None (Some pump) false h b p =
+    record { rows = _; met = read.0; taken = read.1; holds = (refl, refl, refl, refl, refl, refl, refl) }
+batch_first_read file None (Some pump) false false h b p =
     let walked = goes (plain_step serve_built None 1 file h refl) (goes (met serve_built (standing [] (Some (codes "file", file ∷ [])) idle 2) (codes "--pump") refl) (goes (value_step serve_built (given (codes "file") file ∷ []) (codes "pump") 2 pump p.0) (gone serve_built (standing (given (codes "file") file ∷ []) (Some (codes "pump", pump ∷ [])) idle 2)))) in
     let read = read_by (file ∷ codes "--pump" ∷ pump ∷ []) (codes "serve") serve_built (standing (given (codes "file") file ∷ []) (Some (codes "pump", pump ∷ [])) idle 2) refl refl refl walked (simp p.1) refl refl in
-    record { rows = _; met = read.0; taken = read.1; holds = (refl, refl, refl, refl, refl, refl) }
-batch_first_read file None None true h b p =
+    record { rows = _; met = read.0; taken = read.1; holds = (refl, refl, refl, refl, refl, refl, refl) }
+batch_first_read file None None true true h b p =
+    let walked = goes (plain_step serve_built None 1 file h refl) (goes (met serve_built (standing [] (Some (codes "file", file ∷ [])) idle 2) (codes "--strict") refl) (goes (met serve_built (standing (given (codes "file") file ∷ flag_row (codes "strict") true ∷ []) None idle 2) (codes "--why") refl) (gone serve_built (standing (given (codes "file") file ∷ flag_row (codes "strict") true ∷ flag_row (codes "why") true ∷ []) None idle 2)))) in
+    let read = read_by (file ∷ codes "--strict" ∷ codes "--why" ∷ []) (codes "serve") serve_built (standing (given (codes "file") file ∷ flag_row (codes "strict") true ∷ flag_row (codes "why") true ∷ []) None idle 2) refl refl refl walked refl refl refl in
+    record { rows = _; met = read.0; taken = read.1; holds = (refl, refl, refl, refl, refl, refl, refl) }
+batch_first_read file None None true false h b p =
+    let walked = goes (plain_step serve_built None 1 file h refl) (goes (met serve_built (standing [] (Some (codes "file", file ∷ [])) idle 2) (codes "--strict") refl) (gone serve_built (standing (given (codes "file") file ∷ flag_row (codes "strict") true ∷ []) None idle 2))) in
+    let read = read_by (file ∷ codes "--strict" ∷ []) (codes "serve") serve_built (standing (given (codes "file") file ∷ flag_row (codes "strict") true ∷ []) None idle 2) refl refl refl walked refl refl refl in
+    record { rows = _; met = read.0; taken = read.1; holds = (refl, refl, refl, refl, refl, refl, refl) }
+batch_first_read file None None false true h b p =
     let walked = goes (plain_step serve_built None 1 file h refl) (goes (met serve_built (standing [] (Some (codes "file", file ∷ [])) idle 2) (codes "--why") refl) (gone serve_built (standing (given (codes "file") file ∷ flag_row (codes "why") true ∷ []) None idle 2))) in
     let read = read_by (file ∷ codes "--why" ∷ []) (codes "serve") serve_built (standing (given (codes "file") file ∷ flag_row (codes "why") true ∷ []) None idle 2) refl refl refl walked refl refl refl in
-    record { rows = _; met = read.0; taken = read.1; holds = (refl, refl, refl, refl, refl, refl) }
-batch_first_read file None None false h b p =
+    record { rows = _; met = read.0; taken = read.1; holds = (refl, refl, refl, refl, refl, refl, refl) }
+batch_first_read file None None false false h b p =
     let walked = goes (plain_step serve_built None 1 file h refl) (gone serve_built (standing [] (Some (codes "file", file ∷ [])) idle 2)) in
     let read = read_by (file ∷ []) (codes "serve") serve_built (standing [] (Some (codes "file", file ∷ [])) idle 2) refl refl refl walked refl refl refl in
-    record { rows = _; met = read.0; taken = read.1; holds = (refl, refl, refl, refl, refl, refl) }
+    record { rows = _; met = read.0; taken = read.1; holds = (refl, refl, refl, refl, refl, refl, refl) }
 
-pump_first_read : (file : Text) (batch pump : Option Text) (why : Bool) → IsPlain file → IfSome batch (IsChecked 1 MAX_BATCH) → IfSome pump (IsChecked 1 MAX_PUMP)
-    → Read (codes "serve" ∷ file ∷ option_words (codes "--pump") pump ++ option_words (codes "--batch") batch ++ flag_words (codes "--why") why)
-    (codes "serve") (FoundServe file batch pump why)
+pump_first_read : (file : Text) (batch pump : Option Text) (strict why : Bool) → IsPlain file → IfSome batch (IsChecked 1 MAX_BATCH) → IfSome pump (IsChecked 1 MAX_PUMP)
+    → Read (codes "serve" ∷ file ∷ option_words (codes "--pump") pump ++ option_words (codes "--batch") batch ++ flag_words (codes "--strict") strict ++ flag_words (codes "--why") why)
+    (codes "serve") (FoundServe file batch pump strict why)
 unfolding clap_on_literals
-pump_first_read file (Some batch) (Some pump) true h b p =
+pump_first_read file (Some batch) (Some pump) true true h b p =
+    let walked = goes (plain_step serve_built None 1 file h refl) (goes (met serve_built (standing [] (Some (codes "file", file ∷ [])) idle 2) (codes "--pump") refl) (goes (value_step serve_built (given (codes "file") file ∷ []) (codes "pump") 2 pump p.0) (goes (met serve_built (standing (given (codes "file") file ∷ []) (Some (codes "pump", pump ∷ [])) idle 2) (codes "--batch") (simp p.1)) (goes (value_step serve_built (given (codes "file") file ∷ given (codes "pump") pump ∷ []) (codes "batch") 2 batch b.0) (goes (met serve_built (standing (given (codes "file") file ∷ given (codes "pump") pump ∷ []) (Some (codes "batch", batch ∷ [])) idle 2) (codes "--strict") (simp b.1)) (goes (met serve_built (standing (given (codes "file") file ∷ given (codes "pump") pump ∷ given (codes "batch") batch ∷ flag_row (codes "strict") true ∷ []) None idle 2) (codes "--why") refl) (gone serve_built (standing (given (codes "file") file ∷ given (codes "pump") pump ∷ given (codes "batch") batch ∷ flag_row (codes "strict") true ∷ flag_row (codes "why") true ∷ []) None idle 2)))))))) in
+    let read = read_by (file ∷ codes "--pump" ∷ pump ∷ codes "--batch" ∷ batch ∷ codes "--strict" ∷ codes "--why" ∷ []) (codes "serve") serve_built (standing (given (codes "file") file ∷ given (codes "pump") pump ∷ given (codes "batch") batch ∷ flag_row (codes "strict") true ∷ flag_row (codes "why") true ∷ []) None idle 2) refl refl refl walked refl refl refl in
+    record { rows = _; met = read.0; taken = read.1; holds = (refl, refl, refl, refl, refl, refl, refl) }
+pump_first_read file (Some batch) (Some pump) true false h b p =
+    let walked = goes (plain_step serve_built None 1 file h refl) (goes (met serve_built (standing [] (Some (codes "file", file ∷ [])) idle 2) (codes "--pump") refl) (goes (value_step serve_built (given (codes "file") file ∷ []) (codes "pump") 2 pump p.0) (goes (met serve_built (standing (given (codes "file") file ∷ []) (Some (codes "pump", pump ∷ [])) idle 2) (codes "--batch") (simp p.1)) (goes (value_step serve_built (given (codes "file") file ∷ given (codes "pump") pump ∷ []) (codes "batch") 2 batch b.0) (goes (met serve_built (standing (given (codes "file") file ∷ given (codes "pump") pump ∷ []) (Some (codes "batch", batch ∷ [])) idle 2) (codes "--strict") (simp b.1)) (gone serve_built (standing (given (codes "file") file ∷ given (codes "pump") pump ∷ given (codes "batch") batch ∷ flag_row (codes "strict") true ∷ []) None idle 2))))))) in
+    let read = read_by (file ∷ codes "--pump" ∷ pump ∷ codes "--batch" ∷ batch ∷ codes "--strict" ∷ []) (codes "serve") serve_built (standing (given (codes "file") file ∷ given (codes "pump") pump ∷ given (codes "batch") batch ∷ flag_row (codes "strict") true ∷ []) None idle 2) refl refl refl walked refl refl refl in
+    record { rows = _; met = read.0; taken = read.1; holds = (refl, refl, refl, refl, refl, refl, refl) }
+pump_first_read file (Some batch) (Some pump) false true h b p =
     let walked = goes (plain_step serve_built None 1 file h refl) (goes (met serve_built (standing [] (Some (codes "file", file ∷ [])) idle 2) (codes "--pump") refl) (goes (value_step serve_built (given (codes "file") file ∷ []) (codes "pump") 2 pump p.0) (goes (met serve_built (standing (given (codes "file") file ∷ []) (Some (codes "pump", pump ∷ [])) idle 2) (codes "--batch") (simp p.1)) (goes (value_step serve_built (given (codes "file") file ∷ given (codes "pump") pump ∷ []) (codes "batch") 2 batch b.0) (goes (met serve_built (standing (given (codes "file") file ∷ given (codes "pump") pump ∷ []) (Some (codes "batch", batch ∷ [])) idle 2) (codes "--why") (simp b.1)) (gone serve_built (standing (given (codes "file") file ∷ given (codes "pump") pump ∷ given (codes "batch") batch ∷ flag_row (codes "why") true ∷ []) None idle 2))))))) in
     let read = read_by (file ∷ codes "--pump" ∷ pump ∷ codes "--batch" ∷ batch ∷ codes "--why" ∷ []) (codes "serve") serve_built (standing (given (codes "file") file ∷ given (codes "pump") pump ∷ given (codes "batch") batch ∷ flag_row (codes "why") true ∷ []) None idle 2) refl refl refl walked refl refl refl in
-    record { rows = _; met = read.0; taken = read.1; holds = (refl, refl, refl, refl, refl, refl) }
-pump_first_read file (Some batch) (Some pump) false h b p =
+    record { rows = _; met = read.0; taken = read.1; holds = (refl, refl, refl, refl, refl, refl, refl) }
+pump_first_read file (Some batch) (Some pump) false false h b p =
     let walked = goes (plain_step serve_built None 1 file h refl) (goes (met serve_built (standing [] (Some (codes "file", file ∷ [])) idle 2) (codes "--pump") refl) (goes (value_step serve_built (given (codes "file") file ∷ []) (codes "pump") 2 pump p.0) (goes (met serve_built (standing (given (codes "file") file ∷ []) (Some (codes "pump", pump ∷ [])) idle 2) (codes "--batch") (simp p.1)) (goes (value_step serve_built (given (codes "file") file ∷ given (codes "pump") pump ∷ []) (codes "batch") 2 batch b.0) (gone serve_built (standing (given (codes "file") file ∷ given (codes "pump") pump ∷ []) (Some (codes "batch", batch ∷ [])) idle 2)))))) in
     let read = read_by (file ∷ codes "--pump" ∷ pump ∷ codes "--batch" ∷ batch ∷ []) (codes "serve") serve_built (standing (given (codes "file") file ∷ given (codes "pump") pump ∷ []) (Some (codes "batch", batch ∷ [])) idle 2) refl refl refl walked (simp b.1) refl refl in
-    record { rows = _; met = read.0; taken = read.1; holds = (refl, refl, refl, refl, refl, refl) }
-pump_first_read file None (Some pump) true h b p =
-    let walked = goes (plain_step serve_built None 1 file h refl) (goes (met serve_built (standing [] (Some (codes "file", file ∷ [])) idle 2) (codes "--pump") refl) (goes (value_step serve_built (given (codes "file") file ∷ []) (codes "pump") 2 pump p.0) (goes (met serve_built (standing (given (codes "file") file ∷ []) (Some (codes "pump", pump ∷ [])) idle 2) (codes "--why") (simp p.1)) (gone serve_built (standing (given (codes "file") file ∷ given (codes "pump") pump ∷ flag_row (codes "why") true ∷ []) None idle 2))))) in
-    let read = read_by (file ∷ codes "--pump" ∷ pump ∷ codes "--why" ∷ []) (codes "serve") serve_built (standing (given (codes "file") file ∷ given (codes "pump") pump ∷ flag_row (codes "why") true ∷ []) None idle 2) refl refl refl walked refl refl refl in
-    record { rows = _; met = read.0; taken = read.1; holds = (refl, refl, refl, refl, refl, refl) }
-pump_first_read file None (Some pump) false h b p =
-    let walked = goes (plain_step serve_built None 1 file h refl) (goes (met serve_built (standing [] (Some (codes "file", file ∷ [])) idle 2) (codes "--pump") refl) (goes (value_step serve_built (given (codes "file") file ∷ []) (codes "pump") 2 pump p.0) (gone serve_built (standing (given (codes "file") file ∷ []) (Some (codes "pump", pump ∷ [])) idle 2)))) in
-    let read = read_by (file ∷ codes "--pump" ∷ pump ∷ []) (codes "serve") serve_built (standing (given (codes "file") file ∷ []) (Some (codes "pump", pump ∷ [])) idle 2) refl refl refl walked (simp p.1) refl refl in
-    record { rows = _; met = read.0; taken = read.1; holds = (refl, refl, refl, refl, refl, refl) }
-pump_first_read file (Some batch) None true h b p =
+    record { rows = _; met = read.0; taken = read.1; holds = (refl, refl, refl, refl, refl, refl, refl) }
+pump_first_read file (Some batch) None true true h b p =
+    let walked = goes (plain_step serve_built None 1 file h refl) (goes (met serve_built (standing [] (Some (codes "file", file ∷ [])) idle 2) (codes "--batch") refl) (goes (value_step serve_built (given (codes "file") file ∷ []) (codes "batch") 2 batch b.0) (goes (met serve_built (standing (given (codes "file") file ∷ []) (Some (codes "batch", batch ∷ [])) idle 2) (codes "--strict") (simp b.1)) (goes (met serve_built (standing (given (codes "file") file ∷ given (codes "batch") batch ∷ flag_row (codes "strict") true ∷ []) None idle 2) (codes "--why") refl) (gone serve_built (standing (given (codes "file") file ∷ given (codes "batch") batch ∷ flag_row (codes "strict") true ∷ flag_row (codes "why") true ∷ []) None idle 2)))))) in
+    let read = read_by (file ∷ codes "--batch" ∷ batch ∷ codes "--strict" ∷ codes "--why" ∷ []) (codes "serve") serve_built (standing (given (codes "file") file ∷ given (codes "batch") batch ∷ flag_row (codes "strict") true ∷ flag_row (codes "why") true ∷ []) None idle 2) refl refl refl walked refl refl refl in
+    record { rows = _; met = read.0; taken = read.1; holds = (refl, refl, refl, refl, refl, refl, refl) }
+pump_first_read file (Some batch) None true false h b p =
+    let walked = goes (plain_step serve_built None 1 file h refl) (goes (met serve_built (standing [] (Some (codes "file", file ∷ [])) idle 2) (codes "--batch") refl) (goes (value_step serve_built (given (codes "file") file ∷ []) (codes "batch") 2 batch b.0) (goes (met serve_built (standing (given (codes "file") file ∷ []) (Some (codes "batch", batch ∷ [])) idle 2) (codes "--strict") (simp b.1)) (gone serve_built (standing (given (codes "file") file ∷ given (codes "batch") batch ∷ flag_row (codes "strict") true ∷ []) None idle 2))))) in
+    let read = read_by (file ∷ codes "--batch" ∷ batch ∷ codes "--strict" ∷ []) (codes "serve") serve_built (standing (given (codes "file") file ∷ given (codes "batch") batch ∷ flag_row (codes "strict") true ∷ []) None idle 2) refl refl refl walked refl refl refl in
+    record { rows = _; met = read.0; taken = read.1; holds = (refl, refl, refl, refl, refl, refl, refl) }
+pump_first_read file (Some batch) None false true h b p =
     let walked = goes (plain_step serve_built None 1 file h refl) (goes (met serve_built (standing [] (Some (codes "file", file ∷ [])) idle 2) (codes "--batch") refl) (goes (value_step serve_built (given (codes "file") file ∷ []) (codes "batch") 2 batch b.0) (goes (met serve_built (standing (given (codes "file") file ∷ []) (Some (codes "batch", batch ∷ [])) idle 2) (codes "--why") (simp b.1)) (gone serve_built (standing (given (codes "file") file ∷ given (codes "batch") batch ∷ flag_row (codes "why") true ∷ []) None idle 2))))) in
     let read = read_by (file ∷ codes "--batch" ∷ batch ∷ codes "--why" ∷ []) (codes "serve") serve_built (standing (given (codes "file") file ∷ given (codes "batch") batch ∷ flag_row (codes "why") true ∷ []) None idle 2) refl refl refl walked refl refl refl in
-    record { rows = _; met = read.0; taken = read.1; holds = (refl, refl, refl, refl, refl, refl) }
-pump_first_read file (Some batch) None false h b p =
+    record { rows = _; met = read.0; taken = read.1; holds = (refl, refl, refl, refl, refl, refl, refl) }
+pump_first_read file (Some batch) None false false h b p =
     let walked = goes (plain_step serve_built None 1 file h refl) (goes (met serve_built (standing [] (Some (codes "file", file ∷ [])) idle 2) (codes "--batch") refl) (goes (value_step serve_built (given (codes "file") file ∷ []) (codes "batch") 2 batch b.0) (gone serve_built (standing (given (codes "file") file ∷ []) (Some (codes "batch", batch ∷ [])) idle 2)))) in
     let read = read_by (file ∷ codes "--batch" ∷ batch ∷ []) (codes "serve") serve_built (standing (given (codes "file") file ∷ []) (Some (codes "batch", batch ∷ [])) idle 2) refl refl refl walked (simp b.1) refl refl in
-    record { rows = _; met = read.0; taken = read.1; holds = (refl, refl, refl, refl, refl, refl) }
-pump_first_read file None None true h b p =
+    record { rows = _; met = read.0; taken = read.1; holds = (refl, refl, refl, refl, refl, refl, refl) }
+pump_first_read file None (Some pump) true true h b p =
+    let walked = goes (plain_step serve_built None 1 file h refl) (goes (met serve_built (standing [] (Some (codes "file", file ∷ [])) idle 2) (codes "--pump") refl) (goes (value_step serve_built (given (codes "file") file ∷ []) (codes "pump") 2 pump p.0) (goes (met serve_built (standing (given (codes "file") file ∷ []) (Some (codes "pump", pump ∷ [])) idle 2) (codes "--strict") (simp p.1)) (goes (met serve_built (standing (given (codes "file") file ∷ given (codes "pump") pump ∷ flag_row (codes "strict") true ∷ []) None idle 2) (codes "--why") refl) (gone serve_built (standing (given (codes "file") file ∷ given (codes "pump") pump ∷ flag_row (codes "strict") true ∷ flag_row (codes "why") true ∷ []) None idle 2)))))) in
+    let read = read_by (file ∷ codes "--pump" ∷ pump ∷ codes "--strict" ∷ codes "--why" ∷ []) (codes "serve") serve_built (standing (given (codes "file") file ∷ given (codes "pump") pump ∷ flag_row (codes "strict") true ∷ flag_row (codes "why") true ∷ []) None idle 2) refl refl refl walked refl refl refl in
+    record { rows = _; met = read.0; taken = read.1; holds = (refl, refl, refl, refl, refl, refl, refl) }
+pump_first_read file None (Some pump) true false h b p =
+    let walked = goes (plain_step serve_built None 1 file h refl) (goes (met serve_built (standing [] (Some (codes "file", file ∷ [])) idle 2) (codes "--pump") refl) (goes (value_step serve_built (given (codes "file") file ∷ []) (codes "pump") 2 pump p.0) (goes (met serve_built (standing (given (codes "file") file ∷ []) (Some (codes "pump", pump ∷ [])) idle 2) (codes "--strict") (simp p.1)) (gone serve_built (standing (given (codes "file") file ∷ given (codes "pump") pump ∷ flag_row (codes "strict") true ∷ []) None idle 2))))) in
+    let read = read_by (file ∷ codes "--pump" ∷ pump ∷ codes "--strict" ∷ []) (codes "serve") serve_built (standing (given (codes "file") file ∷ given (codes "pump") pump ∷ flag_row (codes "strict") true ∷ []) None idle 2) refl refl refl walked refl refl refl in
+    record { rows = _; met = read.0; taken = read.1; holds = (refl, refl, refl, refl, refl, refl, refl) }
+pump_first_read file None (Some pump) false true h b p =
+    let walked = goes (plain_step serve_built None 1 file h refl) (goes (met serve_built (standing [] (Some (codes "file", file ∷ [])) idle 2) (codes "--pump") refl) (goes (value_step serve_built (given (codes "file") file ∷ []) (codes "pump") 2 pump p.0) (goes (met serve_built (standing (given (codes "file") file ∷ []) (Some (codes "pump", pump ∷ [])) idle 2) (codes "--why") (simp p.1)) (gone serve_built (standing (given (codes "file") file ∷ given (codes "pump") pump ∷ flag_row (codes "why") true ∷ []) None idle 2))))) in
+    let read = read_by (file ∷ codes "--pump" ∷ pump ∷ codes "--why" ∷ []) (codes "serve") serve_built (standing (given (codes "file") file ∷ given (codes "pump") pump ∷ flag_row (codes "why") true ∷ []) None idle 2) refl refl refl walked refl refl refl in
+    record { rows = _; met = read.0; taken = read.1; holds = (refl, refl, refl, refl, refl, refl, refl) }
+pump_first_read file None (Some pump) false false h b p =
+    let walked = goes (plain_step serve_built None 1 file h refl) (goes (met serve_built (standing [] (Some (codes "file", file ∷ [])) idle 2) (codes "--pump") refl) (goes (value_step serve_built (given (codes "file") file ∷ []) (codes "pump") 2 pump p.0) (gone serve_built (standing (given (codes "file") file ∷ []) (Some (codes "pump", pump ∷ [])) idle 2)))) in
+    let read = read_by (file ∷ codes "--pump" ∷ pump ∷ []) (codes "serve") serve_built (standing (given (codes "file") file ∷ []) (Some (codes "pump", pump ∷ [])) idle 2) refl refl refl walked (simp p.1) refl refl in
+    record { rows = _; met = read.0; taken = read.1; holds = (refl, refl, refl, refl, refl, refl, refl) }
+pump_first_read file None None true true h b p =
+    let walked = goes (plain_step serve_built None 1 file h refl) (goes (met serve_built (standing [] (Some (codes "file", file ∷ [])) idle 2) (codes "--strict") refl) (goes (met serve_built (standing (given (codes "file") file ∷ flag_row (codes "strict") true ∷ []) None idle 2) (codes "--why") refl) (gone serve_built (standing (given (codes "file") file ∷ flag_row (codes "strict") true ∷ flag_row (codes "why") true ∷ []) None idle 2)))) in
+    let read = read_by (file ∷ codes "--strict" ∷ codes "--why" ∷ []) (codes "serve") serve_built (standing (given (codes "file") file ∷ flag_row (codes "strict") true ∷ flag_row (codes "why") true ∷ []) None idle 2) refl refl refl walked refl refl refl in
+    record { rows = _; met = read.0; taken = read.1; holds = (refl, refl, refl, refl, refl, refl, refl) }
+pump_first_read file None None true false h b p =
+    let walked = goes (plain_step serve_built None 1 file h refl) (goes (met serve_built (standing [] (Some (codes "file", file ∷ [])) idle 2) (codes "--strict") refl) (gone serve_built (standing (given (codes "file") file ∷ flag_row (codes "strict") true ∷ []) None idle 2))) in
+    let read = read_by (file ∷ codes "--strict" ∷ []) (codes "serve") serve_built (standing (given (codes "file") file ∷ flag_row (codes "strict") true ∷ []) None idle 2) refl refl refl walked refl refl refl in
+    record { rows = _; met = read.0; taken = read.1; holds = (refl, refl, refl, refl, refl, refl, refl) }
+pump_first_read file None None false true h b p =
     let walked = goes (plain_step serve_built None 1 file h refl) (goes (met serve_built (standing [] (Some (codes "file", file ∷ [])) idle 2) (codes "--why") refl) (gone serve_built (standing (given (codes "file") file ∷ flag_row (codes "why") true ∷ []) None idle 2))) in
     let read = read_by (file ∷ codes "--why" ∷ []) (codes "serve") serve_built (standing (given (codes "file") file ∷ flag_row (codes "why") true ∷ []) None idle 2) refl refl refl walked refl refl refl in
-    record { rows = _; met = read.0; taken = read.1; holds = (refl, refl, refl, refl, refl, refl) }
-pump_first_read file None None false h b p =
+    record { rows = _; met = read.0; taken = read.1; holds = (refl, refl, refl, refl, refl, refl, refl) }
+pump_first_read file None None false false h b p =
     let walked = goes (plain_step serve_built None 1 file h refl) (gone serve_built (standing [] (Some (codes "file", file ∷ [])) idle 2)) in
     let read = read_by (file ∷ []) (codes "serve") serve_built (standing [] (Some (codes "file", file ∷ [])) idle 2) refl refl refl walked refl refl refl in
-    record { rows = _; met = read.0; taken = read.1; holds = (refl, refl, refl, refl, refl, refl) }
+    record { rows = _; met = read.0; taken = read.1; holds = (refl, refl, refl, refl, refl, refl, refl) }
 
 -- ---- all rows
 
@@ -423,19 +569,19 @@ mode_found mode words (inr absent) = record {
   held = λ rows first. inr (absent.0, first);
 }
 
-served : (file : Text) (batch pump : ℕ) (why : Bool) (words batches pumps : List Text) → IsPlain file → InRange (serve file batch pump)
+served : (file : Text) (batch pump : ℕ) (strict why : Bool) (words batches pumps : List Text) → IsPlain file → InRange (serve file batch pump strict)
     → IsOptional (codes "--batch") (codes "batch") 1 1 MAX_BATCH batch batches → IsOptional (codes "--pump") (codes "pump") 0 1 MAX_PUMP pump pumps
-    → IsReadAs (codes "serve" ∷ file ∷ batches ++ pumps ++ flag_words (codes "--why") why) (serve file batch pump) why
-    × IsReadAs (codes "serve" ∷ file ∷ pumps ++ batches ++ flag_words (codes "--why") why) (serve file batch pump) why
-served file batch pump why words batches pumps h range b p =
-    let one = batch_first_read file b.text p.text why h b.fits p.fits in
-    let other = pump_first_read file b.text p.text why h b.fits p.fits in
+    → IsReadAs (codes "serve" ∷ file ∷ batches ++ pumps ++ flag_words (codes "--strict") strict ++ flag_words (codes "--why") why) (serve file batch pump strict) why
+    × IsReadAs (codes "serve" ∷ file ∷ pumps ++ batches ++ flag_words (codes "--strict") strict ++ flag_words (codes "--why") why) (serve file batch pump strict) why
+served file batch pump strict why words batches pumps h range b p =
+    let one = batch_first_read file b.text p.text strict why h b.fits p.fits in
+    let other = pump_first_read file b.text p.text strict why h b.fits p.fits in
     let held = one.holds in
     let turned = other.holds in
-    let first : IsReadAs (codes "serve" ∷ file ∷ option_words (codes "--batch") b.text ++ option_words (codes "--pump") p.text ++ flag_words (codes "--why") why) (serve file batch pump) why =
-    (((one.rows, one.met, (held.0, b.held one.rows held.1 held.2, p.held one.rows held.3 held.4)), (one.rows, one.met, held.5)), one.taken) in
-    let second : IsReadAs (codes "serve" ∷ file ∷ option_words (codes "--pump") p.text ++ option_words (codes "--batch") b.text ++ flag_words (codes "--why") why) (serve file batch pump) why =
-    (((other.rows, other.met, (turned.0, b.held other.rows turned.1 turned.2, p.held other.rows turned.3 turned.4)), (other.rows, other.met, turned.5)), other.taken) in
+    let first : IsReadAs (codes "serve" ∷ file ∷ option_words (codes "--batch") b.text ++ option_words (codes "--pump") p.text ++ flag_words (codes "--strict") strict ++ flag_words (codes "--why") why) (serve file batch pump strict) why =
+    (((one.rows, one.met, (held.0, b.held one.rows held.1 held.2, p.held one.rows held.3 held.4, held.5)), (one.rows, one.met, held.6)), one.taken) in
+    let second : IsReadAs (codes "serve" ∷ file ∷ option_words (codes "--pump") p.text ++ option_words (codes "--batch") b.text ++ flag_words (codes "--strict") strict ++ flag_words (codes "--why") why) (serve file batch pump strict) why =
+    (((other.rows, other.met, (turned.0, b.held other.rows turned.1 turned.2, p.held other.rows turned.3 turned.4, turned.5)), (other.rows, other.met, turned.6)), other.taken) in
     rw b.is (rw p.is (first, second))
 
 -- words that are a call's row are taken and mean that call
@@ -449,23 +595,29 @@ read_as_row (format file n version mode sparse) why words range (h, formats, mod
     let meant : IsReadAs (codes "format" ∷ file ∷ codes "--sectors" ∷ decimal n ∷ option_words (codes "--format") chosen.text ++ option_words (codes "--mode") moded.text ++ flag_words (codes "--sparse") sparse ++ flag_words (codes "--why") why) (format file n version mode sparse) why =
     (((read.rows, read.met, (held.0, (decimal n, held.1, sectors.spells), chosen.held read.rows held.2 held.3, moded.held read.rows held.4, held.5)), (read.rows, read.met, held.6)), read.taken) in
     rw row (rw chosen.is (rw moded.is meant))
-read_as_row (serve file batch pump) why words range (h, batches, pumps, options, b, p, order, row) =
+read_as_row (serve file batch pump strict) why words range (h, batches, pumps, options, b, p, order, row) =
     let first = optional (codes "--batch") (codes "batch") 1 1 MAX_BATCH batch batches (λ one. one) range.0.1 (omega arith) b in
     let second = optional (codes "--pump") (codes "pump") 0 1 MAX_PUMP pump pumps (λ one. one) range.1 (omega arith) p in
-    let both = served file batch pump why words batches pumps (plain file h) range first second in
+    let both = served file batch pump strict why words batches pumps (plain file h) range first second in
     elim order [ inl same ↦ rw row (rw same both.0) | inr same ↦ rw row (rw same both.1) ]
-read_as_row (check file) why words range row =
-    let read = check_read file why (plain file row.0) in
-    let meant : IsReadAs (codes "check" ∷ file ∷ flag_words (codes "--why") why) (check file) why =
+read_as_row (check file strict) why words range row =
+    let read = check_read file strict why (plain file row.0) in
+    let meant : IsReadAs (codes "check" ∷ file ∷ flag_words (codes "--strict") strict ++ flag_words (codes "--why") why) (check file strict) why =
+    (((read.rows, read.met, (read.holds.0, read.holds.1, read.holds.2)), (read.rows, read.met, read.holds.3)), read.taken) in
+    rw row.1 meant
+read_as_row (repair file) why words range row =
+    let read = repair_read file why (plain file row.0) in
+    let meant : IsReadAs (codes "repair" ∷ file ∷ flag_words (codes "--why") why) (repair file) why =
     (((read.rows, read.met, read.holds.0), (read.rows, read.met, read.holds.1)), read.taken) in
     rw row.1 meant
-read_as_row (copy file new n) why words range row =
-    let sectors = number n MIN_SECTORS MAX_SECTORS (decimal n) (omega arith) range.0 range.1 (omega arith) refl in
-    let read = copy_read file new (decimal n) why (plain file row.0) (plain new row.1) (checked n MIN_SECTORS MAX_SECTORS (decimal n) sectors) in
+read_as_row (copy file new n version) why words range (h, k, formats, v, row) =
+    let sectors = number n MIN_SECTORS MAX_SECTORS (decimal n) (omega (arith, range.0.0)) range.0.0 range.0.1 (omega arith) refl in
+    let chosen = optional (codes "--format") (codes "format") 2 MIN_FORMAT MAX_FORMAT version formats (λ one. range.1.0) range.1.1 (omega arith) v in
+    let read = copy_read file new (decimal n) chosen.text why (plain file h) (plain new k) (checked n MIN_SECTORS MAX_SECTORS (decimal n) sectors) chosen.fits in
     let held = read.holds in
-    let meant : IsReadAs (codes "copy" ∷ file ∷ new ∷ codes "--sectors" ∷ decimal n ∷ flag_words (codes "--why") why) (copy file new n) why =
-    (((read.rows, read.met, (held.0, held.1, (decimal n, held.2, sectors.spells))), (read.rows, read.met, held.3)), read.taken) in
-    rw row.2 meant
+    let meant : IsReadAs (codes "copy" ∷ file ∷ new ∷ codes "--sectors" ∷ decimal n ∷ option_words (codes "--format") chosen.text ++ flag_words (codes "--why") why) (copy file new n version) why =
+    (((read.rows, read.met, (held.0, held.1, (decimal n, held.2, sectors.spells), chosen.held read.rows held.3 held.4)), (read.rows, read.met, held.5)), read.taken) in
+    rw row (rw chosen.is meant)
 read_as_row (upgrade file version) why words range (h, formats, v, row) =
     let chosen = optional (codes "--format") (codes "format") 3 MIN_FORMAT MAX_FORMAT version formats (λ one. range.0) range.1 (omega arith) v in
     let read = upgrade_read file chosen.text why (plain file h) chosen.fits in
@@ -478,6 +630,24 @@ read_as_row (mem n) why words range row =
     let read = mem_read n (decimal n) sectors in
     let meant : IsReadAs (codes "mem" ∷ codes "--sectors" ∷ decimal n ∷ []) (mem n) false = (((_, read.0, (decimal n, refl, sectors.spells)), (_, read.0, refl)), read.1) in
     rw row.1 (rw row.0 meant)
+read_as_row (deep file) why words range row =
+    let read = deep_read file why (plain file row.0) in
+    let held = read.holds in
+    let meant : IsReadAs (codes "check" ∷ file ∷ codes "--deep" ∷ flag_words (codes "--why") why) (deep file) why =
+    (((read.rows, read.met, (held.0, held.1)), (read.rows, read.met, held.2)), read.taken) in
+    rw row.1 meant
+read_as_row (salvage file frames) why words range row =
+    let read = salvage_read file frames why (plain file row.0) in
+    let held = read.holds in
+    let meant : IsReadAs (codes "salvage" ∷ file ∷ flag_words (codes "--frames") frames ++ flag_words (codes "--why") why) (salvage file frames) why =
+    (((read.rows, read.met, (held.0, held.1)), (read.rows, read.met, held.2)), read.taken) in
+    rw row.1 meant
+read_as_row (dump file) why words range row =
+    let read = dump_read file why (plain file row.0) in
+    let held = read.holds in
+    let meant : IsReadAs (codes "dump" ∷ file ∷ codes "--read-only" ∷ flag_words (codes "--why") why) (dump file) why =
+    (((read.rows, read.met, (held.0, held.1)), (read.rows, read.met, held.2)), read.taken) in
+    rw row.1 meant
 
 -- what is known of an `Ok`
 pub of_ok : {A E : Type 0} (r : Result A E) (P R : A → Type 0) → IfOk r P → ((a : A) → P a → R a) → IfOk r R

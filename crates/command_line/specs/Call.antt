@@ -2,37 +2,50 @@
 use Rattle.std.specs.Prelude.{◌≡◌, ◌≢◌, ◌≤◌, ◌⊎◌, ℕ, Bool, false, if◌then◌else◌, List, [], ◌∷◌, ◌++◌, codes, decimal, get_or}
 use Rattle.std.specs.Str.Parse.{IsNumeral, digits_value, without_leading_plus}
 use Rattle.command_line.specs.declared.call.Call.{Call}
-use Rattle.command_line.specs.declared.call.Call.TheVariants.{Format, Serve, Check, Copy, Upgrade, Mem}
+use Rattle.command_line.specs.declared.call.Call.TheVariants.{Format, Serve, Check, Repair, Copy, Upgrade, Mem, Deep, Salvage, Dump}
 use Rattle.command_line.specs.declared.limits.TheConstants.{MIN_SECTORS, MAX_SECTORS, MAX_MEMORY_SECTORS, MIN_FORMAT, MAX_FORMAT, MAX_BATCH, MAX_PUMP, MAX_MODE, OWNER_ALONE}
 
 -- A call, with the names of its files as texts. Making a file, with its sectors, its format and its mode, and whether its blocks are left to be allocated as
--- they are written. Serving, with the most changes of one commit, and the sectors that a step of a copy writes after a change, of which 0 are none. Bringing a file to a
--- format.
+-- they are written. Serving, with the most changes of one commit, and the sectors that a step of a copy writes after a change, of which 0 are none, and whether a store whose last commit may be lost is
+-- refused, as checking has it too. Copying a file to a new one, with its sectors and its format. Bringing a file to a format.
+-- Reading all of a file. Salvaging, the documents or else the frames. Dumping a file that is only read.
 pub data Asked : Type 0 where
   format : List ℕ → ℕ → ℕ → ℕ → Bool → Asked
-  serve : List ℕ → ℕ → ℕ → Asked
-  check : List ℕ → Asked
-  copy : List ℕ → List ℕ → ℕ → Asked
+  serve : List ℕ → ℕ → ℕ → Bool → Asked
+  check : List ℕ → Bool → Asked
+  repair : List ℕ → Asked
+  copy : List ℕ → List ℕ → ℕ → ℕ → Asked
   upgrade : List ℕ → ℕ → Asked
   mem : ℕ → Asked
+  deep : List ℕ → Asked
+  salvage : List ℕ → Bool → Asked
+  dump : List ℕ → Asked
 
 abbrev pub asked_of : Call → Asked
 asked_of (Format file sectors version mode sparse) = format file.now sectors version mode sparse
-asked_of (Serve file batch pump) = serve file.now batch pump
-asked_of (Check file) = check file.now
-asked_of (Copy file new sectors) = copy file.now new.now sectors
+asked_of (Serve file batch pump strict) = serve file.now batch pump strict
+asked_of (Check file strict) = check file.now strict
+asked_of (Repair file) = repair file.now
+asked_of (Copy file new sectors version) = copy file.now new.now sectors version
 asked_of (Upgrade file version) = upgrade file.now version
 asked_of (Mem sectors) = mem sectors
+asked_of (Deep file) = deep file.now
+asked_of (Salvage file frames) = salvage file.now frames
+asked_of (Dump file) = dump file.now
 
 -- each number lies in the range of its option
 abbrev pub InRange : Asked → Type 0
 InRange (format file sectors version mode sparse) =
     ((MIN_SECTORS ≤ sectors) × (sectors ≤ MAX_SECTORS)) × ((MIN_FORMAT ≤ version) × (version ≤ MAX_FORMAT)) × (mode ≤ MAX_MODE)
-InRange (serve file batch pump) = ((1 ≤ batch) × (batch ≤ MAX_BATCH)) × (pump ≤ MAX_PUMP)
-InRange (check file) = Unit {0}
-InRange (copy file new sectors) = (MIN_SECTORS ≤ sectors) × (sectors ≤ MAX_SECTORS)
+InRange (serve file batch pump strict) = ((1 ≤ batch) × (batch ≤ MAX_BATCH)) × (pump ≤ MAX_PUMP)
+InRange (check file strict) = Unit {0}
+InRange (repair file) = Unit {0}
+InRange (copy file new sectors version) = ((MIN_SECTORS ≤ sectors) × (sectors ≤ MAX_SECTORS)) × ((MIN_FORMAT ≤ version) × (version ≤ MAX_FORMAT))
 InRange (upgrade file version) = (MIN_FORMAT ≤ version) × (version ≤ MAX_FORMAT)
 InRange (mem sectors) = (MIN_SECTORS ≤ sectors) × (sectors ≤ MAX_MEMORY_SECTORS)
+InRange (deep file) = Unit {0}
+InRange (salvage file frames) = Unit {0}
+InRange (dump file) = Unit {0}
 
 -- the text doesn't begin with a hyphen (45), by which a word is an option's
 abbrev pub IsNoOption : List ℕ → Type 0
@@ -65,14 +78,20 @@ abbrev pub IsRowOf : List (List ℕ) → Asked → Bool → Type 0
 IsRowOf words (format file sectors version mode sparse) why =
     IsNoOption file × (formats modes : List (List ℕ)) × IsGiven (codes "--format") 2 version formats × IsModeGiven mode modes
     × (words ≡ codes "format" ∷ file ∷ codes "--sectors" ∷ decimal sectors ∷ formats ++ modes ++ flag_words (codes "--sparse") sparse ++ flag_words (codes "--why") why)
-IsRowOf words (serve file batch pump) why =
+IsRowOf words (serve file batch pump strict) why =
     IsNoOption file × (batches pumps options : List (List ℕ)) × IsGiven (codes "--batch") 1 batch batches
     × IsGiven (codes "--pump") 0 pump pumps × InEitherOrder batches pumps options
-    × (words ≡ codes "serve" ∷ file ∷ options ++ flag_words (codes "--why") why)
-IsRowOf words (check file) why = IsNoOption file × (words ≡ codes "check" ∷ file ∷ flag_words (codes "--why") why)
-IsRowOf words (copy file new sectors) why =
-    IsNoOption file × IsNoOption new × (words ≡ codes "copy" ∷ file ∷ new ∷ codes "--sectors" ∷ decimal sectors ∷ flag_words (codes "--why") why)
+    × (words ≡ codes "serve" ∷ file ∷ options ++ flag_words (codes "--strict") strict ++ flag_words (codes "--why") why)
+IsRowOf words (check file strict) why = IsNoOption file × (words ≡ codes "check" ∷ file ∷ flag_words (codes "--strict") strict ++ flag_words (codes "--why") why)
+IsRowOf words (repair file) why = IsNoOption file × (words ≡ codes "repair" ∷ file ∷ flag_words (codes "--why") why)
+IsRowOf words (copy file new sectors version) why =
+    IsNoOption file × IsNoOption new × (formats : List (List ℕ)) × IsGiven (codes "--format") 2 version formats
+    × (words ≡ codes "copy" ∷ file ∷ new ∷ codes "--sectors" ∷ decimal sectors ∷ formats ++ flag_words (codes "--why") why)
 IsRowOf words (upgrade file version) why =
     IsNoOption file × (formats : List (List ℕ)) × IsGiven (codes "--format") 3 version formats
     × (words ≡ codes "upgrade" ∷ file ∷ formats ++ flag_words (codes "--why") why)
 IsRowOf words (mem sectors) why = (words ≡ codes "mem" ∷ codes "--sectors" ∷ decimal sectors ∷ []) × (why ≡ false)
+IsRowOf words (deep file) why = IsNoOption file × (words ≡ codes "check" ∷ file ∷ codes "--deep" ∷ flag_words (codes "--why") why)
+IsRowOf words (salvage file frames) why =
+    IsNoOption file × (words ≡ codes "salvage" ∷ file ∷ flag_words (codes "--frames") frames ++ flag_words (codes "--why") why)
+IsRowOf words (dump file) why = IsNoOption file × (words ≡ codes "dump" ∷ file ∷ codes "--read-only" ∷ flag_words (codes "--why") why)

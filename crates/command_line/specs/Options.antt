@@ -5,7 +5,7 @@ use Rattle.clap.specs.Words.{App, IsAmong, Rule, Shape, Row, Text, fault_of, fir
 use Rattle.clap.specs.declared.error.kind.ErrorKind.TheVariants.{DisplayHelp, DisplayVersion}
 use Rattle.clap.specs.declared.builder.action.ArgAction.TheVariants.{Set, SetTrue}
 use Rattle.clap.specs.declared.builder.value_parser.ValueParser.TheVariants.{Unsigned}
-use Rattle.command_line.specs.Call.{Asked, SpellsMode, format, serve, check, copy, upgrade, mem}
+use Rattle.command_line.specs.Call.{Asked, SpellsMode, format, serve, check, repair, copy, upgrade, mem, deep, salvage, dump}
 use Rattle.command_line.specs.declared.limits.TheConstants.{MIN_SECTORS, MAX_SECTORS, MAX_MEMORY_SECTORS, MIN_FORMAT, MAX_FORMAT, MAX_BATCH, MAX_PUMP, OWNER_ALONE}
 
 -- `FILE`, which must be there
@@ -52,6 +52,10 @@ flag_rule name = record (new_rule name) { long = Some name; action = Some SetTru
 abbrev pub why_rule : Rule
 why_rule = flag_rule (codes "why")
 
+-- `--strict`
+abbrev pub strict_rule : Rule
+strict_rule = flag_rule (codes "strict")
+
 abbrev pub format_shape : Shape
 format_shape =
     let with_sectors = with_rule (with_rule (new_app (codes "format")) file_rule) (sectors_up_to MAX_SECTORS) in
@@ -61,19 +65,30 @@ format_shape =
 abbrev pub serve_shape : Shape
 serve_shape =
     let with_numbers = with_rule (with_rule (with_rule (new_app (codes "serve")) file_rule) batch_rule) pump_rule in
-    (with_rule with_numbers why_rule).top
+    (with_rule (with_rule with_numbers strict_rule) why_rule).top
 
 abbrev pub check_shape : Shape
-check_shape = (with_rule (with_rule (new_app (codes "check")) file_rule) why_rule).top
+check_shape = (with_rule (with_rule (with_rule (with_rule (new_app (codes "check")) file_rule) strict_rule) (flag_rule (codes "deep"))) why_rule).top
+
+abbrev pub repair_shape : Shape
+repair_shape = (with_rule (with_rule (new_app (codes "repair")) file_rule) why_rule).top
 
 abbrev pub copy_shape : Shape
-copy_shape = (with_rule (with_rule (with_rule (with_rule (new_app (codes "copy")) file_rule) target_rule) (sectors_up_to MAX_SECTORS)) why_rule).top
+copy_shape =
+    let with_sectors = with_rule (with_rule (with_rule (new_app (codes "copy")) file_rule) target_rule) (sectors_up_to MAX_SECTORS) in
+    (with_rule (with_rule with_sectors format_rule) why_rule).top
 
 abbrev pub upgrade_shape : Shape
 upgrade_shape = (with_rule (with_rule (with_rule (new_app (codes "upgrade")) file_rule) format_rule) why_rule).top
 
 abbrev pub mem_shape : Shape
 mem_shape = (with_rule (new_app (codes "mem")) (sectors_up_to MAX_MEMORY_SECTORS)).top
+
+abbrev pub salvage_shape : Shape
+salvage_shape = (with_rule (with_rule (with_rule (new_app (codes "salvage")) file_rule) (flag_rule (codes "frames"))) why_rule).top
+
+abbrev pub dump_shape : Shape
+dump_shape = (with_rule (with_rule (with_rule (new_app (codes "dump")) file_rule) (flag_rule (codes "read-only"))) why_rule).top
 
 -- all words are arguments, the first names a command, and there is a version to show
 abbrev pub as_program : App → App
@@ -84,9 +99,12 @@ app =
     let formats = with_subcommand (as_program (new_app (codes "jpstore"))) format_shape in
     let serves = with_subcommand formats serve_shape in
     let checks = with_subcommand serves check_shape in
-    let copies = with_subcommand checks copy_shape in
+    let repairs = with_subcommand checks repair_shape in
+    let copies = with_subcommand repairs copy_shape in
     let upgrades = with_subcommand copies upgrade_shape in
-    with_subcommand upgrades mem_shape
+    let mems = with_subcommand upgrades mem_shape in
+    let salvages = with_subcommand mems salvage_shape in
+    with_subcommand salvages dump_shape
 
 -- the options give this text to FILE
 abbrev pub HoldsFile : Text → List Row → Type 0
@@ -127,21 +145,31 @@ abbrev pub Holds : Asked → List Row → Type 0
 Holds (format file sectors version mode sparse) options =
     HoldsFile file options × HoldsNumber (codes "sectors") sectors options × MayHold (codes "format") 2 version options
     × HoldsMode mode options × HoldsFlag (codes "sparse") sparse options
-Holds (serve file batch pump) options =
+Holds (serve file batch pump strict) options =
     HoldsFile file options × MayHold (codes "batch") 1 batch options × MayHold (codes "pump") 0 pump options
-Holds (check file) options = HoldsFile file options
-Holds (copy file new sectors) options = HoldsFile file options × HoldsNew new options × HoldsNumber (codes "sectors") sectors options
+    × HoldsFlag (codes "strict") strict options
+Holds (check file strict) options = HoldsFile file options × HoldsFlag (codes "strict") strict options × HoldsFlag (codes "deep") false options
+Holds (repair file) options = HoldsFile file options
+Holds (copy file new sectors version) options =
+    HoldsFile file options × HoldsNew new options × HoldsNumber (codes "sectors") sectors options × MayHold (codes "format") 2 version options
 Holds (upgrade file version) options = HoldsFile file options × MayHold (codes "format") 3 version options
 Holds (mem sectors) options = HoldsNumber (codes "sectors") sectors options
+Holds (deep file) options = HoldsFile file options × HoldsFlag (codes "deep") true options
+Holds (salvage file frames) options = HoldsFile file options × HoldsFlag (codes "frames") frames options
+Holds (dump file) options = HoldsFile file options × HoldsFlag (codes "read-only") true options
 
 -- the command of a call
 abbrev pub name_of : Asked → Text
 name_of (format file sectors version mode sparse) = codes "format"
-name_of (serve file batch pump) = codes "serve"
-name_of (check file) = codes "check"
-name_of (copy file new sectors) = codes "copy"
+name_of (serve file batch pump strict) = codes "serve"
+name_of (check file strict) = codes "check"
+name_of (repair file) = codes "repair"
+name_of (copy file new sectors version) = codes "copy"
 name_of (upgrade file version) = codes "upgrade"
 name_of (mem sectors) = codes "mem"
+name_of (deep file) = codes "check"
+name_of (salvage file frames) = codes "salvage"
+name_of (dump file) = codes "dump"
 
 -- the command of that name, with these options, is the call
 abbrev pub IsMet : Text → List Row → Asked → Type 0
@@ -155,10 +183,14 @@ Means met asked = (options : List Row) × (met ≡ Some (name_of asked, options)
 abbrev pub HoldsWhy : Asked → Bool → List Row → Type 0
 HoldsWhy (mem sectors) why options = why ≡ false
 HoldsWhy (format file sectors version mode sparse) why options = HoldsFlag (codes "why") why options
-HoldsWhy (serve file batch pump) why options = HoldsFlag (codes "why") why options
-HoldsWhy (check file) why options = HoldsFlag (codes "why") why options
-HoldsWhy (copy file new sectors) why options = HoldsFlag (codes "why") why options
+HoldsWhy (serve file batch pump strict) why options = HoldsFlag (codes "why") why options
+HoldsWhy (check file strict) why options = HoldsFlag (codes "why") why options
+HoldsWhy (repair file) why options = HoldsFlag (codes "why") why options
+HoldsWhy (copy file new sectors version) why options = HoldsFlag (codes "why") why options
 HoldsWhy (upgrade file version) why options = HoldsFlag (codes "why") why options
+HoldsWhy (deep file) why options = HoldsFlag (codes "why") why options
+HoldsWhy (salvage file frames) why options = HoldsFlag (codes "why") why options
+HoldsWhy (dump file) why options = HoldsFlag (codes "why") why options
 
 -- the command that was met is that of the call, and its options say whether it asks why
 abbrev pub MeansWhy : Option (Text × List Row) → Asked → Bool → Type 0

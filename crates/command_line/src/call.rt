@@ -2,7 +2,7 @@
 ghost use Rattle.std.specs.Prelude.{◌≡◌, ◌⊎◌, ◌≤◌, ◌<◌, ◌^◌, ℕ, Bool, List, IfOk, IfErr, IfSome, IsSomeAnd, Some, codes, map, option_map, MatchResult};
 ghost use Rattle.clap.specs.Words.{fault_of, first_of, found_of, HasKind, IsAmong, kind_of, rows_of, subcommand_of, subcommand_rows_of};
 ghost use Rattle.clap.specs.declared.error.kind.ErrorKind.TheVariants.{InvalidValue, OutOfMemory};
-ghost use Rattle.command_line.specs.Call.{Asked, InRange, IsRowOf, SpellsMode, asked_of, check, copy, format, mem, serve, upgrade};
+ghost use Rattle.command_line.specs.Call.{Asked, InRange, IsRowOf, SpellsMode, asked_of, check, copy, deep, dump, format, mem, repair, salvage, serve, upgrade};
 ghost use Rattle.command_line.specs.Options.{app, Holds, HoldsFlag, HoldsMode, HoldsNumber, IsMet, MayHold, Means, MeansWhy};
 ghost use Rattle.command_line.specs.declared.limits.TheConstants.{MAX_BATCH, MAX_FORMAT, MAX_MODE, MAX_PUMP, MIN_FORMAT, MIN_SECTORS};
 
@@ -28,21 +28,29 @@ pub enum Call<'a> {
         sparse: bool,
     },
     /// Serve lines over the store in a file. One commit takes up to `batch` changes, 1 for each by itself; after a
-    /// change or a batch a step of a copy writes up to `pump` sectors, 0 for none.
+    /// change or a batch a step of a copy writes up to `pump` sectors, 0 for none. If it is `strict`, a store whose last
+    /// commit may be lost is refused.
     Serve {
         file: &'a str,
         batch: u64,
         pump: u64,
+        strict: bool,
     },
-    /// Show the status of the store in a file.
+    /// Show the status of the store in a file, `strict` or not.
     Check {
         file: &'a str,
+        strict: bool,
     },
-    /// Copy the store in a file into a new file of that many sectors.
+    /// Open the store in a file, so that its commit slots are written anew, and show what they said and its status.
+    Repair {
+        file: &'a str,
+    },
+    /// Copy the store in a file into a new file of that many sectors, in that format, 2 or 3.
     Copy {
         file: &'a str,
         new: &'a str,
         sectors: u64,
+        format: u64,
     },
     /// Bring the store in a file to that format, 2 or 3.
     Upgrade {
@@ -52,6 +60,19 @@ pub enum Call<'a> {
     /// Serve lines over a store in memory, on a device of that many sectors.
     Mem {
         sectors: u64,
+    },
+    /// Read all of the store in a file, and say what is damaged.
+    Deep {
+        file: &'a str,
+    },
+    /// Write what can still be read of a damaged store in a file: its documents, or else each frame.
+    Salvage {
+        file: &'a str,
+        frames: bool,
+    },
+    /// Write the documents of the store in a file that is only read.
+    Dump {
+        file: &'a str,
     },
 }
 
@@ -67,10 +88,10 @@ pub struct Order<'a> {
 /// Reads the words after the program's name.
 ///
 /// The call is what the words mean to `clap`, however they are written: `--sectors=16`, or an option before FILE. If
-/// `--format` is absent, its number is 2 for a new file and 3 for an upgrade, that of `--batch` is 1, that of `--pump`
+/// `--format` is absent, its number is 2 for a new file or a copy and 3 for an upgrade, that of `--batch` is 1, that of `--pump`
 /// 0, and the mode is 0600. Refuses, by `clap`'s own errors, what is no call, an option or a flag that is given twice,
-/// a number out of the range of its option, a mode that is no octal number up to 0777, and a request for help; it also
-/// fails if memory runs out. Words that are a call's row fail only if memory runs out; in a row no file begins with a
+/// a number out of the range of its option, a mode that is no octal number up to 0777, a dump that isn't to be only
+/// read, and a request for help; it also fails if memory runs out. Words that are a call's row fail only if memory runs out; in a row no file begins with a
 /// hyphen, since such a word is read as an option.
 pub fn order_of<'a>(alloc: Global, words: &'a [&'a str]) -> Result<Order<'a>, Error>
     ensures in_range { IfOk result (λ order. InRange (asked_of order.call)) }
@@ -87,12 +108,12 @@ pub fn order_of<'a>(alloc: Global, words: &'a [&'a str]) -> Result<Order<'a>, Er
     }
 }
 
-// The error for matches that mean no call: `clap` itself refuses all other wrong values.
+// The error for matches that mean no call: `clap` itself refuses all else that is none.
 fn no_mode(alloc: Global) -> Result<Error, Error>
     ensures kind { IfOk result (λ e. kind_of e ≡ InvalidValue) }
     ensures memory { IfErr result (λ e. kind_of e ≡ OutOfMemory) }
 {
-    let text = "the value of '--mode' is no octal number up to 0777";
+    let text = "the value of '--mode' is no octal number up to 0777, or 'dump' lacks '--read-only'";
     Ok(program(alloc)?.error(ErrorKind::InvalidValue, text)?)
 }
 
@@ -144,9 +165,12 @@ fn call_in<'a>(matches: &ArgMatches<'a>) -> Option<Call<'a>>
         "format" => format_in(options),
         "serve" => serve_in(options),
         "check" => check_in(options),
+        "repair" => repair_in(options),
         "copy" => copy_in(options),
         "upgrade" => upgrade_in(options),
         "mem" => mem_in(options),
+        "salvage" => salvage_in(options),
+        "dump" => dump_in(options),
         _ => None,
     }
 }
@@ -174,34 +198,61 @@ fn format_in<'a>(options: &ArgMatches<'a>) -> Option<Call<'a>>
 fn serve_in<'a>(options: &ArgMatches<'a>) -> Option<Call<'a>>
     ensures in_range { IfSome result (λ call. InRange (asked_of call)) }
     ensures sound { IfSome result (λ call. IsMet (codes "serve") (rows_of (found_of options.now)) (asked_of call)) }
-    ensures meant { (file : List ℕ) (batch pump : ℕ) → InRange (serve file batch pump)
-        → Holds (serve file batch pump) (rows_of (found_of options.now)) → option_map asked_of result ≡ Some (serve file batch pump) }
+    ensures meant { (file : List ℕ) (batch pump : ℕ) (strict : Bool) → InRange (serve file batch pump strict)
+        → Holds (serve file batch pump strict) (rows_of (found_of options.now)) → option_map asked_of result ≡ Some (serve file batch pump strict) }
 {
     let file = file_in(options)?;
     let batch = number_or(options, "batch", 1, MAX_BATCH)?;
     let pump = number_or(options, "pump", 0, MAX_PUMP)?;
-    Some(Call::Serve { file, batch, pump })
+    let strict = flag_in(options, "strict")?;
+    Some(Call::Serve {
+        file,
+        batch,
+        pump,
+        strict,
+    })
 }
 
 fn check_in<'a>(options: &ArgMatches<'a>) -> Option<Call<'a>>
     ensures in_range { IfSome result (λ call. InRange (asked_of call)) }
     ensures sound { IfSome result (λ call. IsMet (codes "check") (rows_of (found_of options.now)) (asked_of call)) }
-    ensures meant { (file : List ℕ) → Holds (check file) (rows_of (found_of options.now)) → option_map asked_of result ≡ Some (check file) }
+    ensures meant { (file : List ℕ) (strict : Bool) → Holds (check file strict) (rows_of (found_of options.now)) → option_map asked_of result ≡ Some (check file strict) }
+    ensures meant_deep { (file : List ℕ) → Holds (deep file) (rows_of (found_of options.now)) → option_map asked_of result ≡ Some (deep file) }
 {
     let file = file_in(options)?;
-    Some(Call::Check { file })
+    let deep = flag_in(options, "deep")?;
+    if deep {
+        return Some(Call::Deep { file });
+    }
+    let strict = flag_in(options, "strict")?;
+    Some(Call::Check { file, strict })
+}
+
+fn repair_in<'a>(options: &ArgMatches<'a>) -> Option<Call<'a>>
+    ensures in_range { IfSome result (λ call. InRange (asked_of call)) }
+    ensures sound { IfSome result (λ call. IsMet (codes "repair") (rows_of (found_of options.now)) (asked_of call)) }
+    ensures meant { (file : List ℕ) → Holds (repair file) (rows_of (found_of options.now)) → option_map asked_of result ≡ Some (repair file) }
+{
+    let file = file_in(options)?;
+    Some(Call::Repair { file })
 }
 
 fn copy_in<'a>(options: &ArgMatches<'a>) -> Option<Call<'a>>
     ensures in_range { IfSome result (λ call. InRange (asked_of call)) }
     ensures sound { IfSome result (λ call. IsMet (codes "copy") (rows_of (found_of options.now)) (asked_of call)) }
-    ensures meant { (file new : List ℕ) (sectors : ℕ) → InRange (copy file new sectors)
-        → Holds (copy file new sectors) (rows_of (found_of options.now)) → option_map asked_of result ≡ Some (copy file new sectors) }
+    ensures meant { (file new : List ℕ) (sectors version : ℕ) → InRange (copy file new sectors version)
+        → Holds (copy file new sectors version) (rows_of (found_of options.now)) → option_map asked_of result ≡ Some (copy file new sectors version) }
 {
     let file = file_in(options)?;
     let new = new_in(options)?;
     let sectors = sectors_in(options, MAX_SECTORS)?;
-    Some(Call::Copy { file, new, sectors })
+    let format = format_number(options, MIN_FORMAT)?;
+    Some(Call::Copy {
+        file,
+        new,
+        sectors,
+        format,
+    })
 }
 
 fn upgrade_in<'a>(options: &ArgMatches<'a>) -> Option<Call<'a>>
@@ -223,6 +274,31 @@ fn mem_in<'a>(options: &ArgMatches<'a>) -> Option<Call<'a>>
 {
     let sectors = sectors_in(options, MAX_MEMORY_SECTORS)?;
     Some(Call::Mem { sectors })
+}
+
+fn salvage_in<'a>(options: &ArgMatches<'a>) -> Option<Call<'a>>
+    ensures in_range { IfSome result (λ call. InRange (asked_of call)) }
+    ensures sound { IfSome result (λ call. IsMet (codes "salvage") (rows_of (found_of options.now)) (asked_of call)) }
+    ensures meant { (file : List ℕ) (frames : Bool) → Holds (salvage file frames) (rows_of (found_of options.now)) → option_map asked_of result ≡ Some (salvage file frames) }
+{
+    let file = file_in(options)?;
+    let frames = flag_in(options, "frames")?;
+    Some(Call::Salvage { file, frames })
+}
+
+// A dump of a file that is only read. There is no other.
+fn dump_in<'a>(options: &ArgMatches<'a>) -> Option<Call<'a>>
+    ensures in_range { IfSome result (λ call. InRange (asked_of call)) }
+    ensures sound { IfSome result (λ call. IsMet (codes "dump") (rows_of (found_of options.now)) (asked_of call)) }
+    ensures meant { (file : List ℕ) → Holds (dump file) (rows_of (found_of options.now)) → option_map asked_of result ≡ Some (dump file) }
+{
+    let file = file_in(options)?;
+    let read_only = flag_in(options, "read-only")?;
+    if read_only {
+        Some(Call::Dump { file })
+    } else {
+        None
+    }
 }
 
 // The text of the file that the options name.

@@ -3,7 +3,7 @@ ghost use Rattle.std.specs.Prelude.{◌≡◌, IfOk, IfErr, codes, false};
 ghost use Rattle.clap.specs.Words.{app_of, kind_of, rule_of, shape_of};
 ghost use Rattle.clap.specs.declared.error.kind.ErrorKind.TheVariants.{OutOfMemory};
 ghost use Rattle.clap.specs.declared.builder.command.Command.TheViews.{out-Command as fields_of};
-ghost use Rattle.command_line.specs.Options.{app, batch_rule, check_shape, copy_shape, file_rule, flag_rule, format_rule, format_shape, mem_shape, mode_rule, option_rule, pump_rule, sectors_up_to, serve_shape, target_rule, upgrade_shape, why_rule};
+ghost use Rattle.command_line.specs.Options.{app, batch_rule, check_shape, copy_shape, dump_shape, file_rule, flag_rule, format_rule, format_shape, mem_shape, mode_rule, option_rule, pump_rule, repair_shape, salvage_shape, sectors_up_to, serve_shape, strict_rule, target_rule, upgrade_shape, why_rule};
 ghost use Rattle.command_line.specs.declared.limits.TheConstants.{MAX_BATCH, MAX_MEMORY_SECTORS, MAX_PUMP, MAX_SECTORS};
 
 use crate::limits::{
@@ -155,6 +155,50 @@ fn why_flag<'a>(alloc: Global) -> Arg<'a>
     )
 }
 
+fn strict_flag<'a>(alloc: Global) -> Arg<'a>
+    ensures rule { rule_of result ≡ strict_rule }
+    ensures local { result.global ≡ false }
+{
+    flag(
+        alloc,
+        "strict",
+        "Refuse a store in format 3 whose last commit may be lost, as cut-off (75), and leave its file as it is",
+    )
+}
+
+fn deep_flag<'a>(alloc: Global) -> Arg<'a>
+    ensures rule { rule_of result ≡ flag_rule (codes "deep") }
+    ensures local { result.global ≡ false }
+{
+    flag(
+        alloc,
+        "deep",
+        "Only read the file, all of it, and write a line for each thing that is damaged, also if nothing is lost",
+    )
+}
+
+fn frames_flag<'a>(alloc: Global) -> Arg<'a>
+    ensures rule { rule_of result ≡ flag_rule (codes "frames") }
+    ensures local { result.global ≡ false }
+{
+    flag(
+        alloc,
+        "frames",
+        "Write each change that can be read, with its place, old ones of both halves too, and not the documents",
+    )
+}
+
+fn read_only_flag<'a>(alloc: Global) -> Arg<'a>
+    ensures rule { rule_of result ≡ flag_rule (codes "read-only") }
+    ensures local { result.global ≡ false }
+{
+    flag(
+        alloc,
+        "read-only",
+        "Only read the file, which this user need not be allowed to write; no opening is counted. It must be given",
+    )
+}
+
 fn format_command<'a>(alloc: Global) -> Result<Command<'a>, Error>
     ensures shape { IfOk result (λ c. shape_of c ≡ format_shape) }
     ensures local { IfOk result (λ c. (fields_of c).has_globals ≡ false) }
@@ -184,6 +228,7 @@ fn serve_command<'a>(alloc: Global) -> Result<Command<'a>, Error>
         .arg(file_argument(alloc, "The file of the store"))?
         .arg(batch_option(alloc))?
         .arg(pump_option(alloc))?
+        .arg(strict_flag(alloc))?
         .arg(why_flag(alloc))?;
     Ok(serve)
 }
@@ -195,14 +240,33 @@ fn check_command<'a>(alloc: Global) -> Result<Command<'a>, Error>
 {
     let check = Command::new(alloc, "check")
         .about(
-            "Open the store in a file as `serve` does, and show its status; this counts as an opening",
+            "Open the store in a file as `serve` does, and show its status, which counts as an opening; or, by `--deep`, read all of it, and tell what is damaged",
+        )
+        .arg(file_argument(
+            alloc,
+            "The file of the store; no other program may have it open",
+        ))?
+        .arg(strict_flag(alloc))?
+        .arg(deep_flag(alloc))?
+        .arg(why_flag(alloc))?;
+    Ok(check)
+}
+
+fn repair_command<'a>(alloc: Global) -> Result<Command<'a>, Error>
+    ensures shape { IfOk result (λ c. shape_of c ≡ repair_shape) }
+    ensures local { IfOk result (λ c. (fields_of c).has_globals ≡ false) }
+    ensures memory { IfErr result (λ e. kind_of e ≡ OutOfMemory) }
+{
+    let repair = Command::new(alloc, "repair")
+        .about(
+            "Open the store in a file, by which its commit slots are written anew, and show its status and what they said; this counts as an opening",
         )
         .arg(file_argument(
             alloc,
             "The file of the store; no other program may have it open",
         ))?
         .arg(why_flag(alloc))?;
-    Ok(check)
+    Ok(repair)
 }
 
 fn copy_command<'a>(alloc: Global) -> Result<Command<'a>, Error>
@@ -220,6 +284,10 @@ fn copy_command<'a>(alloc: Global) -> Result<Command<'a>, Error>
         ))?
         .arg(new_argument(alloc))?
         .arg(file_sectors(alloc))?
+        .arg(format_option(
+            alloc,
+            "Format of the new file, 2 or 3; 2 if absent. Format 3 takes 160 sectors at least",
+        ))?
         .arg(why_flag(alloc))?;
     Ok(copy)
 }
@@ -254,6 +322,34 @@ fn mem_command<'a>(alloc: Global) -> Result<Command<'a>, Error>
     Ok(mem)
 }
 
+fn salvage_command<'a>(alloc: Global) -> Result<Command<'a>, Error>
+    ensures shape { IfOk result (λ c. shape_of c ≡ salvage_shape) }
+    ensures local { IfOk result (λ c. (fields_of c).has_globals ≡ false) }
+    ensures memory { IfErr result (λ e. kind_of e ≡ OutOfMemory) }
+{
+    let salvage = Command::new(alloc, "salvage")
+        .about(
+            "Write what can still be read of a damaged store, as lines that make its documents; the file is only read",
+        )
+        .arg(file_argument(alloc, "The file of the store"))?
+        .arg(frames_flag(alloc))?
+        .arg(why_flag(alloc))?;
+    Ok(salvage)
+}
+
+fn dump_command<'a>(alloc: Global) -> Result<Command<'a>, Error>
+    ensures shape { IfOk result (λ c. shape_of c ≡ dump_shape) }
+    ensures local { IfOk result (λ c. (fields_of c).has_globals ≡ false) }
+    ensures memory { IfErr result (λ e. kind_of e ≡ OutOfMemory) }
+{
+    let dump = Command::new(alloc, "dump")
+        .about("Write each document of the store in a file as the line that makes it")
+        .arg(file_argument(alloc, "The file of the store"))?
+        .arg(read_only_flag(alloc))?
+        .arg(why_flag(alloc))?;
+    Ok(dump)
+}
+
 /// The program's commands.
 pub(crate) fn program<'a>(alloc: Global) -> Result<Command<'a>, Error>
     ensures ok { IfOk result (λ c. app_of c ≡ app) }
@@ -268,8 +364,11 @@ pub(crate) fn program<'a>(alloc: Global) -> Result<Command<'a>, Error>
         .subcommand(format_command(alloc)?)?
         .subcommand(serve_command(alloc)?)?
         .subcommand(check_command(alloc)?)?
+        .subcommand(repair_command(alloc)?)?
         .subcommand(copy_command(alloc)?)?
         .subcommand(upgrade_command(alloc)?)?
-        .subcommand(mem_command(alloc)?)?;
+        .subcommand(mem_command(alloc)?)?
+        .subcommand(salvage_command(alloc)?)?
+        .subcommand(dump_command(alloc)?)?;
     Ok(program)
 }

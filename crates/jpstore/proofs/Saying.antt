@@ -7,7 +7,7 @@ append_assoc : (xs ys zs : List ℕ) → (xs ++ ys) ++ zs ≡ xs ++ (ys ++ zs)
 append_assoc [] ys zs = refl
 append_assoc (x ∷ xs) ys zs = ap (λ (l : List ℕ). x ∷ l) (append_assoc xs ys zs)
 
-appends_both : (a b c : Option (List ℕ)) (one other : List ℕ) → Appends a b one → Appends b c other → Appends a c (one ++ other)
+pub appends_both : (a b c : Option (List ℕ)) (one other : List ℕ) → Appends a b one → Appends b c other → Appends a c (one ++ other)
 appends_both None b c one other f g = tt
 appends_both (Some xs) None c one other f g = absurd f
 appends_both (Some xs) (Some ys) None one other f g = absurd g

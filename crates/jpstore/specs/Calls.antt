@@ -1,8 +1,10 @@
 -- The work of a program for a call, by what it kept.
-use Rattle.std.specs.Prelude.{◌≡◌, ℕ, List, Option, Result, Ok, Err, IfOk, MatchResult, false, pos, true, codes, nat_eq}
+use Rattle.std.specs.Prelude.{◌≡◌, ℕ, List, [], Bool, Option, Result, Ok, Err, IfOk, MatchResult, false, pos, true, codes, nat_eq}
 use Rattle.std.specs.declared.snapshot.Snapshot.{Snapshot}
-use Rattle.command_line.specs.Call.{Asked, format, serve, check, copy, upgrade, mem}
+use Rattle.command_line.specs.Call.{Asked, format, serve, check, repair, copy, upgrade, mem, deep, salvage, dump}
 use Rattle.store_journal.specs.Layout.{capacity_of}
+use Rattle.doc_store.specs.declared.opening.Strictness.{Strictness}
+use Rattle.doc_store.specs.declared.opening.Strictness.TheVariants.{AnyState}
 use Rattle.doc_tree.specs.Doc.{Doc, boolean, int, object, member, no_members}
 use Rattle.store_commits.specs.Account.{StoreView}
 use Rattle.doc_store.specs.Formats.{format_of, number_of, status_of}
@@ -12,15 +14,17 @@ use Rattle.refusals.specs.declared.numbers.TheConstants.{DEVICE}
 use Rattle.protocol.specs.Reply.{line_of}
 use Rattle.serve_lines.specs.Session.{status_reply}
 use Rattle.jpstore.specs.Copies.{IsCopiedFile, account_copied}
-use Rattle.jpstore.specs.Faults.{told_of_unopened}
-use Rattle.jpstore.specs.Files.{IsClosedIn, IsFormattedFile, IsOpenedIn, IsServedIn, IsUnopenedIn, WentToTheEnd, fault_of}
+use Rattle.jpstore.specs.Faults.{told_of_file, told_of_unopened}
+use Rattle.jpstore.specs.Files.{IsClosedIn, IsFormattedFile, IsOpenedIn, IsNoticedIn, IsServedIn, IsUnopenedBy, WentToTheEnd, fault_of}
 use Rattle.jpstore.specs.Kept.{IsKeptIn}
 use Rattle.jpstore.specs.Memory.{IsServedInMemory}
+use Rattle.jpstore.specs.Notices.{checked_line, note_of, strictness_of}
+use Rattle.jpstore.specs.Reads.{IsDumpedIn, IsExaminedIn, IsSalvagedIn, IsUnlookedIn, end_of_left, end_of_shown, end_of_told}
 use Rattle.jpstore.specs.Shown.{Shows}
 use Rattle.jpstore.specs.Upgrades.{IsUpgraded, WentTo, format_numbered, upgrade_reply}
 use Rattle.jpstore.specs.declared.fault.Fault.{Fault}
 use Rattle.jpstore.specs.declared.kept.Kept.{Kept}
-use Rattle.jpstore.specs.declared.kept.Kept.TheVariants.{Formatted, Served, Checked, Copied, Upgraded, InMemory}
+use Rattle.jpstore.specs.declared.kept.Kept.TheVariants.{Formatted, Served, Checked, Repaired, Copied, Upgraded, InMemory, Examined, Salvaged, Dumped}
 use Rattle.jpstore.specs.declared.opening.Closed.{Closed}
 use Rattle.jpstore.specs.declared.opening.Unopened.{Unopened}
 
@@ -43,20 +47,43 @@ abbrev pub end_of : Kept → Result (Unit {0}) Fault
 end_of (Formatted made) = end_of_made made
 end_of (Served served) = end_of_opened served
 end_of (Checked checked) = end_of_opened checked
+end_of (Repaired repaired) = end_of_opened repaired
 end_of (Copied (Ok ended)) = end_of_made ended.copied
 end_of (Copied (Err unopened)) = Err (told_of_unopened unopened)
 end_of (Upgraded upgraded) = end_of_opened upgraded
 end_of (InMemory (Ok closed)) = closed.ended
 end_of (InMemory (Err fault)) = Err fault
+end_of (Examined (Ok examined)) = end_of_told examined.told
+end_of (Examined (Err unopened)) = Err (told_of_unopened unopened)
+end_of (Salvaged (Ok salvaged)) = end_of_left salvaged.left
+end_of (Salvaged (Err fault)) = Err (told_of_file fault)
+end_of (Dumped (Ok dumped)) = end_of_shown dumped.shown
+end_of (Dumped (Err unopened)) = Err (told_of_unopened unopened)
+
+-- what it said of the slots when it had opened the store, and whether that could be written
+abbrev pub note_in : Kept → List ℕ
+note_in (Served (Ok closed)) = note_of closed.notice
+note_in kept = []
+
+abbrev pub is_noted : Kept → Bool
+is_noted (Served (Ok closed)) = closed.noted
+is_noted kept = true
 
 -- The store in a file that held this was served. If all that there was to read was served, it was served so; the end says whether the device failed; and
 -- however it ended, the store went by one run from what was opened.
-pub record IsServing (held : Snapshot Held) (batch pump : ℕ) (closed : Closed) (left left_new before after : Option (List ℕ)) : Type 0 where
+pub record IsServing (held : Snapshot Held) (batch pump : ℕ) (strict : Bool) (closed : Closed) (left left_new before after : Option (List ℕ)) : Type 0 where
   pub served : WentToTheEnd closed.ended → IsServedIn held batch pump left left_new before after closed.store
   pub works : closed.ended ≡ Ok tt → closed.store.account.broken ≡ false
   pub broke : closed.ended ≡ Err (fault_of DEVICE) → closed.store.account.broken ≡ true
   pub closed_in : IsClosedIn held closed.store
   pub kept : IsKeptIn held closed.ended left left_new before after closed.store
+  pub noticed : IsNoticedIn (strictness_of strict) held closed.store closed.notice
+
+-- The store in a file that held this was opened, and its status shown, and what its slots say in format 3.
+pub record IsShown (strictness : Strictness) (held : Snapshot Held) (closed : Closed) (before after : Option (List ℕ)) : Type 0 where
+  pub opened : IsOpenedIn held closed.store
+  pub noticed : IsNoticedIn strictness held closed.store closed.notice
+  pub shown : Shows closed.ended (checked_line closed.store.account closed.notice) before after
 
 -- the store in a file that held this was brought to a format, or as far as its device let it
 pub record IsUpgrading (held : Snapshot Held) (version : ℕ) (closed : Closed) (before after : Option (List ℕ)) : Type 0 where
@@ -66,28 +93,34 @@ pub record IsUpgrading (held : Snapshot Held) (version : ℕ) (closed : Closed) 
   pub shown : Shows closed.ended (line_of (upgrade_reply (number_of (format_numbered version)) (number_of (format_of opened.account)))) before after
 
 -- no store was opened in a file that held this, and nothing was written
-abbrev pub IsRefused : Snapshot Held → Unopened → Option (List ℕ) → Option (List ℕ) → Type 0
-IsRefused held unopened before after = IsUnopenedIn held unopened × (after ≡ before)
+abbrev pub IsRefused : Strictness → Snapshot Held → Unopened → Option (List ℕ) → Option (List ℕ) → Type 0
+IsRefused strictness held unopened before after = IsUnopenedBy strictness held unopened × (after ≡ before)
 
 -- What a program did that was asked for this, to a file that held that, if it kept this: from what there was to read to what is left of it, and from what
 -- was written before to what was written then.
 abbrev pub Does : Snapshot Held → Asked → Kept → Option (List ℕ) → Option (List ℕ) → Option (List ℕ) → Option (List ℕ) → Type 0
 Does held (format file sectors version mode sparse) (Formatted made) left left_new before after =
     IfOk made (IsFormattedFile sectors version) × Shows made (line_of (format_reply (capacity_of (nat_eq version 3) sectors) sectors)) before after × (left_new ≡ left)
-Does held (serve file batch pump) (Served served) left left_new before after =
-    MatchResult served (λ closed. IsServing held batch pump closed left left_new before after) (λ unopened. IsRefused held unopened before after × (left_new ≡ left))
-Does held (check file) (Checked checked) left left_new before after =
-    MatchResult checked (λ closed. IsOpenedIn held closed.store × Shows closed.ended (line_of (status_reply (status_of closed.store.account))) before after)
-    (λ unopened. IsRefused held unopened before after)
-    × (left_new ≡ left)
-Does held (copy file new sectors) (Copied copied) left left_new before after =
+Does held (serve file batch pump strict) (Served served) left left_new before after =
+    MatchResult served (λ closed. IsServing held batch pump strict closed left left_new before after) (λ unopened. IsRefused (strictness_of strict) held unopened before after × (left_new ≡ left))
+Does held (check file strict) (Checked checked) left left_new before after =
+    MatchResult checked (λ closed. IsShown (strictness_of strict) held closed before after) (λ unopened. IsRefused (strictness_of strict) held unopened before after) × (left_new ≡ left)
+Does held (repair file) (Repaired repaired) left left_new before after =
+    MatchResult repaired (λ closed. IsShown AnyState held closed before after) (λ unopened. IsRefused AnyState held unopened before after) × (left_new ≡ left)
+Does held (copy file new sectors version) (Copied copied) left left_new before after =
     MatchResult copied
-    (λ ended. IsOpenedIn held ended.store × IfOk ended.copied (IsCopiedFile sectors ended.store.account)
-    × Shows ended.copied (line_of (status_reply (status_of (account_copied ended.store.account sectors)))) before after)
-    (λ unopened. IsRefused held unopened before after)
+    (λ ended. IsOpenedIn held ended.store × IfOk ended.copied (IsCopiedFile sectors (format_numbered version) ended.store.account)
+    × Shows ended.copied (line_of (status_reply (status_of (account_copied (format_numbered version) ended.store.account sectors)))) before after)
+    (λ unopened. IsRefused AnyState held unopened before after)
     × (left_new ≡ left)
 Does held (upgrade file version) (Upgraded upgraded) left left_new before after =
-    MatchResult upgraded (λ closed. IsUpgrading held version closed before after) (λ unopened. IsRefused held unopened before after) × (left_new ≡ left)
+    MatchResult upgraded (λ closed. IsUpgrading held version closed before after) (λ unopened. IsRefused AnyState held unopened before after) × (left_new ≡ left)
 Does held (mem sectors) (InMemory memory) left left_new before after =
     MatchResult memory (λ closed. closed.ended ≡ Ok tt → IsServedInMemory sectors left left_new before after closed.store) (λ fault. (left_new ≡ left) × (after ≡ before))
+Does held (deep file) (Examined examined) left left_new before after =
+    MatchResult examined (λ e. IsExaminedIn held e before after) (λ unopened. IsUnlookedIn held unopened × (after ≡ before)) × (left_new ≡ left)
+Does held (salvage file frames) (Salvaged salvaged) left left_new before after =
+    MatchResult salvaged (λ s. IsSalvagedIn held frames s before after) (λ fault. after ≡ before) × (left_new ≡ left)
+Does held (dump file) (Dumped dumped) left left_new before after =
+    MatchResult dumped (λ d. IsDumpedIn held d before after) (λ unopened. IsUnlookedIn held unopened × (after ≡ before)) × (left_new ≡ left)
 Does held asked kept left left_new before after = ⊥

@@ -1,5 +1,7 @@
 -- The fault that a program ends with.
 use Rattle.std.specs.Prelude.{ℕ, List, [], ◌∷◌, ◌++◌, Result, Ok, Err, codes, decimal, if◌then◌else◌}
+use Rattle.damaged_files.specs.declared.showing.ShowFault.{ShowFault}
+use Rattle.damaged_files.specs.declared.showing.ShowFault.TheVariants as show
 use Rattle.file_device.specs.declared.fault.FileFault.{FileFault}
 use Rattle.file_device.specs.declared.fault.FileFault.TheVariants.{InUse, NoSpace, Memory, File}
 use Rattle.refusals.specs.Names.{name_of}
@@ -19,6 +21,11 @@ told_of_file InUse = told.InUse
 told_of_file NoSpace = told.NoSpace
 told_of_file Memory = told.Memory
 told_of_file (File fault) = told.File fault
+
+-- of what is shown of a file that is only read
+abbrev pub told_of_show : ShowFault → Fault
+told_of_show show.Memory = told.Memory
+told_of_show show.Writer = told.Writer
 
 -- of a new file that wasn't made beside the one that was opened
 abbrev pub told_of_new : FileFault → Fault
@@ -51,6 +58,7 @@ words_of told.Memory = codes "memory"
 words_of (told.Refused refusal) = name_of refusal.number ++ codes " (" ++ decimal refusal.number ++ codes ")"
 words_of told.Writer = codes "writer"
 words_of (told.Session fault) = words_of_session fault
+words_of told.Damage = codes "damage"
 
 -- its line on standard error
 abbrev pub line_of_fault : Fault → List ℕ

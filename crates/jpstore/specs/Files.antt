@@ -13,7 +13,11 @@ use Rattle.store_journal.specs.Models.{model}
 use Rattle.store_journal.specs.Opening.{nothing_in}
 use Rattle.store_journal.specs.declared.fault.OpenFault.{OpenFault}
 use Rattle.store_commits.specs.Account.{StoreView, IsStanding}
-use Rattle.doc_store.specs.Opening.{IsOfFormat, IsOpenedFrom, IsRefusedAs, LacksRoom, NotOpened, OldOrStands}
+use Rattle.doc_store.specs.Opening.{IsOfFormat, IsOpenedFrom, LacksRoom, OldOrStands}
+use Rattle.doc_store.specs.Strict.{IsRefusedBy, IsSaidOf, IsTaken, NotTaken}
+use Rattle.doc_store.specs.declared.opening.Strictness.{Strictness}
+use Rattle.doc_store.specs.declared.opening.Strictness.TheVariants.{AnyState}
+use Rattle.slot_commits.specs.declared.found.Notice.{Notice}
 use Rattle.store_commits.specs.Run.{Event, Ran, dones_of, hits_of}
 use Rattle.store_commits.specs.declared.event.Reply.{Reply}
 use Rattle.store_commits.specs.Images.{Stands}
@@ -21,6 +25,7 @@ use Rattle.store_commits.specs.Folds.{StandsAfter}
 use Rattle.doc_changes.specs.State.{State}
 use Rattle.doc_changes.specs.Refusals.{plain}
 use Rattle.refusals.specs.declared.numbers.TheConstants.{DEVICE, MEMORY, NO_ROOM}
+use Rattle.jpstore.specs.Seals.{IsSealedAtEnd}
 use Rattle.jpstore.specs.declared.fault.Fault.{Fault}
 use Rattle.jpstore.specs.declared.fault.Fault.TheVariants.{Memory, Refused}
 use Rattle.jpstore.specs.declared.opening.Unopened.{Unopened}
@@ -54,26 +59,35 @@ pub record IsOpenedIn (held : Snapshot Held) (store : StoreView FileDevice) : Ty
   pub standing : IsStanding (file_disk store.device) store.account
 
 -- The store in a file that held this was refused, for what its device then was, of this many sectors and failures, or did. If all that was read was there: if that holds a state,
--- the device failed or memory was refused, or it is in format 1 and a half has no room for it in format 2, which is said of nothing else; the file has as
--- many sectors; what a crash might have left at any moment until now, in the disk model of that state's format, is an image from before or holds that
+-- the device failed or memory was refused, or it is in format 1 and a half has no room for it in format 2, which is said of nothing else, or a commit was cut
+-- off in it, and it was asked to refuse that; the file has as many sectors; what a crash might have left at any moment until now, in the disk model of that state's format, is an image from before or holds that
 -- state; and but for the device's failure it is, in either disk model, an image from before.
-pub record IsRefusedIn (held : Snapshot Held) (sectors failures : ℕ) (fault : OpenFault FileDevice) : Type 0 where
-  pub why : NotOpened (disk_after sectors (Opened held) failures) (file_disk fault.device) fault.number
-  pub exact : (state : State) → Stands state held.value.seen.items → (file_disk fault.device).honest → IsRefusedAs held.value.seen.items fault.number
+pub record IsRefusedIn (strictness : Strictness) (held : Snapshot Held) (sectors failures : ℕ) (fault : OpenFault FileDevice) : Type 0 where
+  pub why : NotTaken strictness (disk_after sectors (Opened held) failures) (file_disk fault.device) fault.number
+  pub exact : (state : State) → Stands state held.value.seen.items → (file_disk fault.device).honest → IsRefusedBy strictness held.value.seen.items fault.number
   pub no_room : (file_disk fault.device).honest → fault.number ≡ NO_ROOM → LacksRoom held.value.seen.items
   pub size : (file_disk fault.device).honest → (file_disk fault.device).sectors ≡ sectors
   pub any_moment : (file_disk fault.device).honest → (rides : Bool) → IsOfFormat rides held.value.seen.items → (image : Image) → (model rides (file_disk fault.device)).left_since 0 image → OldOrStands (disk_after 0 (Opened held) 0) image
   pub untouched : (file_disk fault.device).honest → fault.number ≢ DEVICE → (rides : Bool) → (image : Image) → (model rides (file_disk fault.device)).left_since 0 image → left_after (Opened held) image
 
 -- No store was opened on a device of this many sectors and failures that held this.
-abbrev pub IsUnopenedOn : Snapshot Held → ℕ → ℕ → Unopened → Type 0
-IsUnopenedOn held sectors failures (NoFile fault) = Unit {0}
-IsUnopenedOn held sectors failures (NoStore fault) = IsRefusedIn held sectors failures fault
+abbrev pub IsUnopenedOn : Strictness → Snapshot Held → ℕ → ℕ → Unopened → Type 0
+IsUnopenedOn strictness held sectors failures (NoFile fault) = Unit {0}
+IsUnopenedOn strictness held sectors failures (NoStore fault) = IsRefusedIn strictness held sectors failures fault
 
 -- No store was opened in a file that held this: the file wasn't opened, or the store in it was refused.
+abbrev pub IsUnopenedBy : Strictness → Snapshot Held → Unopened → Type 0
+IsUnopenedBy strictness held (NoFile fault) = Unit {0}
+IsUnopenedBy strictness held (NoStore fault) = (sectors : ℕ) × IsRefusedIn strictness held sectors 0 fault
+
+-- the same of a program that takes any state
 abbrev pub IsUnopenedIn : Snapshot Held → Unopened → Type 0
-IsUnopenedIn held (NoFile fault) = Unit {0}
-IsUnopenedIn held (NoStore fault) = (sectors : ℕ) × IsRefusedIn held sectors 0 fault
+IsUnopenedIn held unopened = IsUnopenedBy AnyState held unopened
+
+-- The store was opened so strictly in a file that held this, and that is said of its slots, if all reads gave what the file held.
+pub record IsNoticedIn (strictness : Strictness) (held : Snapshot Held) (store : StoreView FileDevice) (notice : Notice) : Type 0 where
+  pub said : (file_disk store.device).honest → IsSaidOf held.value.seen.items notice
+  pub taken : IsTaken strictness notice
 
 -- A store that was opened in a file that held this went by one run of these events.
 pub record RanIn (held : Snapshot Held) (opened closed : StoreView FileDevice) (events : List Event) (replies : List Reply) : Type 0 where
@@ -93,16 +107,18 @@ pub record RanIn (held : Snapshot Held) (opened closed : StoreView FileDevice) (
 abbrev pub options_of : ℕ → ℕ → Options
 options_of batch pump = record { batch = batch; pump = pump; turns = TURNS }
 
--- It was served to the end: all that was read is all there was, and what was written is the reply lines of a session over its lines, whose events were
--- that run.
+-- It was served to the end: all that was read is all there was, and what was written is the reply lines of a session over its lines, after which a store
+-- that works and has accepted changes was sealed. The session's events, and the seal, were that run.
 pub record IsServedIn (held : Snapshot Held) (batch pump : ℕ) (left left_new : Option (List ℕ)) (before after : Option (List ℕ)) (closed : StoreView FileDevice) : Type 0 where
   pub opened : StoreView FileDevice
   pub read : List ℕ
   pub consumed : Consumes left left_new read
   pub at_end : IsAtEnd left_new
   pub count : ℕ
-  pub served : Serves file_disk (options_of batch pump) opened (lines_of read) before closed after count
-  pub went : RanIn held opened closed served.told.session.events served.told.session.said
+  pub mid : StoreView FileDevice
+  pub served : Serves file_disk (options_of batch pump) opened (lines_of read) before mid after count
+  pub sealed : IsSealedAtEnd file_disk opened mid closed
+  pub went : RanIn held opened closed (served.told.session.events ++ sealed.events) (served.told.session.said ++ sealed.said)
 
 -- It was served until something failed, or to the end.
 pub record IsClosedIn (held : Snapshot Held) (closed : StoreView FileDevice) : Type 0 where

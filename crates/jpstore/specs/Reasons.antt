@@ -1,6 +1,6 @@
 -- The reasons why a file is not made or opened, as a line on standard error.
 use Rattle.std.specs.Prelude.{ℕ, List, Bool, Option, Some, None, pos, codes, if◌then◌else◌, option_map}
-use Rattle.command_line.specs.Call.{Asked, format, serve, check, copy, upgrade, mem}
+use Rattle.command_line.specs.Call.{Asked, format, serve, check, repair, copy, upgrade, mem, deep, salvage, dump}
 use Rattle.doc_tree.specs.Doc.{Doc, int, text, object, member, no_members}
 use Rattle.file_device.specs.Fault.{word_of}
 use Rattle.file_device.specs.declared.fault.SystemFault.{SystemFault}
@@ -11,20 +11,28 @@ use Rattle.jpstore.specs.declared.fault.Fault.TheVariants as told
 -- FILE of a call
 abbrev pub file_of : Asked → Option (List ℕ)
 file_of (format file sectors version mode sparse) = Some file
-file_of (serve file batch pump) = Some file
-file_of (check file) = Some file
-file_of (copy file new sectors) = Some file
+file_of (serve file batch pump strict) = Some file
+file_of (check file strict) = Some file
+file_of (repair file) = Some file
+file_of (copy file new sectors version) = Some file
 file_of (upgrade file version) = Some file
 file_of (mem sectors) = None
+file_of (deep file) = Some file
+file_of (salvage file frames) = Some file
+file_of (dump file) = Some file
 
 -- NEW of a call
 abbrev pub new_of : Asked → Option (List ℕ)
-new_of (copy file new sectors) = Some new
+new_of (copy file new sectors version) = Some new
 new_of (format file sectors version mode sparse) = None
-new_of (serve file batch pump) = None
-new_of (check file) = None
+new_of (serve file batch pump strict) = None
+new_of (check file strict) = None
+new_of (repair file) = None
 new_of (upgrade file version) = None
 new_of (mem sectors) = None
+new_of (deep file) = None
+new_of (salvage file frames) = None
+new_of (dump file) = None
 
 -- the cause, the system's number of the error, and the path of the file
 abbrev pub reason_reply : List ℕ → ℕ → List ℕ → Doc

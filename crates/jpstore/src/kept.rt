@@ -1,12 +1,16 @@
 //! The things that a program kept of its files, and its exit.
 
 ghost use Rattle.std.specs.Prelude.{◌≡◌};
-ghost use Rattle.jpstore.specs.Calls.{end_of, end_of_made, end_of_opened};
+ghost use Rattle.jpstore.specs.Calls.{end_of, end_of_made, end_of_opened, is_noted};
+ghost use Rattle.jpstore.specs.Reads.{end_of_condition, end_of_framed, end_of_left, end_of_salvaged, end_of_shown, end_of_told};
 
 use crate::fault::Fault;
 use crate::opening::{Closed, Unopened};
-use crate::programs::{ClosedInMemory, Ended};
-use file_device::FileDevice;
+use crate::programs::{ClosedInMemory, Dumped, Ended, Examined, Left, SalvagedFile};
+use damaged_files::{Condition, Salvaged, ShowFault, Told};
+use file_device::{FileDevice, FileFault};
+use refusals::numbers::NOT_A_STORE;
+use store_parts::Findings;
 
 /// What a program kept, by the call that asked for it: the device or the store, as it then is, or why there is none.
 #[derive(Drop)]
@@ -17,12 +21,20 @@ pub enum Kept {
     Served(Result<Closed, Unopened>),
     /// `check`
     Checked(Result<Closed, Unopened>),
+    /// `repair`
+    Repaired(Result<Closed, Unopened>),
     /// `copy`: the store, and the device of the copy.
     Copied(Result<Ended, Unopened>),
     /// `upgrade`
     Upgraded(Result<Closed, Unopened>),
     /// `mem`
     InMemory(Result<ClosedInMemory, Fault>),
+    /// `check --deep`
+    Examined(Result<Examined, Unopened>),
+    /// `salvage`
+    Salvaged(Result<SalvagedFile, FileFault>),
+    /// `dump --read-only`
+    Dumped(Result<Dumped, Unopened>),
 }
 
 /// How the program exits.
@@ -49,13 +61,29 @@ impl Kept {
     {
         match self {
             Kept::Formatted(made) => end_of_made(made),
-            Kept::Served(opened) | Kept::Checked(opened) | Kept::Upgraded(opened) => {
-                end_of_opened(opened)
-            }
+            Kept::Served(opened)
+            | Kept::Checked(opened)
+            | Kept::Repaired(opened)
+            | Kept::Upgraded(opened) => end_of_opened(opened),
             Kept::Copied(Ok(ended)) => end_of_made(&ended.copied),
             Kept::Copied(Err(unopened)) => Err(unopened.told()),
             Kept::InMemory(Ok(closed)) => closed.ended,
             Kept::InMemory(Err(fault)) => Err(*fault),
+            Kept::Examined(Ok(examined)) => end_of_told(&examined.told),
+            Kept::Salvaged(Ok(salvaged)) => end_of_left(&salvaged.left),
+            Kept::Salvaged(Err(fault)) => Err(Fault::from(*fault)),
+            Kept::Dumped(Ok(dumped)) => end_of_shown(dumped.shown),
+            Kept::Examined(Err(unopened)) | Kept::Dumped(Err(unopened)) => Err(unopened.told()),
+        }
+    }
+
+    /// Whether all was written that is said of the slots at an opening.
+    pub fn is_noted(&self) -> bool
+        ensures { result ≡ is_noted self.now }
+    {
+        match self {
+            Kept::Served(Ok(closed)) => closed.noted,
+            _ => true,
         }
     }
 }
@@ -77,5 +105,67 @@ fn end_of_opened(opened: &Result<Closed, Unopened>) -> Result<(), Fault>
     match opened {
         Ok(closed) => closed.ended,
         Err(unopened) => Err(unopened.told()),
+    }
+}
+
+// How a program ended that reported this of the damages.
+fn end_of_told(told: &Result<Told, ShowFault>) -> Result<(), Fault>
+    ensures { result ≡ end_of_told told.now }
+{
+    match told {
+        Ok(told) => end_of_condition(told.condition),
+        Err(fault) => Err(Fault::from(*fault)),
+    }
+}
+
+// How one ended that showed this of a file.
+fn end_of_left(left: &Left) -> Result<(), Fault>
+    ensures { result ≡ end_of_left left.now }
+{
+    match left {
+        Left::Documents(shown) => end_of_salvaged(shown),
+        Left::Frames(shown) => end_of_framed(shown),
+    }
+}
+
+// How one ended that salvaged this, or nothing of what can be no store.
+fn end_of_salvaged(shown: &Result<Option<Salvaged>, ShowFault>) -> Result<(), Fault>
+    ensures { result ≡ end_of_salvaged shown.now }
+{
+    match shown {
+        Ok(Some(salvaged)) => end_of_condition(salvaged.condition),
+        Ok(None) => Err(Fault::refused(NOT_A_STORE)),
+        Err(fault) => Err(Fault::from(*fault)),
+    }
+}
+
+// How one ended that showed the frames of this, or none of what can be no store.
+fn end_of_framed(shown: &Result<Option<Findings>, ShowFault>) -> Result<(), Fault>
+    ensures { result ≡ end_of_framed shown.now }
+{
+    match shown {
+        Ok(Some(_)) => Ok(()),
+        Ok(None) => Err(Fault::refused(NOT_A_STORE)),
+        Err(fault) => Err(Fault::from(*fault)),
+    }
+}
+
+// How one ended that showed documents.
+fn end_of_shown(shown: Result<(), ShowFault>) -> Result<(), Fault>
+    ensures { result ≡ end_of_shown shown }
+{
+    match shown {
+        Ok(()) => Ok(()),
+        Err(fault) => Err(Fault::from(fault)),
+    }
+}
+
+// How one ended that found a store so.
+fn end_of_condition(condition: Condition) -> Result<(), Fault>
+    ensures { result ≡ end_of_condition condition }
+{
+    match condition {
+        Condition::Whole => Ok(()),
+        Condition::Damaged => Err(Fault::Damage),
     }
 }

@@ -8,12 +8,14 @@ mod fault;
 mod kept;
 mod laws;
 mod lines;
+mod notices;
 mod onlooker;
 mod opening;
 mod perform;
 mod programs;
 mod progress_line;
 mod reasons;
+mod sealing;
 mod serving;
 
 use fault::{Fault, complain};

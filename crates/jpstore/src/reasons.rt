@@ -59,9 +59,13 @@ fn file_in<'a>(call: &Call<'a>) -> Option<&'a str>
     match call {
         Call::Format { file, .. }
         | Call::Serve { file, .. }
-        | Call::Check { file }
+        | Call::Check { file, .. }
+        | Call::Repair { file }
         | Call::Copy { file, .. }
-        | Call::Upgrade { file, .. } => Some(file),
+        | Call::Upgrade { file, .. }
+        | Call::Deep { file }
+        | Call::Salvage { file, .. }
+        | Call::Dump { file } => Some(file),
         Call::Mem { .. } => None,
     }
 }

@@ -1,4 +1,4 @@
-//! `copy FILE NEW --sectors N`
+//! `copy FILE NEW --sectors N [--format N]`
 
 ghost use Rattle.std.specs.Prelude.{◌≡◌, ◌≤◌, IfOk, IfErr, OnErr, OnOk, length};
 ghost use Rattle.command_line.specs.declared.limits.TheConstants.{MAX_SECTORS};
@@ -9,6 +9,7 @@ ghost use Rattle.file_device.specs.File.{file_disk};
 ghost use Rattle.jpstore.specs.Copies.{IsCopiedFile, IsFilled, account_copied};
 ghost use Rattle.jpstore.specs.Files.{IsOpenedIn, IsUnopenedIn};
 ghost use Rattle.jpstore.specs.Shown.{Shows};
+ghost use Rattle.jpstore.specs.Upgrades.{format_numbered};
 ghost use Rattle.protocol.specs.Reply.{line_of};
 ghost use Rattle.sector_device.specs.declared.history.History.{Created};
 ghost use Rattle.serve_lines.specs.Session.{status_reply};
@@ -16,7 +17,8 @@ ghost use Rattle.serve_lines.specs.Session.{status_reply};
 use crate::fault::Fault;
 use crate::lines::show_line;
 use crate::opening::{Unopened, store_on};
-use doc_store::{Status, Store};
+use crate::programs::upgrade::numbered;
+use doc_store::{Format, Status, Store};
 use file_device::{Blocks, FileDevice, Held, Progress, Rights};
 use serve_lines::status_line;
 use std::alloc::Global;
@@ -25,6 +27,17 @@ use std::io::Write;
 use std::rt::Files;
 use std::snapshot::Snapshot;
 use store_journal::geometry::capacity;
+
+/// What `copy` is to make.
+#[derive(Clone, Copy)]
+pub struct NewCopy<'a> {
+    /// The path, at which nothing may exist.
+    pub file: &'a str,
+    /// The number of its sectors.
+    pub sectors: u64,
+    /// The format of the store in it: 3 or, for any other number, 2.
+    pub format: u64,
+}
 
 /// How `copy` ended once it had opened the store.
 #[derive(Drop)]
@@ -35,55 +48,55 @@ pub struct Ended {
     pub copied: Result<FileDevice, Fault>,
 }
 
-/// Opens the store in a file that holds what `held` says, which counts as an opening, copies it into a new file of that
-/// many sectors, at a path at which nothing exists, and writes the status of the copy. The new file has the rights of
+/// Opens the store in a file that holds what `held` says, which counts as an opening, copies it into a new file, and writes
+/// the status of the copy. The new file has the rights of
 /// the old one before its first byte, and its blocks are allocated first, while `progress` looks on. If there is a
 /// fault it is removed again, if the system does so.
 pub fn copy_file<R: Files<File = File>, O: Write, P: Progress>(
     rt: &R,
     alloc: Global,
     file: &str,
-    new: &str,
-    sectors: u64,
+    new: NewCopy,
     held: Snapshot<Held>,
     writer: &mut O,
     progress: &mut P,
 ) -> Result<Ended, Unopened>
-    requires most { sectors ≤ MAX_SECTORS }
+    requires most { new.sectors ≤ MAX_SECTORS }
     ensures opened { IfOk result (λ ended. IsOpenedIn held ended.store) }
-    ensures copied { IfOk result (λ ended. IfOk ended.copied (IsCopiedFile sectors ended.store.account)) }
+    ensures copied { IfOk result (λ ended. IfOk ended.copied (IsCopiedFile new.entry.sectors (format_numbered new.entry.format) ended.store.account)) }
     ensures shown { IfOk result (λ ended.
-        Shows ended.copied (line_of (status_reply (status_of (account_copied ended.store.account sectors)))) (O.contents writer.old) (O.contents writer.new)) }
+        Shows ended.copied (line_of (status_reply (status_of (account_copied (format_numbered new.entry.format) ended.store.account new.entry.sectors)))) (O.contents writer.old) (O.contents writer.new)) }
     ensures refused { IfErr result (IsUnopenedIn held) }
     ensures unwritten { OnErr result (writer.new ≡ writer.old) }
 {
     let device = FileDevice::open(rt, alloc, file, held)?;
     let rights = device.rights()?;
     let store = store_on(alloc, device)?;
-    let copied = copy_store(rt, alloc, &store, new, sectors, rights, writer, progress);
+    let format = numbered(new.format);
+    let copied = copy_store(rt, alloc, &store, new, format, rights, writer, progress);
     Ok(Ended { store, copied })
 }
 
-// Copies a store into a new file, which is removed again if that isn't done.
+// Copies a store into a new file, in a format. The file is removed again if that isn't done.
 fn copy_store<R: Files<File = File>, O: Write, P: Progress>(
     rt: &R,
     alloc: Global,
     store: &Store<FileDevice>,
-    new: &str,
-    sectors: u64,
+    new: NewCopy,
+    format: Format,
     rights: Rights,
     writer: &mut O,
     progress: &mut P,
 ) -> Result<FileDevice, Fault>
-    requires most { sectors ≤ MAX_SECTORS }
-    ensures copied { IfOk result (IsCopiedFile sectors store.now.account) }
-    ensures shown { Shows result (line_of (status_reply (status_of (account_copied store.now.account sectors)))) (O.contents writer.old) (O.contents writer.new) }
+    requires most { new.sectors ≤ MAX_SECTORS }
+    ensures copied { IfOk result (IsCopiedFile new.entry.sectors format store.now.account) }
+    ensures shown { Shows result (line_of (status_reply (status_of (account_copied format store.now.account new.entry.sectors)))) (O.contents writer.old) (O.contents writer.new) }
 {
-    let mut device = make_new(rt, alloc, new, sectors, rights, progress)?;
-    match fill(alloc, store, &mut device, sectors, writer) {
+    let mut device = make_new(rt, alloc, new.file, new.sectors, rights, progress)?;
+    match fill(alloc, store, &mut device, new.sectors, format, writer) {
         Ok(()) => Ok(device),
         Err(fault) => {
-            let _ = fs::remove_file(rt, new);
+            let _ = fs::remove_file(rt, new.file);
             Err(fault)
         }
     }
@@ -107,38 +120,39 @@ fn make_new<R: Files<File = File>, P: Progress>(
     }
 }
 
-// Copies a store to a device of `sectors` sectors, and writes the status of the copy.
+// Copies a store to a device of `sectors` sectors, in a format, and writes the status of the copy.
 fn fill<O: Write>(
     alloc: Global,
     store: &Store<FileDevice>,
     device: &mut FileDevice,
     sectors: u64,
+    format: Format,
     writer: &mut O,
 ) -> Result<(), Fault>
     requires most { sectors ≤ MAX_SECTORS }
-    ensures copied { OnOk result (IsFilled (file_disk device.old) (file_disk device.new) store.now.account) }
-    ensures shown { Shows result (line_of (status_reply (status_of (account_copied store.now.account sectors)))) (O.contents writer.old) (O.contents writer.new) }
+    ensures copied { OnOk result (IsFilled format (file_disk device.old) (file_disk device.new) store.now.account) }
+    ensures shown { Shows result (line_of (status_reply (status_of (account_copied format store.now.account sectors)))) (O.contents writer.old) (O.contents writer.new) }
 {
-    match store.copy_to(device) {
+    match store.copy_to(device, format) {
         Err(refusal) => Err(Fault::refused(refusal.number)),
         Ok(used) => {
-            let status = status_of_copy(&store.status(), used, sectors);
+            let status = status_of_copy(&store.status(), used, sectors, format);
             show_line(writer, &status_line(alloc, &status)?)
         }
     }
 }
 
 // The status of the copy, before it is opened.
-fn status_of_copy(status: &Status, used: u64, sectors: u64) -> Status
+fn status_of_copy(status: &Status, used: u64, sectors: u64, format: Format) -> Status
     requires most { sectors ≤ MAX_SECTORS }
-    ensures { (a : Account) → status.now ≡ status_of a → used ≡ length (snapshot_bytes a.state.documents) → result ≡ status_of (account_copied a sectors) }
+    ensures { (a : Account) → status.now ≡ status_of a → used ≡ length (snapshot_bytes a.state.documents) → result ≡ status_of (account_copied format a sectors) }
 {
     Status {
         documents: status.documents,
         seq: status.seq,
         opens: status.opens,
         used,
-        capacity: capacity(false, sectors),
+        capacity: capacity(format.rides(), sectors),
         sectors,
         half: 0,
         broken: false,

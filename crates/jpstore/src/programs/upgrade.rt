@@ -16,8 +16,8 @@ ghost use Rattle.serde_json.specs.Events.{SendsValue};
 
 use crate::fault::Fault;
 use crate::lines::show_line;
-use crate::opening::{Closed, Unopened, open_store};
-use doc_store::{Format, Store};
+use crate::opening::{Closed, Unopened, open_strictly};
+use doc_store::{Format, Store, Strictness};
 use file_device::{FileDevice, Held};
 use protocol::shown_line;
 use serde::{Described, Serialize, Serializer};
@@ -41,13 +41,18 @@ pub fn upgrade_file<R: Files<File = File>, O: Write>(
     ensures refused { IfErr result (IsUnopenedIn held) }
     ensures unwritten { OnErr result (writer.new ≡ writer.old) }
 {
-    let mut store = open_store(rt, alloc, file, held)?;
+    let (mut store, notice) = open_strictly(rt, alloc, file, Strictness::AnyState, held)?;
     let ended = upgrade_store(alloc, &mut store, numbered(format), writer);
-    Ok(Closed { store, ended })
+    Ok(Closed {
+        store,
+        notice,
+        noted: true,
+        ended,
+    })
 }
 
 // The format of a number of the words.
-fn numbered(number: u64) -> Format
+pub(super) fn numbered(number: u64) -> Format
     ensures { result ≡ format_numbered number }
 {
     if number == 3 {

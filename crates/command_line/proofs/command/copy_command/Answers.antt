@@ -8,7 +8,8 @@ returns-clause-shape c =
     let file = c.in_ok-arg.ensures.shape c.file_argument.ensures.local ∙ ap₂ with_rule base c.file_argument.ensures.rule in
     let new = c.in_ok-arg-2.ensures.shape c.new_argument.ensures.local ∙ ap₂ with_rule file c.new_argument.ensures.rule in
     let sectors = c.in_ok-arg-3.ensures.shape c.file_sectors.ensures.local ∙ ap₂ with_rule new c.file_sectors.ensures.rule in
-    ap (λ a. a.top) (c.in_ok-copy.ensures.shape c.why_flag.ensures.local ∙ ap₂ with_rule sectors c.why_flag.ensures.rule)
+    let format = c.in_ok-arg-4.ensures.shape c.format_option.ensures.local ∙ ap₂ with_rule sectors c.format_option.ensures.rule in
+    ap (λ a. a.top) (c.in_ok-copy.ensures.shape c.why_flag.ensures.local ∙ ap₂ with_rule format c.why_flag.ensures.rule)
 
 pub returns-clause-local : goal.returns-clause-local
 returns-clause-local c =
@@ -16,4 +17,5 @@ returns-clause-local c =
     let file = c.in_ok-arg.ensures.globals ∙ ap₂ (λ a b. a || b) base c.file_argument.ensures.local in
     let new = c.in_ok-arg-2.ensures.globals ∙ ap₂ (λ a b. a || b) file c.new_argument.ensures.local in
     let sectors = c.in_ok-arg-3.ensures.globals ∙ ap₂ (λ a b. a || b) new c.file_sectors.ensures.local in
-    c.in_ok-copy.ensures.globals ∙ ap₂ (λ a b. a || b) sectors c.why_flag.ensures.local
+    let format = c.in_ok-arg-4.ensures.globals ∙ ap₂ (λ a b. a || b) sectors c.format_option.ensures.local in
+    c.in_ok-copy.ensures.globals ∙ ap₂ (λ a b. a || b) format c.why_flag.ensures.local

@@ -1,13 +1,15 @@
-use Rattle.std.proofs.Common.{ap, subst, sym}
+use Rattle.std.proofs.Common.{IfErr, IfOk, ap, subst, sym}
+use Rattle.doc_store.specs.declared.opening.Strictness.{Strictness}
 use Rattle.command_line.specs.Call.{asked_of}
 use Rattle.command_line.specs.declared.call.Call.{Call}
 use Rattle.jpstore.specs.Calls.{Does}
+use Rattle.jpstore.specs.Files.{IsNoticedIn, IsUnopenedBy}
 use Rattle.jpstore.specs.declared.kept.Kept.TheVariants.{Served}
 use Rattle.jpstore.proofs.Served.{on_err, serving}
 use Rattle.jpstore.proofs.perform.perform_call.Goals as goal
 
-pub returns-in-Serve : goal.returns-in-Serve
-returns-in-Serve g c =
+pub returns-in-Serve-clause-does : goal.returns-in-Serve-clause-does
+returns-in-Serve-clause-does g c =
     let left = g.I.Read.remaining c.args.reader.now in
     let left_new = g.I.Read.remaining c.serve_file.new.reader in
     let before = g.O.Write.contents c.args.writer.now in
@@ -15,5 +17,7 @@ returns-in-Serve g c =
     let asked = c.in-Serve in
     let e = c.serve_file.ensures in
     subst (λ (call : Call). Does c.args.held (asked_of call) (Served c.serve_file.result) left left_new before after) (sym asked.is)
-    (serving c.args.held asked.batch asked.pump c.serve_file.result left left_new before after e.served e.works e.broke e.closed e.kept e.refused
+    (serving c.args.held asked.batch asked.pump asked.strict c.serve_file.result left left_new before after e.served e.works e.broke e.closed e.kept
+    (subst (λ (s : Strictness). IfOk c.serve_file.result (λ closed. IsNoticedIn s c.args.held closed.store closed.notice)) c.strictness_of-strictness.ensures e.noticed)
+    (subst (λ (s : Strictness). IfErr c.serve_file.result (IsUnopenedBy s c.args.held)) c.strictness_of-strictness.ensures e.refused)
     (on_err c.serve_file.result (ap g.I.Read.remaining) e.unread) (on_err c.serve_file.result (ap g.O.Write.contents) e.unwritten))
