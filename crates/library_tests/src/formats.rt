@@ -88,7 +88,7 @@ fn of_format_1(rt: &impl Abort, alloc: Global) -> MemDisk {
 /// The journal of that disk, and its bytes.
 fn opened(rt: &impl Abort, alloc: Global, disk: MemDisk) -> (Journal<MemDisk>, Vec<u8>) {
     match Journal::open(alloc, disk) {
-        Ok(journal) => journal,
+        Ok((journal, bytes, _)) => (journal, bytes),
         Err(_) => panic!(rt; "not opened"),
     }
 }

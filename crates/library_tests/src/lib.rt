@@ -5,6 +5,8 @@
 #![tactic(auto)]
 
 #[cfg(test)]
+mod anchors;
+#[cfg(test)]
 mod calls;
 #[cfg(test)]
 mod compact;
@@ -30,3 +32,5 @@ mod plain_patches;
 mod pointers;
 #[cfg(test)]
 mod profiles;
+#[cfg(test)]
+mod references;

@@ -125,7 +125,7 @@ fn judges(rt: &impl Abort, alloc: Global, text: &str, instance: &str, valid: boo
     assert!(rt; trial.accepts_change(&instance, &[]) == valid);
     if !schema.has_patterns() {
         assert!(rt; schema.accepts(&instance) == Some(valid));
-        assert!(rt; judge_source(&schema, &instance) == Some(valid));
+        assert!(rt; judge_source(&schema, &instance, alloc).expect(rt, "room") == Some(valid));
     }
 }
 

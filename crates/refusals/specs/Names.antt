@@ -46,6 +46,7 @@ names =
     ∷ (72, codes "not-a-store")
     ∷ (73, codes "damaged")
     ∷ (74, codes "no-room")
+    ∷ (75, codes "cut-off")
     ∷ (76, codes "newer-schema")
     ∷ []
 

@@ -52,6 +52,7 @@ pub fn name_of(number: u16) -> &'static str
         NOT_A_STORE => "not-a-store",
         DAMAGED => "damaged",
         NO_ROOM => "no-room",
+        CUT_OFF => "cut-off",
         NEWER_SCHEMA => "newer-schema",
         _ => "",
     }

@@ -131,5 +131,9 @@ pub const DAMAGED: u16 = 73;
 /// A device holds a store of format 1 whose documents don't fit it in format 2.
 pub const NO_ROOM: u16 = 74;
 
+/// A store in format 3 is opened strictly, and its slots say that a commit was cut off: the last answered change may be
+/// missing.
+pub const CUT_OFF: u16 = 75;
+
 /// A store has a document whose schema an earlier format doesn't allow.
 pub const NEWER_SCHEMA: u16 = 76;

@@ -169,12 +169,12 @@ impl Bench {
         Ok(())
     }
 
-    /// Copies the store to a disk of `sectors` sectors of zeros, with the stops that are set, and goes on with that
-    /// disk, which isn't open.
-    pub fn copy(&mut self, sectors: u64, said: &mut String) -> Result<(), Fault> {
+    /// Copies the store to a disk of `sectors` sectors of zeros, in that format, with the stops that are set, and goes on
+    /// with that disk, which isn't open.
+    pub fn copy(&mut self, sectors: u64, format: Format, said: &mut String) -> Result<(), Fault> {
         let disk = MemDisk::new(self.alloc, sectors)?;
         let mut device = self.device(disk);
-        let ended = self.copy_to(&mut device);
+        let ended = self.copy_to(&mut device, format);
         self.store = None;
         self.disk = Some(device.into_inner().into_inner());
         match ended? {
@@ -185,9 +185,13 @@ impl Bench {
     }
 
     /// Copies the store to a device: how many bytes it uses there, or the number of the refusal.
-    fn copy_to(&self, device: &mut Device) -> Result<Result<u64, u16>, Fault> {
+    fn copy_to(&self, device: &mut Device, format: Format) -> Result<Result<u64, u16>, Fault> {
         match &self.store {
-            Some(store) => Ok(store.copy_to(device).map_err(|refusal| refusal.number)),
+            Some(store) => Ok(
+                store
+                    .copy_to(device, format)
+                    .map_err(|refusal| refusal.number),
+            ),
             None => Err(Fault::Script),
         }
     }

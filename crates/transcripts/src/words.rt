@@ -7,6 +7,7 @@
 //!     !blank N           another disk of N sectors, of zeros
 //!     !copy N            copies the store, which is open, to a disk of N sectors of zeros, and goes on with that disk; says
 //!                        how many bytes it uses there, or `refused NUMBER`
+//!     !copy N 3          the same in format 3
 //!     !fuse N            from the next opening, formatting or copying on N calls of the device pass, and no later one
 //!     !fail N 0          the Nth call from there on fails, and no other; after `1` it has its effect
 //!     !behind N          from here on sessions make a step of N sectors after a change, if one is wanted
@@ -35,6 +36,7 @@
 use crate::bench::Bench;
 use crate::fault::Fault;
 use crate::torn::crash_blocks;
+use doc_store::Format;
 use sector_device::{DeviceCall, MemDisk, SectorDevice};
 use std::alloc::Global;
 
@@ -57,7 +59,8 @@ fn act_by(bench: &mut Bench, name: &str, numbers: &[u64], said: &mut String) -> 
         "format" if numbers.is_empty() => bench.format(said),
         "format" if numbers.len() == 2 => bench.renew_in_3(at(numbers, 0)?),
         "format" => bench.renew(at(numbers, 0)?, true),
-        "copy" => bench.copy(at(numbers, 0)?, said),
+        "copy" if numbers.len() == 2 => bench.copy(at(numbers, 0)?, Format::Three, said),
+        "copy" => bench.copy(at(numbers, 0)?, Format::Two, said),
         "blank" => bench.renew(at(numbers, 0)?, false),
         "fuse" => {
             bench.passing = at(numbers, 0)?;
