@@ -114,7 +114,7 @@ enum jpstore_refusal {
     JPSTORE_REFUSAL_NAME = 15,              /* a name has not 1 to 64 of the letters, digits, '-', '_' and '.' */
     JPSTORE_REFUSAL_EXISTS = 20,            /* a document of that name exists already */
     JPSTORE_REFUSAL_NO_DOCUMENT = 21,       /* no document has that name */
-    JPSTORE_REFUSAL_TOO_MANY = 22,          /* there are 1,024 documents already */
+    JPSTORE_REFUSAL_TOO_MANY = 22,          /* there are 1,024 documents already, or 65,536 in format 3 */
     JPSTORE_REFUSAL_TOO_LARGE = 23,         /* the document would have over 1,048,576 bytes */
     JPSTORE_REFUSAL_REVISION = 24,          /* the document has another revision, cause->rev */
     JPSTORE_REFUSAL_PATCH_SHAPE = 30,       /* the patch is no list of operations */
@@ -148,6 +148,7 @@ enum jpstore_refusal {
     JPSTORE_REFUSAL_NOT_A_STORE = 72,       /* the file is no store */
     JPSTORE_REFUSAL_DAMAGED = 73,           /* the file is a damaged store */
     JPSTORE_REFUSAL_NO_ROOM = 74,           /* the documents don't fit in the new file, or in format 2 */
+    JPSTORE_REFUSAL_CUT_OFF = 75,           /* (only `jpstore serve` and `check` with --strict say this) */
     JPSTORE_REFUSAL_NEWER_SCHEMA = 76       /* a document's schema is none of format 2 */
 };
 
@@ -226,6 +227,10 @@ int jpstore_check(const char *path, jpstore_state *state, jpstore_cause *cause);
  * Faults: as jpstore_format; a new file is removed then. JPSTORE_REFUSED with JPSTORE_REFUSAL_NO_ROOM: the documents don't fit;
  *     with JPSTORE_REFUSAL_NEWER_SCHEMA: a schema is none of format 2. */
 int jpstore_copy(const char *path, const char *new_path, uint64_t sectors, jpstore_state *state, jpstore_cause *cause);
+
+/* The same in this format, 2 or 3; 0 is 2. No schema is refused in format 3. */
+int jpstore_copy_in(const char *path, const char *new_path, uint64_t sectors, uint64_t format, jpstore_state *state,
+                    jpstore_cause *cause);
 
 /* Brings the store in the file at path to this format, 2 or 3; 0 is 3. It counts as an opening, and loses nothing if it is
  * stopped. Format 2 is made by a snapshot.

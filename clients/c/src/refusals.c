@@ -46,6 +46,7 @@ static const char *const NAMES[] = {
     [JPSTORE_REFUSAL_NOT_A_STORE] = "not-a-store",
     [JPSTORE_REFUSAL_DAMAGED] = "damaged",
     [JPSTORE_REFUSAL_NO_ROOM] = "no-room",
+    [JPSTORE_REFUSAL_CUT_OFF] = "cut-off",
     [JPSTORE_REFUSAL_NEWER_SCHEMA] = "newer-schema",
 };
 

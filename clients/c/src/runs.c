@@ -89,6 +89,12 @@ int jpstore_check(const char *path, jpstore_state *state, jpstore_cause *cause)
 
 int jpstore_copy(const char *path, const char *new_path, uint64_t sectors, jpstore_state *state, jpstore_cause *cause)
 {
+    return jpstore_copy_in(path, new_path, sectors, 0, state, cause);
+}
+
+int jpstore_copy_in(const char *path, const char *new_path, uint64_t sectors, uint64_t format, jpstore_state *state,
+                    jpstore_cause *cause)
+{
     no_cause(cause);
     if (!path || !new_path)
         return JPSTORE_ARGUMENTS;
@@ -100,5 +106,7 @@ int jpstore_copy(const char *path, const char *new_path, uint64_t sectors, jpsto
         return JPSTORE_MEMORY;
     }
     session_add(session, "--sectors", sectors);
+    if (format)
+        session_add(session, "--format", format);
     return ran_for_state(session, state, cause);
 }

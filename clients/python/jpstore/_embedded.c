@@ -476,18 +476,18 @@ static PyObject *format_file(PyObject *module, PyObject *arguments)
     return fault == JPSTORE_OK ? PyLong_FromUnsignedLongLong(capacity) : raise_fault(module, fault, cause, NULL);
 }
 
-/* copy(path, new_path, sectors): copies a store into a new file, and returns the copy's status by its members. */
+/* copy(path, new_path, sectors, format): copies a store into a new file, and returns the copy's status by its members. */
 static PyObject *copy_file(PyObject *module, PyObject *arguments)
 {
     const char *path, *new_path;
-    unsigned long long sectors;
+    unsigned long long sectors, format;
     jpstore_state status;
     int fault;
     jpstore_cause cause;
-    if (!PyArg_ParseTuple(arguments, "ssK", &path, &new_path, &sectors))
+    if (!PyArg_ParseTuple(arguments, "ssKK", &path, &new_path, &sectors, &format))
         return NULL;
     Py_BEGIN_ALLOW_THREADS
-    fault = jpstore_copy(path, new_path, sectors, &status, &cause);
+    fault = jpstore_copy_in(path, new_path, sectors, format, &status, &cause);
     Py_END_ALLOW_THREADS
     if (fault != JPSTORE_OK)
         return raise_fault(module, fault, cause, NULL);

@@ -198,10 +198,12 @@ def _change_line(number: int, line: bytes) -> _Line:
     return _Line(number, line if line.endswith(b"\n") else line + b"\n", len(changes))
 
 
-def grow(file: Path, new: Path, sectors: int, program: Optional[Path] = None) -> Status:
+def grow(file: Path, new: Path, sectors: int, program: Optional[Path] = None, *,
+         version: Optional[int] = None) -> Status:
     """Makes a store of this many sectors in `new`, which must not exist, with the documents of the store in `file`.
 
-    They keep their revisions, and the store its count of changes. They are compared, as new openings read them, before
+    They keep their revisions, and the store its count of changes, and its format, unless `version` gives 2 or 3. They
+    are compared, as new openings read them, before
     `new` gets its name; until then it is `new.growing`, which is removed if something fails. `file` keeps all it has.
     Returns the status of the new store.
     """
@@ -209,7 +211,7 @@ def grow(file: Path, new: Path, sectors: int, program: Optional[Path] = None) ->
     part = new + ".growing"
     _check_absent(new, part)
     with Progress("copy"):
-        copy_file(file, part, sectors, program)
+        copy_file(file, part, sectors, program, version=version)
     try:
         with open_store(file, program) as old, open_store(part, program) as grown:
             _compare(old, grown)

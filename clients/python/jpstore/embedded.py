@@ -9,6 +9,7 @@ from .results import Status
 from .wire import commands
 from .wire.conversation import Call, Conversation
 from .wire.program import Path
+from .wire.store_file import format_kept
 from .wire.stream import StreamEnded
 
 try:
@@ -77,9 +78,10 @@ def format_embedded(file: Path, sectors: int, version: int = 2, sparse: bool = F
     return capacity
 
 
-def copy_embedded(file: Path, new: Path, sectors: int) -> Status:
+def copy_embedded(file: Path, new: Path, sectors: int, version: Optional[int] = None) -> Status:
     """As `copy_file`, by the library and not by the program."""
-    return Status.of(_done(_extension().copy, os.fspath(file), os.fspath(new), sectors))
+    kept = format_kept(os.fspath(file)) if version is None else version
+    return Status.of(_done(_extension().copy, os.fspath(file), os.fspath(new), sectors, kept))
 
 
 def upgrade_embedded(file: Path, version: int = 3) -> int:

@@ -5,6 +5,7 @@ from dataclasses import dataclass
 from typing import Any, Callable, Dict, Iterable, Iterator, List, Optional, Sequence, Tuple
 
 from .errors import Invalid, JpstoreError
+from .faults.references import References
 from .patterns import finds
 from .wire.values import escaped
 
@@ -43,11 +44,10 @@ def explain(doc: Any, schema: Any, most: Optional[int] = None) -> List[Fault]:
 
     `most` is the greatest number of faults: those that are found first.
     """
-    validator = _validator()
     if isinstance(schema, dict):
         # A schema that names its dialect is judged by the library's own meaning of patterns.
         schema = {word: value for word, value in schema.items() if word != "$schema"}
-    errors = itertools.islice(validator(schema).iter_errors(doc), most)
+    errors = itertools.islice(_validator(schema).iter_errors(doc), most)
     try:
         return sorted((_fault(error, schema) for error in errors), key=lambda fault: fault.place)
     except Exception as error:
@@ -55,14 +55,24 @@ def explain(doc: Any, schema: Any, most: Optional[int] = None) -> List[Fault]:
         raise JpstoreError(f"jsonschema cannot judge the document: {error}") from error
 
 
-def _validator() -> Any:
-    """The library's validator, to which patterns mean what they mean in the store."""
+def _validator(schema: Any) -> Any:
+    """The library's validator of a schema, to which references and patterns mean what they mean in the store."""
     try:
         from jsonschema import Draft202012Validator, validators
     except ImportError:
         raise JpstoreError(_HOW_TO_GET) from None
+    references = References(schema, 3)
+
+    def reference(validator: Any, word: Any, doc: Any, part: Any) -> Iterator[Any]:
+        found = references.target(word) if isinstance(word, str) else None
+        if found is None:
+            yield from Draft202012Validator.VALIDATORS["$ref"](validator, word, doc, part)
+        else:
+            yield from validator.descend(doc, found[1])
+
     return validators.extend(Draft202012Validator, {
-        "pattern": _pattern, "patternProperties": _by_pattern, "additionalProperties": _others})
+        "$ref": reference, "pattern": _pattern, "patternProperties": _by_pattern,
+        "additionalProperties": _others})(schema)
 
 
 def _pattern(validator: Any, pattern: Any, doc: Any, _schema: Any) -> Iterator[Any]:

@@ -63,9 +63,8 @@ class Larger:
         """Makes the larger file of that, in the same format."""
         with contextlib.suppress(FileNotFoundError):
             os.unlink(self.path)
-        self._run("copy", self._base, self.path, "--sectors", str(self._sectors))
-        if self._format > 2:
-            self._run("upgrade", self.path, "--format", str(self._format))
+        words = ["--format", str(self._format)] if self._format > 2 else []
+        self._run("copy", self._base, self.path, "--sectors", str(self._sectors), *words)
         os.unlink(self._base)
 
     def replace(self) -> None:

@@ -51,8 +51,8 @@ _ROWS = [
             "no document has that name",
             "list the names, and compare"),
     Refusal(22, "too-many",
-            "the store has 1,024 documents already",
-            "delete one, or join several in one document"),
+            "the store has 1,024 documents already, or 65,536 in format 3; `upgrade` and `copy` say it of over 1,024",
+            "delete one, join several in one document, or bring a store in format 2 to format 3 by `upgrade`"),
     Refusal(23, "too-large",
             "the document's compact text would have over 1,048,576 bytes",
             "make the document smaller, or divide it into several"),
@@ -87,16 +87,17 @@ _ROWS = [
             "the path is not a JSON Pointer",
             "begin it with `/`, or leave it empty for the whole document; write `~` as `~0` and `/` in a name as `~1`"),
     Refusal(40, "schema-form",
-            "a schema is neither a boolean nor an object, a keyword's value has a wrong form, or a pattern is none",
+            "a schema is neither a boolean nor an object, a keyword's value has a wrong form, two schemas have one "
+            "`$anchor`, or a pattern is none",
             "compare the schema with JSON Schema Validation 2020-12, section 6, and a pattern with "
             "`docs/use/MODELLING.md`"),
     Refusal(41, "schema-keyword",
             "the schema has a keyword that is not supported (in format 2 also `pattern`, "
-            "`patternProperties` and `dependentSchemas`), has `$id` or `$schema` below its root, or names another "
-            "dialect",
+            "`patternProperties`, `dependentSchemas` and `$anchor`), has `$id` or `$schema` below its root, or names "
+            "another dialect",
             "leave the keyword out, or use supported ones; `jpstore upgrade FILE` makes format 3"),
     Refusal(42, "schema-ref",
-            "a `$ref` is neither `#` nor `#/$defs/NAME` with a NAME that the root's `$defs` has",
+            "a `$ref` leads to no schema in this one; format 2 reads `#` and `#/$defs/NAME` alone",
             "define the schema under `$defs` of the root"),
     Refusal(43, "schema-loop",
             "by `$ref`, `allOf`, `anyOf`, `oneOf`, `not`, `if`, `then`, `else` and `dependentSchemas` a schema leads "
@@ -127,9 +128,10 @@ _ROWS = [
             "the reply would have over 16,777,216 bytes without its LF",
             "select less, or read the values one by one"),
     Refusal(60, "full",
-            "there is no room for the change, not even after a snapshot; or the requested snapshot is longer than a "
-            "half",
-            "make it larger by `jpstore-cli grow STORE`, also while a hub serves it; a `delete` takes room too"),
+            "there is no room for the change, not even after a snapshot, and in format 3 none for the documents that "
+            "it would leave; or the requested snapshot is longer than a half",
+            "make it larger by `jpstore-cli grow STORE`, also while a hub serves it; in format 2 a `delete` takes room "
+            "too"),
     Refusal(61, "device",
             "reading, writing or syncing the file failed during this change, snapshot or step, perhaps as the file "
             "system is full; the next opening shows whether it is stored",
@@ -153,8 +155,8 @@ _ROWS = [
             "the device holds a store already; only programs in Rattle are told this, by `Store::format`",
             "format another device"),
     Refusal(71, "small",
-            "`format` for format 3 was given under 160 sectors, or a program in Rattle, by `Store::format`, a device "
-            "with under 3 or over 4,294,967,296",
+            "`format` or `copy` for format 3 was given under 160 sectors, or a program in Rattle, by `Store::format`, "
+            "a device with under 3 or over 4,294,967,296",
             "choose another number"),
     Refusal(72, "not-a-store",
             "the file does not begin as a store does, or has too few or too many sectors for any store; said when a "
@@ -163,15 +165,19 @@ _ROWS = [
     Refusal(73, "damaged",
             "the file begins as a store, but what follows is not one, or was not copied whole; said when a store is "
             "opened",
-            "restore it from a copy or a dump; `docs/inside/FORMAT.md` tells how to read it by hand"),
+            "restore it from a copy or a dump; without one, `jpstore salvage FILE` writes what can still be read"),
     Refusal(74, "no-room",
             "the documents do not fit in a half: those of a store in the file that `copy` would make, or those of a "
             "file of format 1 in format 2, said when it is opened. Or `upgrade` lacks room for both formats. No "
             "document was written",
             "copy it to a larger file; one of format 1: dump it with the earlier program that wrote it, make a larger "
             "store by `format`, and load the dump"),
+    Refusal(75, "cut-off",
+            "a store of format 3 was opened with `--strict`, and a commit was cut off in it: one that was under way at "
+            "a stop, or, if both its copies are damaged, the last one that was answered. The file was left as it is",
+            "compare it with a copy, or with what its clients know; `jpstore repair FILE` takes it as it is"),
     Refusal(76, "newer-schema",
-            "a schema has a keyword that format 2 lacks; said by `upgrade` and `copy`",
+            "a schema has a keyword or a reference that format 2 lacks; said by `upgrade` and `copy`",
             "change the schema, or stay in format 3"),
 ]
 
@@ -199,6 +205,7 @@ COMPLAINTS: Dict[str, str] = {
     "in-use": "another command uses FILE, under this name or another; no byte of it was read or changed",
     "device": "the device failed during the session; later changes were answered 62, and the replies that were written "
               "are true",
+    "damage": "the lines of `check --deep` say what is damaged; of `salvage`: something is lost, or a commit may be",
     "reader": "standard input or output failed",
     "writer": "standard input or output failed",
     "memory": "the program ran out of memory for its own buffers",

@@ -49,6 +49,11 @@ class Status:
     seq: int
     used: int
 
+    @property
+    def most_documents(self) -> int:
+        """How many documents there may be: 65,536 in format 3, in which a half has fewer bytes, and else 1,024."""
+        return 1_024 if self.capacity == (self.sectors - 1) // 2 * 512 else 65_536
+
     @classmethod
     def of(cls, reply: Dict[str, Any]) -> "Status":
         """The status in a reply."""

@@ -227,10 +227,22 @@ def use_in_child(client):
     return "right" if (found, again) == (VALUE, rev) else f"wrong: {found} {again} {rev}"
 
 
+def states_of(number):
+    """The states of a process's threads, a letter each."""
+    states = []
+    for task in os.listdir(f"/proc/{number}/task"):
+        with open(f"/proc/{number}/task/{task}/stat", encoding="ascii", errors="replace") as opened:
+            states.append(opened.read().rpartition(")")[2].split()[0])
+    return states
+
+
 @contextlib.contextmanager
 def stopped(number):
-    """A block in which a process does nothing."""
+    """A block in which a process does nothing: a thread of it may go on for a moment after the signal."""
     os.kill(number, signal.SIGSTOP)
+    end = time.monotonic() + PATIENCE
+    while any(state != "T" for state in states_of(number)) and time.monotonic() < end:
+        time.sleep(0.001)
     try:
         yield
     finally:

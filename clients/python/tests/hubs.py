@@ -1,5 +1,6 @@
 """A hub as a process of its own, for the tests that need one."""
 import contextlib
+import fcntl
 import json
 import os
 import signal
@@ -10,6 +11,12 @@ import time
 
 from jpstore import Conflict, Ended, Store
 from support import PATIENCE
+
+
+def wait_until_free(file):
+    """Waits until no program has the store: one whose hub was killed seals the store before it ends."""
+    with open(file, "rb") as opened:
+        fcntl.flock(opened, fcntl.LOCK_SH)
 
 
 class Hub:

@@ -38,11 +38,25 @@ pub fn copy(
     new_path: impl AsRef<Path>,
     sectors: u64,
 ) -> Result<Status, Error> {
+    copy_in(path, new_path, sectors, 2)
+}
+
+/// The same in this format, 2 or 3. No schema is refused in format 3.
+///
+/// # Errors
+///
+/// Those of [`copy`], and [`Fault::Arguments`](crate::Fault::Arguments) for another format.
+pub fn copy_in(
+    path: impl AsRef<Path>,
+    new_path: impl AsRef<Path>,
+    sectors: u64,
+    format: u64,
+) -> Result<Status, Error> {
     let (path, new_path) = (c_path(path.as_ref())?, c_path(new_path.as_ref())?);
     let (mut found, mut cause) = (sys::State::default(), sys::Cause::NONE);
     let (from, to) = (path.as_ptr(), new_path.as_ptr());
     // SAFETY: the paths end by 0 and aren't kept, and the places for results are here.
-    let fault = unsafe { sys::jpstore_copy(from, to, sectors, &mut found, &mut cause) };
+    let fault = unsafe { sys::jpstore_copy_in(from, to, sectors, format, &mut found, &mut cause) };
     Error::check(fault, &cause).map(|()| found.into())
 }
 

@@ -26,8 +26,8 @@
 //! - [`Store`]: an open store. [`Store::get`], [`Store::query`], [`Store::list`] and others ask; [`Store::create`],
 //!   [`Store::patch`], [`Store::transaction`] and others change; [`Store::feed`] sends lines of the program's own protocol.
 //! - [`Change`]: a change for [`Store::transaction`] (all or none) and [`Store::group`] (each by itself, in shared commits).
-//! - [`format()`], [`check`], [`copy`] and [`upgrade`]: files of stores that aren't open. [`Options`] and [`FormatOptions`] say
-//!   how one is opened and made.
+//! - [`format()`], [`check`], [`copy`], [`copy_in`] and [`upgrade`]: files of stores that aren't open. [`Options`] and
+//!   [`FormatOptions`] say how one is opened and made.
 //! - [`Error`]: a [`Refusal`] of the store with its [`Reason`], or a [`Fault`] with the system's reason.
 //!
 //! Documents, schemas, patches and values are JSON texts. The crate `jpstore-serde-json`, beside this one, takes and gives
@@ -83,7 +83,7 @@ mod text;
 
 pub use change::Change;
 pub use error::{Error, Fault};
-pub use file::{check, copy, format, upgrade};
+pub use file::{check, copy, copy_in, format, upgrade};
 pub use options::{FormatOptions, Options};
 pub use refusal::{Reason, Refusal};
 pub use status::{Status, Step};

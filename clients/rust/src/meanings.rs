@@ -1,7 +1,7 @@
 //! What each refusal means, and what to do about it: the table of `docs/use/PROTOCOL.md`, with which a test compares it.
 
 /// The number, the meaning and the advice of each refusal.
-pub(crate) const ROWS: [(u16, &str, &str); 43] = [
+pub(crate) const ROWS: [(u16, &str, &str); 44] = [
     (
         10,
         "the line has over 1,048,576 bytes",
@@ -44,8 +44,8 @@ pub(crate) const ROWS: [(u16, &str, &str); 43] = [
     ),
     (
         22,
-        "the store has 1,024 documents already",
-        "delete one, or join several in one document",
+        "the store has 1,024 documents already, or 65,536 in format 3; `upgrade` and `copy` say it of over 1,024",
+        "delete one, join several in one document, or bring a store in format 2 to format 3 by `upgrade`",
     ),
     (
         23,
@@ -107,21 +107,21 @@ pub(crate) const ROWS: [(u16, &str, &str); 43] = [
     ),
     (
         40,
-        "a schema is neither a boolean nor an object, a keyword's value has a wrong form, or a \
-         pattern is none",
+        "a schema is neither a boolean nor an object, a keyword's value has a wrong form, two \
+         schemas have one `$anchor`, or a pattern is none",
         "compare the schema with JSON Schema Validation 2020-12, section 6, and a pattern \
          with `docs/use/MODELLING.md`",
     ),
     (
         41,
         "the schema has a keyword that is not supported (in format 2 also `pattern`, \
-         `patternProperties` and `dependentSchemas`), has `$id` or `$schema` below its root, or \
-         names another dialect",
+         `patternProperties`, `dependentSchemas` and `$anchor`), has `$id` or `$schema` below its \
+         root, or names another dialect",
         "leave the keyword out, or use supported ones; `jpstore upgrade FILE` makes format 3",
     ),
     (
         42,
-        "a `$ref` is neither `#` nor `#/$defs/NAME` with a NAME that the root's `$defs` has",
+        "a `$ref` leads to no schema in this one; format 2 reads `#` and `#/$defs/NAME` alone",
         "define the schema under `$defs` of the root",
     ),
     (
@@ -171,10 +171,10 @@ pub(crate) const ROWS: [(u16, &str, &str); 43] = [
     ),
     (
         60,
-        "there is no room for the change, not even after a snapshot; or the requested snapshot \
-         is longer than a half",
-        "make it larger by `jpstore-cli grow STORE`, also while a hub serves it; a `delete` \
-         takes room too",
+        "there is no room for the change, not even after a snapshot, and in format 3 none for the \
+         documents that it would leave; or the requested snapshot is longer than a half",
+        "make it larger by `jpstore-cli grow STORE`, also while a hub serves it; in format 2 a \
+         `delete` takes room too",
     ),
     (
         61,
@@ -215,7 +215,7 @@ pub(crate) const ROWS: [(u16, &str, &str); 43] = [
     ),
     (
         71,
-        "`format` for format 3 was given under 160 sectors, or a program in Rattle, by \
+        "`format` or `copy` for format 3 was given under 160 sectors, or a program in Rattle, by \
          `Store::format`, a device with under 3 or over 4,294,967,296",
         "choose another number",
     ),
@@ -229,7 +229,7 @@ pub(crate) const ROWS: [(u16, &str, &str); 43] = [
         73,
         "the file begins as a store, but what follows is not one, or was not copied whole; said \
          when a store is opened",
-        "restore it from a copy or a dump; `docs/inside/FORMAT.md` tells how to read it by hand",
+        "restore it from a copy or a dump; without one, `jpstore salvage FILE` writes what can still be read",
     ),
     (
         74,
@@ -240,8 +240,16 @@ pub(crate) const ROWS: [(u16, &str, &str); 43] = [
          it, make a larger store by `format`, and load the dump",
     ),
     (
+        75,
+        "a store of format 3 was opened with `--strict`, and a commit was cut off in it: one that \
+         was under way at a stop, or, if both its copies are damaged, the last one that was \
+         answered. The file was left as it is",
+        "compare it with a copy, or with what its clients know; `jpstore repair FILE` takes it as \
+         it is",
+    ),
+    (
         76,
-        "a schema has a keyword that format 2 lacks; said by `upgrade` and `copy`",
+        "a schema has a keyword or a reference that format 2 lacks; said by `upgrade` and `copy`",
         "change the schema, or stay in format 3",
     ),
 ];

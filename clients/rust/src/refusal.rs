@@ -82,7 +82,7 @@ pub enum Reason {
     Exists = 20,
     /// No document has that name.
     NoDocument = 21,
-    /// There are 1,024 documents already.
+    /// There are 1,024 documents already, or 65,536 in format 3.
     TooMany = 22,
     /// The document would have over 1,048,576 bytes.
     TooLarge = 23,
@@ -150,11 +150,13 @@ pub enum Reason {
     Damaged = 73,
     /// The documents don't fit in the new file of a copy, or of a store of format 1 in format 2.
     NoRoom = 74,
+    /// Only the program says this, with `--strict`: a commit was cut off in the store.
+    CutOff = 75,
     /// A document's schema has a keyword that only stores of format 3 read, and format 2 was asked for.
     NewerSchema = 76,
 }
 
-const ALL: [Reason; 43] = [
+const ALL: [Reason; 44] = [
     Reason::LineTooLong,
     Reason::NotJson,
     Reason::Number,
@@ -197,6 +199,7 @@ const ALL: [Reason; 43] = [
     Reason::NotAStore,
     Reason::Damaged,
     Reason::NoRoom,
+    Reason::CutOff,
     Reason::NewerSchema,
 ];
 

@@ -97,10 +97,11 @@ extern "C" {
         cause: *mut Cause,
     ) -> c_int;
     pub fn jpstore_check(path: *const c_char, state: *mut State, cause: *mut Cause) -> c_int;
-    pub fn jpstore_copy(
+    pub fn jpstore_copy_in(
         path: *const c_char,
         new_path: *const c_char,
         sectors: u64,
+        format: u64,
         state: *mut State,
         cause: *mut Cause,
     ) -> c_int;

@@ -1,8 +1,8 @@
 //! The store through this crate, with what it must answer worked out by hand.
 
 use jpstore::{
-    check, copy, format, upgrade, Change, Error, Fault, FormatOptions, Options, Reason, Status,
-    Step, Store,
+    check, copy, copy_in, format, upgrade, Change, Error, Fault, FormatOptions, Options, Reason,
+    Status, Step, Store,
 };
 use std::error::Error as _;
 use std::io;
@@ -202,11 +202,7 @@ fn schemas_of_format_3() {
         (3, &long, Reason::SchemaSize),
         (3, r#"{"pattern":"b"}"#, Reason::Invalid),
         (2, r#"{"patternProperties":{}}"#, Reason::SchemaKeyword),
-        (
-            3,
-            r#"{"patternProperties":{"(":{}}}"#,
-            Reason::SchemaForm,
-        ),
+        (3, r#"{"patternProperties":{"(":{}}}"#, Reason::SchemaForm),
         (3, r#"{"unevaluatedItems":true}"#, Reason::SchemaKeyword),
     ];
     for (format, schema, reason) in rows {
@@ -234,6 +230,8 @@ fn schemas_of_format_3() {
         Reason::NewerSchema.number()
     );
     assert!(!new.0.exists());
+    assert_eq!(copy_in(&file.0, &new.0, 512, 3).unwrap().documents, 1);
+    assert_eq!(upgrade(&new.0, 3), Ok(3));
 }
 
 #[test]

@@ -1,6 +1,7 @@
 """What becomes of each keyword: a function by its name, for what 2020-12 or the store says in another way."""
-from typing import TYPE_CHECKING, Any, Callable, Dict, List
+from typing import TYPE_CHECKING, Any, Callable, Container, Dict, List
 
+from ..faults.references import is_anchor
 from ..wire.values import LEAST, MOST
 from .documents import At
 from .numbers import BOUNDS, bound, divisor, has_unsendable
@@ -8,7 +9,7 @@ from .numbers import BOUNDS, bound, divisor, has_unsendable
 if TYPE_CHECKING:
     from .schema import Work
 
-__all__ = ["TRANSLATED", "unknown_in"]
+__all__ = ["TRANSLATED", "free_name", "unknown_in"]
 
 _Out = Dict[str, Any]
 _Translation = Callable[["Work", At, Dict[str, Any], _Out], None]
@@ -25,6 +26,14 @@ _SINCE = {
 # The words by which a schema asks more of the same value than its own properties and items do.
 _IN_PLACE = ("$ref", "$dynamicRef", "$recursiveRef", "allOf", "anyOf", "oneOf", "not", "if", "then", "else",
              "dependentSchemas", "dependencies", "patternProperties", "additionalProperties", "contains")
+
+
+def free_name(name: str, taken: Container[str]) -> str:
+    """The name, with a number after it if it is taken."""
+    free, number = name, 2
+    while free in taken:
+        free, number = f"{name}_{number}", number + 1
+    return free
 
 
 def unknown_in(draft: int, word: str) -> bool:
@@ -85,11 +94,19 @@ def _once(names: List[Any]) -> List[Any]:
 
 
 def _definitions(work: "Work", at: At, schema: Dict[str, Any], out: _Out) -> None:
-    """What is defined comes under `$defs` of the root: all of the root's, and what references lead to."""
+    """What is defined comes under `$defs` of the root: all of the root's, and what references lead to.
+
+    In profile 3 it stays in its schema.
+    """
+    if work.profile > 2 and "$defs" in out:
+        return
     for word in ("definitions", "$defs"):
         parts = schema.get(word)
-        if not at.tokens and not at.document and isinstance(parts, dict):
-            for name, part in parts.items():
+        for name, part in parts.items() if isinstance(parts, dict) else ():
+            if work.profile > 2:
+                defs = out.setdefault("$defs", {})
+                defs[free_name(name, defs)] = work.translated(at.below(word, name), part)
+            elif not at.tokens and not at.document:
                 work.name_of(at.below(word, name), part)
 
 
@@ -100,9 +117,28 @@ def _reference(work: "Work", at: At, schema: Dict[str, Any], out: _Out) -> None:
 def _refer(work: "Work", at: At, word: str, reference: Any, out: _Out) -> None:
     found = work.documents.target(at, reference) if isinstance(reference, str) else None
     if found is None or not isinstance(found[1], (dict, bool)):
-        out[word] = reference
-        return
-    out["$ref"] = work.name_of(*found)
+        _referring(out, word)[word] = reference
+    elif work.profile > 2:
+        part = _referring(out, "$ref")
+        part["$ref"] = reference
+        work.refers(part, *found)
+    else:
+        _referring(out, "$ref")["$ref"] = work.name_of(*found)
+
+
+def _referring(out: _Out, word: str) -> _Out:
+    """The schema itself, or one that it asks beside, if the reference of another keyword is in it already."""
+    if word not in out:
+        return out
+    part: _Out = {}
+    _also(out, part)
+    return part
+
+
+def _also(out: _Out, *parts: Any) -> None:
+    """Adds to what a schema asks of the same value."""
+    before = out.get("allOf", [])
+    out["allOf"] = [*before, *parts] if isinstance(before, list) else before
 
 
 def _recursive(work: "Work", at: At, schema: Dict[str, Any], out: _Out) -> None:
@@ -121,7 +157,15 @@ def _dynamic(work: "Work", at: At, schema: Dict[str, Any], out: _Out) -> None:
 
 
 def _anchor(work: "Work", at: At, schema: Dict[str, Any], out: _Out) -> None:
-    """References to it lead to `$defs`."""
+    """In profile 2, and from other documents, references to it lead to `$defs`."""
+    name = schema["$anchor"]
+    if work.profile == 2 or at.document:
+        return
+    if not isinstance(name, str):
+        out["$anchor"] = name
+    elif is_anchor(name) and name not in work.anchors:
+        out["$anchor"] = name
+        work.anchors.add(name)
 
 
 def _identity(work: "Work", at: At, schema: Dict[str, Any], out: _Out) -> None:
@@ -185,7 +229,7 @@ def _dependent_schemas(work: "Work", at: At, schema: Dict[str, Any], out: _Out) 
 
 def _depend(work: "Work", at: At, name: str, schema: Any, out: _Out) -> None:
     has = {"type": "object", "required": [name]}
-    out["allOf"] = [*out.get("allOf", []), {"if": has, "then": work.translated(at, schema)}]
+    _also(out, {"if": has, "then": work.translated(at, schema)})
 
 
 def _unevaluated(word: str, same: str) -> _Translation:
@@ -286,7 +330,7 @@ def _count(word: str) -> _Translation:
 def _extends(work: "Work", at: At, schema: Dict[str, Any], out: _Out) -> None:
     value: Any = schema["extends"]
     parts: List[Any] = value if isinstance(value, list) else [value]
-    out["allOf"] = [*out.get("allOf", []), *(work.translated(at.below("extends"), part) for part in parts)]
+    _also(out, *(work.translated(at.below("extends"), part) for part in parts))
 
 
 def _disallow(work: "Work", at: At, schema: Dict[str, Any], out: _Out) -> None:
@@ -340,7 +384,7 @@ TRANSLATED: Dict[str, _Translation] = {
     **{word: _bound(word) for word in BOUNDS},
     **{word: _count(word) for word in ("minLength", "maxLength", "minItems", "maxItems", "minProperties",
                                        "maxProperties", "minContains", "maxContains")},
-    "$anchor": _anchor, "$defs": _definitions, "$dynamicAnchor": _anchor, "$dynamicRef": _dynamic, "$id": _identity,
+    "$anchor": _anchor, "$defs": _definitions, "$dynamicAnchor": _nothing, "$dynamicRef": _dynamic, "$id": _identity,
     "$recursiveAnchor": _nothing, "$recursiveRef": _recursive, "$ref": _reference, "$schema": _dialect,
     "$vocabulary": _vocabulary, "additionalItems": _additional_items, "additionalProperties": _additional,
     "const": _const, "definitions": _definitions, "dependencies": _dependencies,

@@ -6,15 +6,16 @@ store does not read stays as it is and is in `left`.
 """
 import re
 from dataclasses import dataclass
-from typing import Any, Collection, Dict, List, NamedTuple, Optional, Tuple
+from typing import Any, Collection, Dict, List, NamedTuple, Optional, Set, Tuple
 
 from ..faults.positions import subschemas
+from ..faults.references import References, reference_to
 from ..faults.schema import DIALECT, SchemaFault, faults_of_schema, told_pattern
 from ..faults.words import pointer_of
 from ..patterns import NoPattern, read_ecma, written
 from ..wire.values import escaped
 from .documents import At, Documents, Read, Tokens
-from .keywords import TRANSLATED, unknown_in
+from .keywords import TRANSLATED, free_name, unknown_in
 from .numbers import has_unsendable
 
 __all__ = ["Adapted", "Change", "Schema", "Work"]
@@ -66,7 +67,7 @@ class Schema:
 
         `drop` are keywords to leave out where the store does not read them; the result's `$comment` says so. `read` is
         called with the URI of each document that a reference leads to, and returns its schema or None. In profile 3
-        patterns are kept, and rewritten so that they mean in the store what ECMA-262 says.
+        references to any place are kept, and patterns, rewritten so that they mean in the store what ECMA-262 says.
         """
         work = Work(schema, drop, read, profile)
         made = work.translated(work.documents.first, schema)
@@ -88,6 +89,11 @@ class Work:
         # The names of what references lead to, by its place, and what is still to be translated.
         self._names: Dict[Tuple[str, Tokens], str] = {}
         self._waiting: List[Tuple[str, At, Any]] = []
+        # In profile 3 what each place has become, and the schemas with references, with what these lead to.
+        self._made: Dict[Tuple[str, Tokens], Dict[str, Any]] = {}
+        self._references: List[Tuple[Dict[str, Any], At, Any]] = []
+        #: The anchors that are kept.
+        self.anchors: Set[str] = set()
 
     def note(self, at: At, message: str) -> None:
         """Notes that something is not as it was."""
@@ -122,6 +128,7 @@ class Work:
         at = at.inside(schema)
         schema = self._without_siblings(at, schema)
         out: Dict[str, Any] = {}
+        self._made.setdefault((at.document, at.tokens), out)
         for word, value in schema.items():
             self._member(at, schema, word, value, out)
         return out
@@ -158,19 +165,14 @@ class Work:
         if key == ("", ()):
             return "#"
         if key not in self._names:
-            name = self._free_name(at)
+            name = free_name(_own_name(at), set(self._names.values()))
             self._names[key] = name
             self._waiting.append((name, at, schema))
         return f"#/$defs/{self._names[key]}"
 
-    def _free_name(self, at: At) -> str:
-        own = at.tokens[-1] if at.tokens else re.sub(r"\.json$", "", at.document.rpartition("/")[2])
-        name = _NO_NAME.sub("_", str(own)) or "schema"
-        taken, number = set(self._names.values()), 2
-        free = name
-        while free in taken:
-            free, number = f"{name}_{number}", number + 1
-        return free
+    def refers(self, out: Dict[str, Any], at: At, schema: Any) -> None:
+        """Notes what the reference of a schema leads to; how it is written is known when all is translated."""
+        self._references.append((out, at, schema))
 
     def finished(self, made: Any) -> Any:
         """The whole schema, with all that references lead to."""
@@ -181,6 +183,9 @@ class Work:
             defs[name].pop("$schema", None) if isinstance(defs[name], dict) else None
         if not isinstance(made, dict):
             return made
+        if self._references:
+            self._bundle(made)
+            self._write_references(made)
         if "$schema" in made:
             made["$schema"] = DIALECT
         if self._dropped:
@@ -190,6 +195,45 @@ class Work:
         if defs:
             made["$defs"] = defs
         return made
+
+    def _bundle(self, made: Dict[str, Any]) -> None:
+        """Brings under `$defs` what references lead to and is no part of the schema yet."""
+        known = {id(part) for _, part in subschemas(made, 3) if isinstance(part, dict)}
+        # It grows meanwhile: what is brought may have references.
+        for out, at, schema in self._references:
+            key = at.document, at.tokens
+            if key in self._names or id(self._made.get(key)) in known or _is_same(made, out, schema):
+                continue
+            defs = made.setdefault("$defs", {})
+            self._names[key] = free_name(_own_name(at), defs)
+            part = defs[self._names[key]] = self.translated(at, schema)
+            if isinstance(part, dict):
+                part.pop("$schema", None)
+                self._made[key] = part
+                known.update(id(inner) for _, inner in subschemas(part, 3))
+
+    def _write_references(self, made: Dict[str, Any]) -> None:
+        """Writes each reference that doesn't lead, as it is, to what its target has become."""
+        places = {id(part): trail for trail, part in subschemas(made, 3) if isinstance(part, dict)}
+        references = References(made, 3)
+        for out, at, _ in self._references:
+            key = at.document, at.tokens
+            part, found = self._made.get(key), references.target(out["$ref"])
+            if id(part) in places and (found is None or found[1] is not part):
+                out["$ref"] = reference_to(places[id(part)])
+            elif part is None and key in self._names:
+                out["$ref"] = reference_to((((), "$defs"), self._names[key]))
+
+
+def _is_same(made: Dict[str, Any], out: Dict[str, Any], schema: Any) -> bool:
+    """Whether a reference to true or false leads to one as it is."""
+    found = References(made, 3).target(out["$ref"]) if isinstance(schema, bool) else None
+    return found is not None and found[1] is schema
+
+
+def _own_name(at: At) -> str:
+    own = at.tokens[-1] if at.tokens else re.sub(r"\.json$", "", at.document.rpartition("/")[2])
+    return _NO_NAME.sub("_", str(own)) or "schema"
 
 
 def _listed(words: List[str]) -> str:

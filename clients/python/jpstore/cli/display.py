@@ -31,7 +31,7 @@ def shown_status(status: Status) -> str:
     """The status of a store, with how full it is."""
     full = 100 * status.used / status.capacity
     rows: List[List[Union[str, int]]] = [
-        ["documents", f"{status.documents:,} of 1,024"],
+        ["documents", f"{status.documents:,} of {status.most_documents:,}"],
         ["used", f"{status.used:,} of {status.capacity:,} bytes ({full:.1f} %)"],
         ["changes", f"{status.seq:,}"],
         ["openings", f"{status.opens:,}"],

@@ -35,7 +35,7 @@ def _format(words: argparse.Namespace) -> None:
     capacity = format_file(words.store, sectors, program_of(words), words.mode, version=words.format,
                            sparse=words.sparse)
     said(words, {"capacity": capacity, "sectors": sectors},
-         f"{words.store} is an empty store of {sectors * SECTOR:,} bytes; half of it, {capacity:,} bytes, holds the "
+         f"{words.store} is an empty store of {sectors * SECTOR:,} bytes, {capacity:,} of them for the "
          "documents")
 
 
@@ -45,15 +45,19 @@ def _check(words: argparse.Namespace) -> None:
 
 
 def _copy(words: argparse.Namespace) -> None:
-    status = copy_file(words.store, words.new, words.sectors or _sectors_in(words.store), program_of(words))
+    status = copy_file(words.store, words.new, words.sectors or _sectors_in(words.store), program_of(words),
+                       version=words.format)
     said(words, vars(status), f"{words.new} has the same documents\n{shown_status(status)}")
 
 
 def _grow(words: argparse.Namespace) -> None:
     if words.new is not None and is_socket(words.store):
         raise JpstoreError("the store of a hub grows in its place: leave NEW out")
+    if words.new is None and words.format is not None:
+        raise JpstoreError("a store that grows in its place keeps its format: leave `--format` out, or name NEW")
     if words.new is not None:
-        status = grow(words.store, words.new, words.sectors or 2 * _sectors_in(words.store), program_of(words))
+        status = grow(words.store, words.new, words.sectors or 2 * _sectors_in(words.store), program_of(words),
+                      version=words.format)
         said(words, vars(status), f"{words.new} has the same documents\n{shown_status(status)}")
         return
     if is_socket(words.store):
@@ -80,6 +84,11 @@ def _sizes(otherwise: str) -> List[Word]:
             ("--sectors", {"metavar": "N", "type": int, "help": "its size in sectors of 512 bytes"})]
 
 
+def _format_of_new(otherwise: str) -> Word:
+    return ("--format", {"metavar": "V", "type": int, "choices": (2, 3),
+                         "help": f"the format of the new file, 2 or 3 ({otherwise})"})
+
+
 #: The words of which one is given at most.
 SIZE_WORDS: Tuple[str, ...] = ("--size", "--sectors")
 
@@ -92,12 +101,12 @@ FILE_COMMANDS: Dict[str, Row] = {
         ("--sparse", {"action": "store_true", "help": "leave its blocks to be allocated as they are written"})]),
     "check": (_check, "reads and judges all of a store, and shows its status", "check inventory", []),
     "copy": (_copy, "copies a store into a new file, with its revisions and counts", "copy inventory saved", [
-        _NEW, *_sizes("that of STORE")]),
+        _NEW, *_sizes("that of STORE"), _format_of_new("that of STORE")]),
     "grow": (_grow, "makes a store larger: in its place, also while a hub serves it, or as another file",
              "grow inventory.socket --size 32M", [
                  ("new", {"metavar": "NEW", "nargs": "?", "help": "a new file for the larger store; STORE, a file that "
                                                                   "nobody serves, stays as it is then"}),
-                 *_sizes("twice that of STORE")]),
+                 *_sizes("twice that of STORE"), _format_of_new("that of STORE; with NEW alone")]),
     "upgrade": (_upgrade, "brings a store to format 3, or back to 2", "upgrade inventory", [
         ("--format", {"metavar": "V", "type": int, "choices": (2, 3), "default": 3,
                       "help": "the format to bring it to, 2 or 3 (3)"})]),

@@ -1,9 +1,10 @@
 """The schemas in a schema: those that its keywords have, by the shapes of their values."""
+import re
 from typing import Any, Iterator, List, Tuple
 
 from .words import Trail
 
-__all__ = ["IN_PLACE", "below", "subschemas"]
+__all__ = ["IN_PLACE", "below", "step", "subschemas"]
 
 _ONE = ("additionalProperties", "propertyNames", "items", "contains", "not", "if", "then", "else")
 _SEVERAL = ("prefixItems", "allOf", "anyOf", "oneOf")
@@ -40,3 +41,23 @@ def below(trail: Trail, word: Any, value: Any, profile: int) -> Iterator[Tuple[T
         yield from (((at, index), item) for index, item in enumerate(value))
     elif _is_named(word, profile) and isinstance(value, dict):
         yield from (((at, name), item) for name, item in value.items())
+
+
+def step(trail: Trail, schema: Any, tokens: List[str]) -> Tuple[Trail, Any, List[str]]:
+    """The schema in this one that the first tokens of a pointer lead to, its way, and the rest of the tokens.
+
+    If they lead to none, that is this schema, its way, and all of them.
+    """
+    word, inner = tokens[0], tokens[1:]
+    if not isinstance(schema, dict) or word not in schema:
+        return trail, schema, tokens
+    at, value = (trail, word), schema[word]
+    if word in _ONE:
+        return at, value, inner
+    if inner and word in _SEVERAL and isinstance(value, (list, tuple)):
+        index = int(inner[0]) if re.fullmatch("0|[1-9][0-9]{0,6}", inner[0]) else len(value)
+        if index < len(value):
+            return (at, index), value[index], inner[1:]
+    if inner and _is_named(word, 3) and isinstance(value, dict) and inner[0] in value:
+        return (at, inner[0]), value[inner[0]], inner[1:]
+    return trail, schema, tokens

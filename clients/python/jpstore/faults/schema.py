@@ -10,7 +10,7 @@ from ..refusals import DIALECT
 from ..wire.values import canonical
 from .depths import deeper_than
 from .positions import subschemas
-from .references import References
+from .references import References, is_anchor
 from .words import Trail, place_in, pointer_of, shown
 
 __all__ = ["DIALECT", "FORMAT_3_ONLY", "NOT_SUPPORTED", "SchemaFault", "faults_of_schema", "told_pattern",
@@ -20,9 +20,8 @@ __all__ = ["DIALECT", "FORMAT_3_ONLY", "NOT_SUPPORTED", "SchemaFault", "faults_o
 NOT_SUPPORTED = {
     "unevaluatedProperties": "`additionalProperties` beside all `properties` says the same for one schema",
     "unevaluatedItems": "`items` after `prefixItems` says the same for one schema",
-    "$anchor": "`$defs` of the root has a schema by name, for `#/$defs/NAME`",
     "$dynamicAnchor": "`$defs` of the root has a schema by name, for `#/$defs/NAME`",
-    "$dynamicRef": "`$ref` leads to `#` or `#/$defs/NAME`",
+    "$dynamicRef": "`$ref` leads to one schema",
     "$vocabulary": "it is for schemas of schemas, and can be left out",
 }
 
@@ -32,6 +31,7 @@ FORMAT_3_ONLY = {
     "patternProperties": "`properties` has the members whose names are known, `additionalProperties` all others, and "
                          "`propertyNames` bounds the names",
     "dependentSchemas": "`allOf` with `if`: {\"required\": [NAME]} and `then` says the same",
+    "$anchor": "`$defs` of the root has a schema by name, for `#/$defs/NAME`",
 }
 
 # The most bytes of a schema, levels in it, patterns of it, and bytes of each (44).
@@ -110,6 +110,7 @@ _FORMS: Dict[str, _Form] = {
     # Those of profile 3, which profile 2 refuses whatever they have.
     "pattern": (_is_text, "a text"), "patternProperties": (_OBJECT[0], "an object of schemas by patterns"),
     "dependentSchemas": _OBJECT,
+    "$anchor": (is_anchor, "a letter or `_`, then letters, digits, `_`, `-` and `.`"),
 }
 
 # What is wrong with a form that earlier drafts had, by keyword and type of the value.
@@ -136,6 +137,8 @@ def faults_of_schema(schema: Any, profile: int = 2) -> Iterator[SchemaFault]:
             for place, pattern in _patterns_in(trail, part) if profile > 2 else ():
                 patterns += 1
                 yield from _of_pattern(place, pattern, patterns)
+            if profile > 2:
+                yield from _of_anchor(references, trail, part)
         elif not isinstance(part, bool):
             yield SchemaFault(40, pointer_of(trail), _no_schema(trail, part))
     loop = references.loop()
@@ -159,6 +162,16 @@ def _is_long(schema: Any) -> bool:
     except (TypeError, ValueError):
         # A value that no line can have is told elsewhere.
         return False
+
+
+def _of_anchor(references: References, trail: Trail, part: Dict[Any, Any]) -> Iterator[SchemaFault]:
+    name = part.get("$anchor")
+    if not isinstance(name, str) or not is_anchor(name):
+        return
+    first = pointer_of(references.anchors()[name][0])
+    if first != pointer_of(trail):
+        told = f"the schema at {place_in(first)}" if first else "the root"
+        yield SchemaFault(40, pointer_of((trail, "$anchor")), f"{told} has the same `$anchor`")
 
 
 def _patterns_in(trail: Trail, part: Dict[Any, Any]) -> Iterator[Tuple[Trail, str]]:

@@ -9,9 +9,8 @@ from typing import Any, Dict, Optional, Sequence
 from ..dump import give_name, sync_folder
 from ..errors import JpstoreError
 from ..wire.commands import get, get_schema, line_of
-from ..wire.program import check_file, copy_file, upgrade_file
+from ..wire.program import check_file, copy_file
 from ..wire.replies import seq_in
-from ..wire.store_file import format_of
 from .capacity import LEAST_CAPACITY, room_of
 from .copying import receive_copy
 from .engine import Member
@@ -96,8 +95,6 @@ def join(new: str, node: str, source: str, members: Sequence[Member], name: str,
     try:
         size = receive_copy(source, part)
         copy_file(part, whole, sectors or size, program)
-        if format_of(part) > 2:
-            upgrade_file(whole, format_of(part), program)
         status = check_file(whole, program)
         place = asyncio.run(_place(whole, program, members, name))
         give_name(whole, new)

@@ -9,6 +9,7 @@ from ..errors import Ended, JpstoreError, TimedOut, accessing
 from ..results import Status
 from .conversation import Call
 from .forks import Descriptor, in_each_child, while_none_forks
+from .store_file import format_kept
 from .stream import PIECE, Lines, StreamEnded, StreamSilent
 
 __all__ = [
@@ -175,13 +176,19 @@ def check_file(file: Path, program: Optional[Path] = None) -> Status:
     return Status.of(_shown([find_program(program), "check", path_word(file)]))
 
 
-def copy_file(file: Path, new: Path, sectors: int, program: Optional[Path] = None) -> Status:
+def copy_file(file: Path, new: Path, sectors: int, program: Optional[Path] = None, *,
+              version: Optional[int] = None) -> Status:
     """Copies the store in `file` into `new`, which must not exist, with this many sectors, and returns its status.
 
-    The copy has the documents with their schemas and revisions, and the counts of changes and openings. After a stop
-    `new` holds no store, or all of this; if the program fails it removes `new`. It counts as an opening of `file`.
+    The copy has the documents with their schemas and revisions, and the counts of changes and openings; it is in format
+    2 or 3 by `version`, and without it in that of `file`. After a stop `new` holds no store, or all of this; if the
+    program fails it removes `new`. It counts as an opening of `file`.
     """
     words = [find_program(program), "copy", path_word(file), path_word(new), "--sectors", str(sectors)]
+    kept = format_kept(os.fspath(file)) if version is None else version
+    # Each program makes format 2 without this word, also one that doesn't know it.
+    if kept != 2:
+        words += ["--format", str(kept)]
     return Status.of(_shown(words))
 
 

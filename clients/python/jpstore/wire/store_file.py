@@ -6,7 +6,7 @@ from typing import BinaryIO, Iterator, NamedTuple
 from ..errors import JpstoreError, accessing
 from .store_slots import SLOTS, begin_of, capacity_of, counting
 
-__all__ = ["SECTOR", "Committed", "committed_in", "format_of"]
+__all__ = ["SECTOR", "Committed", "committed_in", "format_kept", "format_of"]
 
 #: The length of a sector.
 SECTOR = 512
@@ -65,6 +65,14 @@ def format_of(path: str) -> int:
     """The format of the store in a file."""
     with accessing(path), open(path, "rb") as opened:
         return committed_in(opened).version
+
+
+def format_kept(path: str) -> int:
+    """The format that a copy of the store in a file keeps: 2 also for one of format 1, and for no store."""
+    try:
+        return format_of(path)
+    except JpstoreError:
+        return 2
 
 
 def committed_in(file: BinaryIO) -> Committed:

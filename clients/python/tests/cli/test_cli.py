@@ -221,7 +221,7 @@ def test_changes_are_shown_as_the_hub_tells_them(place):
 
 def test_the_files_of_stores_are_made_judged_and_copied(place):
     shown = told(place, "format", "store", "--size", "2M", "--mode", "640")
-    assert shown == ("store is an empty store of 2,097,152 bytes; half of it, 1,048,064 bytes, holds the documents")
+    assert shown == ("store is an empty store of 2,097,152 bytes, 1,048,064 of them for the documents")
     assert (os.stat(place.file).st_size, os.stat(place.file).st_mode & 0o777) == (2 << 20, 0o640)
     told(place, "new", "store", "d", "1")
     assert told(place, "check", "store").splitlines()[:2] == ["store is a store", "documents  1 of 1,024"]

@@ -5,7 +5,7 @@ import os
 import random
 
 import pytest
-from jpstore import Schema, Unsendable
+from jpstore import Schema, Unsendable, explain
 from jpstore.wire.values import text_of
 
 jsonschema = pytest.importorskip("jsonschema")
@@ -58,6 +58,8 @@ _TRANSLATED = [
      {"properties": {"a": {"$ref": "#"}}, "additionalProperties": False}),
     (2020, {"$dynamicAnchor": "x", "items": {"$dynamicRef": "#x"}}, {"items": {"$ref": "#"}}),
     (7, {"allOf": [], "required": ["a", "a"]}, {"required": ["a"]}),
+    (2020, {"$ref": "#/$defs/a", "$dynamicRef": "#/$defs/b", "$defs": {"a": {"minimum": 1}, "b": {"maximum": 2}}},
+     {"$ref": "#/$defs/a", "allOf": [{"$ref": "#/$defs/b"}], "$defs": {"a": {"minimum": 1}, "b": {"maximum": 2}}}),
 ]
 
 # Keywords that the library judges wrongly in some versions: it raises TypeError, or goes astray in recursion.
@@ -81,6 +83,67 @@ def _some_value(chance, depth=2):
     if kind == "list":
         return [_some_value(chance, depth - 1) for _ in range(chance.randint(0, 3))]
     return {name: _some_value(chance, depth - 1) for name in chance.sample("abc", chance.randint(0, 3))}
+
+
+# What is otherwise in profile 3, which reads references to any place.
+_TRANSLATED_TO_3 = [
+    (4, {"id": "http://a/b", "definitions": {"n": {"type": "integer"}},
+         "properties": {"a": {"$ref": "b#/definitions/n"}, "b": {"$ref": "http://a/b#/properties/a"}}},
+     {"$id": "http://a/b", "$defs": {"n": {"type": "integer"}},
+      "properties": {"a": {"$ref": "#/$defs/n"}, "b": {"$ref": "http://a/b#/properties/a"}}}),
+    (7, {"properties": {"a": {"$ref": "#/properties/b"}, "b": {"type": "string"}}},
+     {"properties": {"a": {"$ref": "#/properties/b"}, "b": {"type": "string"}}}),
+    (7, {"items": [{"type": "null"}], "properties": {"a": {"$ref": "#/items/0"}}},
+     {"prefixItems": [{"type": "null"}], "properties": {"a": {"$ref": "#/prefixItems/0"}}}),
+    (7, {"properties": {"a": {"$ref": "#x"}}, "definitions": {"n": {"$id": "#x", "type": "null"}}},
+     {"properties": {"a": {"$ref": "#/$defs/n"}}, "$defs": {"n": {"type": "null"}}}),
+    (7, {"definitions": {"a b": {"$ref": "#"}}, "properties": {"a": {"$ref": "#/definitions/a%20b"}}},
+     {"$defs": {"a b": {"$ref": "#"}}, "properties": {"a": {"$ref": "#/$defs/a%20b"}}}),
+    (7, {"properties": {"a": {"definitions": {"n": {"type": "null"}},
+                              "not": {"$ref": "#/properties/a/definitions/n"}}}},
+     {"properties": {"a": {"$defs": {"n": {"type": "null"}}, "not": {"$ref": "#/properties/a/$defs/n"}}}}),
+    (2020, {"properties": {"a": {"$ref": "#x"}}, "$defs": {"n": {"$anchor": "x", "type": "null"}}},
+     {"properties": {"a": {"$ref": "#x"}}, "$defs": {"n": {"$anchor": "x", "type": "null"}}}),
+    (2019, {"properties": {"a": {"$ref": "#x:y"}}, "$defs": {"n": {"$anchor": "x:y", "type": "null"}}},
+     {"properties": {"a": {"$ref": "#/$defs/n"}}, "$defs": {"n": {"type": "null"}}}),
+    (2020, {"properties": {"a": {"$ref": "#x"}, "b": {"$ref": "n#x"}},
+            "$defs": {"m": {"$anchor": "x", "type": "null"}, "n": {"$id": "n", "$anchor": "x", "type": "integer"}}},
+     {"properties": {"a": {"$ref": "#x"}, "b": {"$ref": "#/$defs/n"}},
+      "$defs": {"m": {"$anchor": "x", "type": "null"}, "n": {"type": "integer"}}}),
+    (2020, {"properties": {"a": {"$ref": "#/components/n"}, "b": {"$ref": "#/components/n/items"}},
+            "components": {"n": {"items": {"type": "null"}}}},
+     {"properties": {"a": {"$ref": "#/$defs/n"}, "b": {"$ref": "#/$defs/n/items"}},
+      "components": {"n": {"items": {"type": "null"}}}, "$defs": {"n": {"items": {"type": "null"}}}}),
+    (2020, {"properties": {"a": {"$ref": "#/properties/b"}, "b": False, "c": {"$ref": "#/x"}}, "x": False},
+     {"properties": {"a": {"$ref": "#/properties/b"}, "b": False, "c": {"$ref": "#/$defs/x"}}, "x": False,
+      "$defs": {"x": False}}),
+    (2020, {"patternProperties": {r"^\d/~$": {"type": "null"}},
+            "properties": {"a": {"$ref": "#/patternProperties/%5E%5Cd~1~0$"}}},
+     {"patternProperties": {"^[0-9]/~$": {"type": "null"}},
+      "properties": {"a": {"$ref": "#/patternProperties/%5E%5B0-9%5D~1~0$"}}}),
+    (2020, {"$dynamicAnchor": "x", "items": {"$dynamicRef": "#x"}}, {"items": {"$ref": "#"}}),
+    (2020, {"$dynamicAnchor": "x", "$anchor": "y", "items": {"$ref": "#y"}}, {"$anchor": "y", "items": {"$ref": "#y"}}),
+]
+
+
+@pytest.mark.parametrize("draft, schema, wanted", _TRANSLATED_TO_3)
+def test_references_to_any_place_are_kept_in_profile_3(draft, schema, wanted):
+    adapted = Schema.adapt(_declared(draft, schema), profile=3)
+    made = {word: value for word, value in adapted.schema.items() if word != "$schema"}
+    assert (made, adapted.left, adapted.is_read) == (wanted, [], True)
+    # What was made is kept as it is.
+    assert Schema.adapt(adapted.schema, profile=3).schema == adapted.schema
+
+
+def test_a_schema_of_profile_3_says_the_same():
+    for draft, schema, _ in [*_TRANSLATED, *_TRANSLATED_TO_3]:
+        if _MISJUDGED & set(json.dumps(schema).split('"')):
+            continue
+        adapted = Schema.adapt(_declared(draft, schema), profile=3)
+        assert adapted.left == []
+        before, after, chance = _VALIDATORS[draft](_declared(draft, schema)), _2020(adapted.schema), random.Random(7)
+        for value in (_some_value(chance) for _ in range(300)):
+            assert before.is_valid(value) == after.is_valid(value), (schema, value)
 
 
 @pytest.mark.parametrize("draft, schema, wanted", _TRANSLATED)
@@ -160,15 +223,17 @@ def _remote(uri):
 
 
 @pytest.mark.skipif(not os.path.isdir(_SUITE), reason="Debian's json-schema-test-suite is not installed")
+@pytest.mark.parametrize("profile", [2, 3])
 @pytest.mark.parametrize("draft", [3, 4, 6, 7])
-def test_the_suite_of_the_drafts_agrees(draft):
+def test_the_suite_of_the_drafts_agrees(draft, profile):
     read = 0
     for file in sorted(glob.glob(f"{_SUITE}/tests/draft{draft}/*.json")):
         with open(file, encoding="utf-8") as opened:
             cases = json.load(opened)
         for case in cases:
             schema = case["schema"]
-            adapted = Schema.adapt(_declared(draft, schema) if isinstance(schema, dict) else schema, read=_remote)
+            declared = _declared(draft, schema) if isinstance(schema, dict) else schema
+            adapted = Schema.adapt(declared, read=_remote, profile=profile)
             if not adapted.is_read:
                 continue
             read += 1
@@ -177,5 +242,8 @@ def test_the_suite_of_the_drafts_agrees(draft):
                     text_of(test["data"])
                 except Unsendable:
                     continue
-                assert _2020(adapted.schema).is_valid(test["data"]) == test["valid"], (file, case, test)
+                # It knows the patterns of the store, and takes its time.
+                valid = (not explain(test["data"], adapted.schema, 1) if "pattern" in json.dumps(adapted.schema)
+                         else _2020(adapted.schema).is_valid(test["data"]))
+                assert valid == test["valid"], (file, case, test)
     assert read > 50

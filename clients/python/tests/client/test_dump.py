@@ -189,6 +189,9 @@ def test_a_copy_has_all_but_the_history(place):
     status = copy_file(place.file, place.path("other"), 512, place.program)
     assert (status.documents, status.sectors, status.seq) == (len(documents), 512, 60)
     assert documents_of(place, place.path("other")) == documents
+    assert copy_file(place.file, place.path("third"), 512, place.program, version=3).seq == 60
+    assert copy_file(place.path("third"), place.path("fourth"), 512, place.program).capacity == 4096 * 23
+    assert documents_of(place, place.path("fourth")) == documents
     assert "File exists" in str(raised(Ended, copy_file, place.file, place.path("other"), 512, place.program))
     assert "No such file" in str(raised(Ended, copy_file, place.path("none"), place.path("new"), 512, place.program))
 

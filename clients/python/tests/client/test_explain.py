@@ -118,3 +118,13 @@ def test_a_document_is_explained_by_itself():
     assert explain({"a": 1}, {"required": ["a"]}) == []
     assert "cannot judge" in str(raised(JpstoreError, explain, 1, {"$ref": "#/nowhere"}))
     assert explain([], {"type": "object"}) == [Fault("", "/type", "[] is not of type 'object'")]
+
+
+def test_references_are_followed_as_the_store_does():
+    for schema, keyword in (
+            ({"items": {"$ref": "#/properties/"}, "properties": {"": {"maximum": 0}}}, "/properties//maximum"),
+            ({"items": {"$ref": "#/%24defs/a~1%/not"}, "$defs": {"a/%": {"not": {"maximum": 0}}}},
+             "/$defs/a~1%/not/maximum"),
+            ({"$id": "http://x/y", "items": {"$ref": "http://x/y#/then"}, "then": {"maximum": 0}}, "/then/maximum"),
+            ({"items": {"$ref": "#%61"}, "$defs": {"b": {"$anchor": "a", "maximum": 0}}}, "/$defs/b/maximum")):
+        assert explain([1], schema) == [Fault("/0", keyword, "1 is greater than the maximum of 0")]

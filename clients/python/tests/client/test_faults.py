@@ -202,7 +202,10 @@ def test_the_store_and_the_client_agree_on_schemas(place):
 _VALUES_IN_3 = {
     **_VALUES,
     "pattern": ["a", "(", "a{2,1}", r"[\w&&[^_]]", r"\d{2}", r"(?=a)", "[a", r"\p{L}", "a" * 4097, "(?i)a", r"\q"],
-    "unevaluatedItems": [True],
+    "unevaluatedItems": [True], "$anchor": ["a", "b", "1", 1],
+    "$ref": [*_VALUES["$ref"], "", "#/items", "#/allOf/1", "#/properties/a/not", "#/oneOf/01", "#/%24defs/b",
+             "x#/items", r"#/patternProperties/%5E\d%2B$", "#/definitions", "#/not/%ff", "#/$defs/~0",
+             "#a", "#%62", "x#a"],
 }
 _HOLDERS_IN_3 = {**_HOLDERS, "dependentSchemas": lambda part: {"a": part(), "b": part()},
                  "patternProperties": lambda part: {"a": part(), r"^\d+$": part()}}
@@ -232,4 +235,11 @@ def test_a_hostile_command_is_looked_at_in_little_time_and_memory():
     assert fault_of_query(name) is None or fault_of_query(name).number == 50
     loop = {"$defs": {f"d{number}": {"$ref": f"#/$defs/d{(number + 1) % 5000}"} for number in range(5000)}}
     assert [fault.number for fault in faults_of_schema(loop)] == [43]
+    pointers = {"allOf": [{"$ref": f"#/allOf/{(number + 1) % 5000}"} for number in range(5000)]}
+    assert [fault.number for fault in faults_of_schema(pointers, 3)] == [43]
+    fault, = faults_of_schema({"items": {"$ref": "#" + "/not" * 50000}, "not": {}}, 3)
+    assert (fault.number, len(fault.message) < 500) == (42, True)
+    anchors = {"allOf": [{"$anchor": "a", "$ref": f"#b{number}"} for number in range(5000)]}
+    assert {fault.number for fault in faults_of_schema(anchors, 3)} == {40, 42}
+    assert {fault.number for fault in faults_of_schema(anchors)} == {41, 42}
     assert len(detail_of(43, create("d", 1, loop))) < 1000

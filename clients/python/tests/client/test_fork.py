@@ -321,13 +321,15 @@ def test_a_child_that_leaves_the_block_ends_nothing(place):
 def test_a_signal_that_forks_in_the_midst_of_a_call(place):
     with place.made() as store:
         store.create("d", "x" * 100000)
-        children = []
+        children, under_way = [], []
 
         def fork(*_):
-            # On a busy machine signals come faster than forks are done.
-            if len(children) == 10:
+            # On a busy machine signals come faster than forks are done; and one may wait in the child.
+            if under_way or len(children) == 10:
                 return
+            under_way.append(True)
             children.append(forked(lambda: str(raised(JpstoreError, store.names))))
+            under_way.clear()
         before = signal.signal(signal.SIGUSR1, fork)
         try:
             stop = threading.Event()

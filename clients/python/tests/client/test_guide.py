@@ -17,6 +17,7 @@ from jpstore.cli import exit_status
 from jpstore.cli.commands import COMMANDS
 from jpstore.errors import refusal_of
 from jpstore.refusals import REFUSALS
+from hubs import wait_until_free
 from pages import blocks_of, clone, how_to_run, page
 from support import PACKAGE, PATIENCE
 
@@ -76,6 +77,7 @@ def test_the_blocks_of_the_guide_run(place):
             words, _ = how_to_run(kind, text, "inventory")
             with _hub(place, environment, hub), _Running(place, environment, words) as running:
                 said = running.lines(blocks[at + 1][1].count("\n"))
+            wait_until_free(place.path("inventory"))
         elif kind in ("sh", "python", "jpstore"):
             words, given = how_to_run(kind, text, "inventory")
             ended = subprocess.run(words, input=given, stdout=subprocess.PIPE, stderr=subprocess.PIPE, cwd=place.folder,

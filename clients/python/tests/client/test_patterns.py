@@ -147,10 +147,15 @@ _FAULTS = [
     ({"patternProperties": []}, 40, "/patternProperties"),
     ({"patternProperties": {"a": {"patternProperties": {"(": {}}}}}, 40, "/patternProperties/a/patternProperties/("),
     ({"patternProperties": {"a": {"$ref": "#/$defs/b"}}}, 42, "/patternProperties/a/$ref"),
-    ({"$anchor": "a"}, 41, "/$anchor"),
+    ({"$anchor": "a", "items": {"$anchor": "a"}}, 40, "/items/$anchor"), ({"$anchor": 1}, 40, "/$anchor"),
+    ({"$anchor": "1a"}, 40, "/$anchor"), ({"items": {"$anchor": ""}}, 40, "/items/$anchor"),
+    ({"$ref": "#a", "default": {"$anchor": "a"}}, 42, "/$ref"), ({"$anchor": "a", "$ref": "#a"}, 43, ""),
     ({"unevaluatedItems": False}, 41, "/unevaluatedItems"), ({"$dynamicRef": "#a"}, 41, "/$dynamicRef"),
-    ({"$ref": "#a"}, 42, "/$ref"), ({"$ref": "#/properties/a"}, 42, "/$ref"),
-    ({"$ref": "#/allOf/0", "allOf": [{}]}, 42, "/$ref"),
+    ({"$ref": "#a"}, 42, "/$ref"), ({"$ref": "#/properties/a"}, 42, "/$ref"), ({"$ref": "x#"}, 42, "/$ref"),
+    ({"items": {"$ref": "#/allOf/00"}, "allOf": [{}]}, 42, "/items/$ref"), ({"$ref": "#/$defs/%ff"}, 42, "/$ref"),
+    ({"items": {"$ref": "#/default"}, "default": {}}, 42, "/items/$ref"), ({"$ref": "#/$defs/~2"}, 42, "/$ref"),
+    ({"items": {"$ref": "#/properties"}, "properties": {}}, 42, "/items/$ref"), ({"$ref": ""}, 43, ""),
+    ({"allOf": [{"$ref": "#/allOf/1"}, {"$ref": "#/allOf/0"}]}, 43, "/allOf/0"),
     ({"dependentSchemas": {"a": {"$ref": "#/$defs/b"}}}, 42, "/dependentSchemas/a/$ref"),
     ({"dependentSchemas": {"a": {"$ref": "#"}}}, 43, ""),
     ({"allOf": [{"pattern": "a"}] * 65}, 44, "/allOf/64/pattern"), ({"pattern": "a" * 4097}, 44, "/pattern"),
@@ -171,6 +176,17 @@ def test_what_profile_3_reads_has_no_fault():
     for schema in ({"pattern": "a" * 4096}, {"pattern": "\u00e9" * 2048}, {"allOf": [{"pattern": "a"}] * 64},
                    {"patternProperties": {f"a{number}": {} for number in range(64)}, "additionalProperties": {}},
                    {"patternProperties": {"^x": {"$ref": "#"}, "": True}}, {"patternProperties": {}},
+                   {"items": {"$ref": "#/properties/a~1b%25c/not"}, "properties": {"a/b%c": {"not": False}}},
+                   {"$id": "http://x/y", "items": {"$ref": "http://x/y#/contains"}, "contains": {}},
+                   {"$id": "http://x/y", "items": {"$ref": "http://x/y#z"}, "contains": {"$anchor": "z"}},
+                   {"items": {"$ref": "#%5fA-1."}, "$defs": {"a": {"not": {"$anchor": "_A-1."}}}},
+                   {"$anchor": "a", "const": {"$anchor": "a"}, "properties": {"$anchor": {"$anchor": "b"}}},
+                   {"$id": "http://x/y", "items": {"$ref": "http://x/y"}, "contains": {"$ref": ""}},
+                   {"$id": "http://x/y#", "items": {"$ref": "http://x/y#/contains"}, "contains": {}},
+                   {"items": {"$ref": "#/allOf/0"}, "allOf": [True]},
+                   {"items": {"$ref": "#/%24defs/a"}, "$defs": {"a": {}}},
+                   {"items": {"$ref": "#/patternProperties/a~0"}, "patternProperties": {"a~": {}}},
+                   {"items": {"$ref": "#/$defs/%/$defs/\u00e4"}, "$defs": {"%": {"$defs": {"\u00e4": {}}}}},
                    {"default": {"pattern": "("}, "enum": [{"pattern": "("}], "properties": {"pattern": {}}},
                    {"dependentSchemas": {"a": {"properties": {"a": {"$ref": "#"}}}, "$ref": True}}):
         assert Schema.faults(schema, profile=3) == [], schema
@@ -178,10 +194,27 @@ def test_what_profile_3_reads_has_no_fault():
 
 def test_the_faults_of_profile_2_name_the_format_that_reads_more():
     faults = Schema.faults({"pattern": "(", "dependentSchemas": {"a": 5}, "patternProperties": {"(": 5},
-                            "$anchor": "a"})
+                            "$anchor": "a", "not": {"$ref": "#/items"}, "items": {"$dynamicAnchor": "x"}})
     assert [(fault.number, fault.place) for fault in faults] == [
-        (41, "/pattern"), (41, "/dependentSchemas"), (41, "/patternProperties"), (41, "/$anchor")]
-    assert ["needs a store of format 3" in fault.message for fault in faults] == [True, True, True, False]
+        (41, "/pattern"), (41, "/dependentSchemas"), (41, "/patternProperties"), (41, "/$anchor"), (42, "/not/$ref"),
+        (41, "/items/$dynamicAnchor")]
+    assert ["needs a store of format 3" in fault.message for fault in faults] == [True] * 5 + [False]
+
+
+def test_what_a_reference_misses_is_told():
+    for schema, said in (
+            ({"$defs": {"address": {}}, "$ref": "#/$defs/adress"}, "perhaps `#/$defs/address` is meant"),
+            ({"$defs": {"a b": {}}, "$ref": "#/definitions/a b"}, "write `#/$defs/a%20b`"),
+            ({"properties": {"a": {}}, "$ref": "#/properties/a/items"},
+             "the one at `/properties/a` has none at `/items`; put that schema under `$defs` of the root"),
+            ({"$ref": "#/components/a~1b"}, "the root has none at `/components/a~1b`; put"),
+            ({"items": {"$anchor": "node"}, "$ref": "#nodes"}, "perhaps `#node` is meant"),
+            ({"$ref": "#q"}, "none has this `$anchor`, and `#/` begins the way to one"),
+            ({"$ref": "#/$defs/%ff", "$defs": {}}, "what it writes by `%` is no text in UTF-8"),
+            ({"$ref": "#/$defs/~2", "$defs": {}}, "in a name `~0` means `~`, and `~1` means `/`"),
+            ({"$ref": "o.json"}, "leads to no schema in this one: put")):
+        fault, = Schema.faults(schema, profile=3)
+        assert (fault.number, said in fault.message) == (42, True), fault.message
 
 
 @pytest.mark.parametrize("profile", [2, 3])

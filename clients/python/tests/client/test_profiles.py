@@ -2,7 +2,7 @@
 import pytest
 from gateways import Gateway
 from hubs import Hub
-from jpstore import Ended, Invalid, Refused, Store, copy_file, grow_file, upgrade_file
+from jpstore import Ended, Invalid, Refused, Store, copy_file, create, grow, grow_file, upgrade_file
 from jpstore.errors import refusal_of
 from support import raised
 
@@ -23,6 +23,14 @@ _ROWS = [
      "at `/patternProperties`: `patternProperties` is [\"a\"], and must be an object of schemas by patterns"),
     ({"patternProperties": {f"a{number:02}": True for number in range(65)}}, 41, 44,
      "at `/patternProperties/a64`: a schema has at most 64 patterns"),
+    ({"$ref": "#/not/not", "not": {"not": {"minLength": 1}}}, 42, None, ""),
+    ({"$ref": "#/properties/a~1b%25", "properties": {"a/b%": False}}, 42, 45, ""),
+    ({"$ref": "#/properties/a/not", "properties": {"a": {}}}, 42, 42,
+     "at `/$ref`: \"#/properties/a/not\" leads to no schema: the one at `/properties/a` has none at `/not`; put"),
+    ({"allOf": [{"$ref": "#/allOf/0"}]}, 42, 43, "at `/allOf/0`: the way `/allOf/0` leads back to it"),
+    ({"$ref": "#%61", "not": {"$anchor": "a", "minLength": 2}}, 41, 45, ""),
+    ({"$anchor": "a", "items": {"$anchor": "a"}}, 41, 40, "at `/items/$anchor`: the root has the same `$anchor`"),
+    ({"$anchor": "1"}, 41, 40, "at `/$anchor`: `$anchor` is \"1\", and must be a letter or `_`, then letters, digits"),
     ({"unevaluatedItems": True}, 41, 41, "at `/unevaluatedItems`: `unevaluatedItems` is not supported; "),
 ]
 
@@ -67,10 +75,18 @@ def test_a_keyword_of_format_3_keeps_the_store_in_it(place):
     place.format(version=3)
     with place.store() as store:
         store.create("d", "a", {"pattern": "^a"})
-    for call in (lambda: upgrade_file(place.file, 2, place.program), lambda: grow_file(place.file, 8192, place.program),
-                 lambda: copy_file(place.file, place.path("new"), 8192, place.program)):
+    for call in (lambda: upgrade_file(place.file, 2, place.program),
+                 lambda: grow(place.file, place.path("new"), 8192, place.program, version=2),
+                 lambda: copy_file(place.file, place.path("new"), 8192, place.program, version=2)):
         ended = raised(Ended, call)
         assert (ended.name, ended.number) == ("newer-schema", 76), ended
+    # It grows, and is copied, in its format.
+    assert grow_file(place.file, 8192, place.program).sectors == 8192
+    assert copy_file(place.file, place.path("new"), 512, place.program).sectors == 512
+    for file in (place.file, place.path("new")):
+        assert upgrade_file(file, 3, place.program) == 3
+        with Store(file, program=place.program) as store:
+            assert store.schema("d") == {"pattern": "^a"}
     assert b"stay in format 3" in place.run("upgrade", place.file, "--format", "2", status=1).stderr
     with place.store() as store:
         assert store.schema("d") == {"pattern": "^a"}
@@ -78,6 +94,26 @@ def test_a_keyword_of_format_3_keeps_the_store_in_it(place):
         assert [fault.keyword for fault in refused.why()] == ["/pattern"]
         store.set_schema("d", True)
     assert upgrade_file(place.file, 2, place.program) == 3
+
+
+def test_over_1024_documents_keep_the_store_in_format_3(place):
+    place.format(version=3)
+    with place.store() as store:
+        assert store.status().most_documents == 65_536
+        store.transaction([create(f"d{number}", number) for number in range(1_024)])
+        store.create("e", 1)
+    for call in (lambda: upgrade_file(place.file, 2, place.program),
+                 lambda: copy_file(place.file, place.path("new"), 8192, place.program, version=2)):
+        ended = raised(Ended, call)
+        assert (ended.name, ended.number) == ("too-many", 22), ended
+    grow_file(place.file, 8192, place.program)
+    with place.store() as store:
+        assert store.status().documents == 1_025
+        store.delete("d7")
+    assert upgrade_file(place.file, 2, place.program) == 3
+    with place.store() as store:
+        assert (store.status().most_documents, store.status().documents) == (1_024, 1_024)
+        assert raised(Refused, store.create, "d7", 7).number == 22
 
 
 def test_large_tables_are_told_with_what_helps(place):

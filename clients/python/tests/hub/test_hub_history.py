@@ -7,7 +7,7 @@ import shutil
 
 import pytest
 from histories import WAIT, History, ended_hub, killed, notes_of, opened, put_notes, told
-from hubs import Hub
+from hubs import Hub, wait_until_free
 from jpstore import create, delete, patch, set_schema
 from jpstore.watch import Gone, Watch
 from support import PATIENCE, raised
@@ -190,9 +190,11 @@ class Lives:
 def test_a_store_that_was_put_back_has_no_changes_of_the_other(place, how):
     place.format()
     cut_off(place, [create("d", {}), put(1)], [])
+    wait_until_free(place.file)
     shutil.copy(place.file, place.path("copy"))
     first = cut_off(place, [put(2), put(3)], [put(4)])
     assert list(told(first)) == [1, 2, 3, 4, 5]
+    wait_until_free(place.file)
     (shutil.copy if how == "over it" else os.replace)(place.path("copy"), place.file)
     history = opened(place)
     assert (told(history), history.has(2, first.name)) == ({1: create("d", {}), 2: put(1)}, False)
@@ -203,8 +205,10 @@ def test_a_store_that_was_put_back_has_no_changes_of_the_other(place, how):
 def test_a_store_that_went_another_way_is_another(place):
     place.format()
     cut_off(place, [create("d", {})], [])
+    wait_until_free(place.file)
     shutil.copy(place.file, place.path("copy"))
     first = cut_off(place, [put(2), put(3)], [])
+    wait_until_free(place.file)
     shutil.copy(place.path("copy"), place.file)
     for number in range(4):
         made(place, put(7 + number))

@@ -6,7 +6,7 @@ import shutil
 import pytest
 from gateways import Events, Gateway
 from histories import killed, noted, opened, told
-from hubs import Hub
+from hubs import Hub, wait_until_free
 from jpstore import create, delete, upgrade_file
 from jpstore.watch import Gone, Watch
 from support import PATIENCE, raised
@@ -22,14 +22,17 @@ def place(place, request):
     return place
 
 
-def saved(place, names=("store",)):
-    """Copies of files of the place."""
+def saved(place, names=("store",), at_work=False):
+    """Copies of files of the place, which a hub may serve meanwhile."""
+    if not at_work:
+        wait_until_free(place.file)
     for name in names:
         shutil.copy(place.path(name), place.path(name + ".saved"))
 
 
 def put_back(place, names=("store",)):
     """The files as they were, as by `cp`: with their numbers in the file system."""
+    wait_until_free(place.file)
     for name in names:
         shutil.copyfile(place.path(name + ".saved"), place.path(name))
 
@@ -131,7 +134,7 @@ def test_a_history_that_was_put_back_too_has_no_more_than_it_told_then(place, la
 
 def test_copies_of_a_hub_at_work_have_no_more_than_it_had_told(place):
     names = ["store", "store.changes"]
-    lost = noted(place, [create("d", {})], [put(1)], lambda _: saved(place, names), [put(2), put(3)])
+    lost = noted(place, [create("d", {})], [put(1)], lambda _: saved(place, names, at_work=True), [put(2), put(3)])
     put_back(place, names)
     elsewhere(place, [put(4)], [put(5)])
     history = opened(place)

@@ -20,7 +20,8 @@ HERE = os.path.dirname(os.path.abspath(__file__))
 CLIENTS = 6
 
 # The sizes of the nodes' files, so different that they make snapshots at different times, and what they agree on.
-SECTORS, CAPACITY = (600, 1200, 4096), 150_000
+# The least file has hardly room for the capacity in format 3, whose slots take 152 sectors.
+SECTORS, CAPACITY = (768, 1200, 4096), 150_000
 
 
 class Observer:

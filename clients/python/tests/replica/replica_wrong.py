@@ -36,7 +36,9 @@ class Wrong(NamedTuple):
         try:
             cases = replica_stops if hasattr(replica_stops, self.case) else replica_cases
             getattr(cases, self.case)(folder, program)
-        except Exception as error:  # Whatever the case raises, it has found the fault.
+        except replicas.NotMade:
+            raise
+        except Exception as error:  # Whatever else the case raises, it has found the fault.
             found = error
         finally:
             replicas.DEFAULT_PACKAGE = before

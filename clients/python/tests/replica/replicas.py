@@ -140,6 +140,10 @@ def kill(process):
         process.wait()
 
 
+class NotMade(Exception):
+    """The first node's file isn't fit to be one, which says nothing of the nodes: the test is wrong."""
+
+
 class Replicas:
     """Nodes by name, each with a file of its own."""
 
@@ -185,7 +189,10 @@ class Replicas:
         snapshots at different times."""
         first, *others = NODES
         self.format(first, sectors[0])
-        self.run("init", self.file(first), "--capacity", str(capacity))
+        try:
+            self.run("init", self.file(first), "--capacity", str(capacity))
+        except AssertionError as error:
+            raise NotMade(*error.args) from error
         self.start(first)
         self.wait(first)
         for node, count in zip(others, sectors[1:]):

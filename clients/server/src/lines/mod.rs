@@ -24,6 +24,9 @@ pub const LIST: &[u8] = b"{\"cmd\":\"list\"}\n";
 /// The line that makes a snapshot.
 pub const SNAPSHOT: &[u8] = b"{\"cmd\":\"snapshot\"}\n";
 
+/// The line that makes all slots of a store in format 3 hold what was committed last. In the others it does nothing.
+pub const SEAL: &[u8] = b"{\"cmd\":\"seal\"}\n";
+
 /// Lines of a client in the order of the parts of a round: what changes, what asks, what makes room.
 #[derive(Debug, Default)]
 pub struct Lines {

@@ -3,7 +3,7 @@
 //! Before a group of changes that might not fit, room is made by a snapshot. In this way no group moves to the other half in
 //! its midst, and after a kill the changes of its group follow the last position that was noted in the file.
 
-use super::engine::Engine;
+use super::engine::{Engine, REST};
 use super::job::{document_in, finish, Pending};
 use crate::history::file::length_of_frames;
 use crate::history::Change;
@@ -15,6 +15,7 @@ use bytes::Bytes;
 use serde_json::Value;
 use std::collections::BTreeSet;
 use std::io;
+use tokio::time::Instant;
 
 /// How many documents are asked for together.
 const TOGETHER: usize = 32;
@@ -48,6 +49,7 @@ impl Engine {
         }
         if self.history.last() > before {
             self.history.tell();
+            self.seal_at = Some(Instant::now() + REST);
         }
         finish(round);
         if self.history.last() > before && self.wants_a_step() {

@@ -14,7 +14,7 @@ use crate::error::Error;
 use crate::history::file::Recorder;
 use crate::history::History;
 use crate::lines::replies::{is_failure, Status};
-use crate::lines::STATUS;
+use crate::lines::{SEAL, STATUS};
 use bytes::Bytes;
 use std::collections::VecDeque;
 use std::io;
@@ -22,10 +22,14 @@ use std::path::Path;
 use std::sync::Arc;
 use tokio::sync::mpsc::{unbounded_channel, UnboundedReceiver};
 use tokio::sync::watch;
+use tokio::time::{sleep_until, Duration, Instant};
 
 /// The most lines of a round, and the most bytes of them.
 const ROUND_LINES: usize = 1024;
 const ROUND_BYTES: usize = 1 << 22;
+
+/// How long no line comes after a change before the store is sealed.
+pub(super) const REST: Duration = Duration::from_secs(1);
 
 /// How often a status is asked for if the program is out of memory.
 const TRIES: usize = 5;
@@ -47,6 +51,8 @@ pub struct Engine {
     pub(super) tried: Option<u64>,
     pub(super) copying: bool,
     pub(super) broken: bool,
+    /// When the store is to be sealed, if it was changed since it was.
+    pub(super) seal_at: Option<Instant>,
 }
 
 impl Engine {
@@ -82,6 +88,7 @@ impl Engine {
             tried: None,
             copying: false,
             broken: false,
+            seal_at: None,
         };
         Ok((engine, handle))
     }
@@ -116,6 +123,7 @@ impl Engine {
                         None => return Ok(()),
                     },
                     () = self.program.wait() => return Err(io::ErrorKind::UnexpectedEof.into()),
+                    () = at(self.seal_at) => self.seal().await?,
                 }
                 continue;
             }
@@ -237,6 +245,13 @@ impl Engine {
         Ok(reply)
     }
 
+    /// Has the program seal what was changed. Nobody waits for it.
+    async fn seal(&mut self) -> io::Result<()> {
+        self.seal_at = None;
+        self.exchange(SEAL, 1).await?;
+        Ok(())
+    }
+
     /// Notes, for a server after a kill, that another file is about to take the place of the store's.
     pub(super) fn announce(&mut self, path: &Path, inode: u64, status: &Status) {
         self.recorder.announce(path, inode, status);
@@ -247,5 +262,13 @@ impl Engine {
         (self.status, self.tried, self.copying) = (status, None, false);
         self.recorder.go_on(&self.history, inode, &status);
         std::mem::replace(&mut self.program, program)
+    }
+}
+
+/// Ends at that moment, or never.
+async fn at(moment: Option<Instant>) {
+    match moment {
+        Some(moment) => sleep_until(moment).await,
+        None => std::future::pending().await,
     }
 }

@@ -94,12 +94,10 @@ impl Larger {
         let (from, to, sectors) = (self.base(), self.path(), self.sectors.to_string());
         let mut made = Command::new(program);
         made.arg("copy").arg(&from).arg(&to).args(["--sectors", &sectors, "--why"]);
-        run(made, stop).await?;
         if self.format > 2 {
-            let mut upgraded = Command::new(program);
-            upgraded.arg("upgrade").arg(&to).args(["--format", &self.format.to_string(), "--why"]);
-            run(upgraded, stop).await?;
+            made.args(["--format", &self.format.to_string()]);
         }
+        run(made, stop).await?;
         fs::remove_file(&from).map_err(|error| Error::of_path(&from, error))
     }
 
