@@ -21,6 +21,7 @@ ITEM = re.compile(r"^(pub |pub\(crate\) )?(?:(impl|trait)\b.*?^\}|fn .*?(?:^\}|\
 HEAD = re.compile(r"^(?:pub )?(?:impl|trait|fn)(?:<[^{]*?>)? (?:([\w:]+)(?:<.*?>)? for )?(\w+)", re.S)
 METHOD = re.compile(r"^    (pub |pub\(crate\) )?fn ")
 INVARIANT = re.compile(r"^    ghost (?:invariant|coherent) =.*$", re.M)
+IMPORT = re.compile(r"^ *ghost use .*?;$", re.M | re.S)
 
 
 def handed_out(crate):
@@ -73,7 +74,7 @@ def reached(everything):
             everywhere = imports_of(path.read_text(encoding="utf-8"))
             for contract in contracts_in(path, src, out):
                 imports = {**everywhere, **imports_of(contract)}
-                names = [imports[word] for word in sorted(words_in(contract)) if word in imports]
+                names = [imports[word] for word in sorted(words_in(IMPORT.sub("", contract))) if word in imports]
                 found |= {file.path for file, _ in in_order(names, everything)}
     return found
 

@@ -14,6 +14,8 @@ import shutil
 import subprocess
 import sys
 
+from debian_packages import install
+
 ROOT = pathlib.Path(__file__).resolve().parent.parent
 CRATE = ROOT / "clients" / "server"
 NAME = "jpstored"
@@ -32,14 +34,6 @@ def missing():
     """Debian's packages of what is not there."""
     packages = [package for path, package in WANTED.items() if not glob.glob(path)]
     return packages + ([] if shutil.which("cargo") else ["cargo"])
-
-
-def install(packages):
-    """Installs Debian's packages, if this user may do that."""
-    if packages and shutil.which("apt-get") and os.geteuid() == 0:
-        quiet = {"stdout": subprocess.DEVNULL, "env": {**os.environ, "DEBIAN_FRONTEND": "noninteractive"}}
-        for words in (["update"], ["install", "-y", "--no-install-recommends", *packages]):
-            subprocess.call(["apt-get", "-q", "-o", "DPkg::Lock::Timeout=300", *words], **quiet)
 
 
 def cargo(command, *words, environment=None, **how):

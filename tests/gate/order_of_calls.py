@@ -35,6 +35,10 @@ import subprocess
 import sys
 import tempfile
 
+sys.dont_write_bytecode = True
+sys.path.insert(0, os.path.join(os.path.dirname(os.path.abspath(__file__)), "..", "..", "tools"))
+from debian_packages import install
+
 SECTOR_BYTES = 512
 # A store of format 1 whose documents take one sector in format 2, with half 0 in force; half 1 begins at sector 8.
 FORMAT_1 = os.path.join(os.path.dirname(os.path.abspath(__file__)), "..", "data", "format_1.store")
@@ -53,6 +57,11 @@ MADE = FILLED + MADE_SPARSE[1:]
 COPIED = FILLED + [
     ("fsync", "store"), ("fsync", "folder"), ("fdatasync", "store"), ("pread64", "store"), ("pwrite64", "store"),
     ("fdatasync", "store"), ("pwrite64", "store"), ("fdatasync", "store"), ("write", "output"),
+]
+# The file has two pieces. The 128 sectors of the slots are written 32 at once, and then the first of each slot.
+COPIED_IN_3 = FILLED + [
+    ("pwrite64", "store"), ("fsync", "store"), ("fsync", "folder"), ("fdatasync", "store"), *[("pread64", "store")] * 4,
+    *[("pwrite64", "store")] * 4, ("fdatasync", "store"), *[("pwrite64", "store")] * 4, ("fdatasync", "store"), ("write", "output"),
 ]
 OPENED = [("flock", "store"), ("fdatasync", "store"), ("pread64", "store"), ("pwrite64", "store"), ("fdatasync", "store")]
 
@@ -322,14 +331,14 @@ def try_signs(program):
             raise Wrong("what is no terminal shows %r" % silent.stderr)
 
 
-def try_copying(program):
-    """A store of one document, so that its copy has one sector beside the commit sector."""
+def try_copying(program, words, wanted):
+    """A store of one document, so that its copy has one sector beside the commit sector, or in format 3 no block."""
     with tempfile.TemporaryDirectory() as folder:
         silent = {"cwd": folder, "stdout": subprocess.DEVNULL, "check": True}
         subprocess.run([program, "format", "old", "--sectors", "16"], **silent)
         subprocess.run([program, "serve", "old"], input=change(0).encode(), **silent)
-        calls = calls_of(folder, [program, "copy", "old", "store", "--sectors", "32"], 0, stdout=subprocess.DEVNULL)
-        if calls != COPIED:
+        calls = calls_of(folder, [program, "copy", "old", "store", *words], 0, stdout=subprocess.DEVNULL)
+        if calls != wanted:
             raise Wrong("copy calls %s" % calls)
 
 
@@ -373,10 +382,7 @@ ROWS = {
 def main():
     if len(sys.argv) != 2:
         sys.exit(__doc__)
-    if not shutil.which("strace") and shutil.which("apt-get") and os.geteuid() == 0:
-        quiet = {"stdout": subprocess.DEVNULL, "env": {**os.environ, "DEBIAN_FRONTEND": "noninteractive"}}
-        subprocess.call(["apt-get", "update", "-q"], **quiet)
-        subprocess.call(["apt-get", "install", "-q", "-y", "--no-install-recommends", "strace"], **quiet)
+    install([] if shutil.which("strace") else ["strace"])
     if not shutil.which("strace"):
         print("order_of_calls: strace isn't installed", file=sys.stderr)
         sys.exit(2)
@@ -402,7 +408,8 @@ def main():
         rows["no file is opened: " + error] = lambda error=error, cause=cause, number=number: try_failed_opening(program, error, cause, number)
     rows["a copy has its rights"] = lambda: try_rights_of_a_copy(program)
     rows["a store is made slowly"] = lambda: try_signs(program)
-    rows["a store is copied"] = lambda: try_copying(program)
+    rows["a store is copied"] = lambda: try_copying(program, ["--sectors", "32"], COPIED)
+    rows["a store is copied into format 3"] = lambda: try_copying(program, ["--sectors", "160", "--format", "3"], COPIED_IN_3)
     rows["a store is upgraded, and back"] = lambda: try_upgrading(program)
     rows["a store is opened, and its input fails"] = lambda: try_failed_input(program)
     for name, row in rows.items():

@@ -18,7 +18,7 @@ SCHEMAS = [
 ]
 WRONG_SCHEMAS = [
     (5, 40), ("x", 40), ({"type": 5}, 40), ({"required": "a"}, 40), ({"items": {"minimum": "0"}}, 40), ({"unevaluatedItems": True}, 41),
-    ({"properties": {"a": {"patternProperties": {}}}}, 41), ({"$ref": "#/$defs/none"}, 42), ({"$ref": "#"}, 43),
+    ({"properties": {"a": {"unevaluatedProperties": {}}}}, 41), ({"$ref": "#/$defs/none"}, 42), ({"$ref": "#"}, 43),
     ({"anyOf": [{"$ref": "#/$defs/a"}], "$defs": {"a": {"$ref": "#"}}}, 43),
 ]
 

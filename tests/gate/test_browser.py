@@ -20,6 +20,7 @@ import time
 import traceback
 
 sys.path.insert(0, os.path.join(os.path.dirname(os.path.abspath(__file__)), "..", "..", "tools"))
+from debian_packages import install
 from server import use_server
 
 CLIENTS = os.path.normpath(os.path.join(os.path.dirname(os.path.abspath(__file__)), "..", "..", "clients", "python"))
@@ -35,15 +36,6 @@ def missing():
     names = [package for module, package in modules.items() if importlib.util.find_spec(module) is None]
     programs = {"chromium": "chromium", "chromedriver": "chromium-driver"}
     return names + [package for program, package in programs.items() if shutil.which(program) is None]
-
-
-def install(packages):
-    """Installs Debian's packages, if this user may do that."""
-    if shutil.which("apt-get") and os.geteuid() == 0:
-        quiet = {"stdout": subprocess.DEVNULL, "env": {**os.environ, "DEBIAN_FRONTEND": "noninteractive"}}
-        subprocess.call(["apt-get", "update", "-q"], **quiet)
-        subprocess.call(["apt-get", "install", "-q", "-y", "--no-install-recommends", *packages], **quiet)
-        importlib.invalidate_caches()
 
 
 class Page:

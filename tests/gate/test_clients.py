@@ -14,6 +14,7 @@ import subprocess
 import sys
 
 sys.path.insert(0, os.path.join(os.path.dirname(os.path.abspath(__file__)), "..", "..", "tools"))
+from debian_packages import install
 from server import use_server
 
 CLIENTS = os.path.normpath(os.path.join(os.path.dirname(os.path.abspath(__file__)), "..", "..", "clients", "python"))
@@ -38,10 +39,7 @@ def python_with_tools():
     for python in (sys.executable, DEBIAN_PYTHON):
         if has_tools(python):
             return python
-    if shutil.which("apt-get") and os.geteuid() == 0:
-        quiet = {"stdout": subprocess.DEVNULL, "env": {**os.environ, "DEBIAN_FRONTEND": "noninteractive"}}
-        subprocess.call(["apt-get", "update", "-q"], **quiet)
-        subprocess.call(["apt-get", "install", "-q", "-y", "--no-install-recommends", *TOOLS.values()], **quiet)
+    install(TOOLS.values())
     return DEBIAN_PYTHON if has_tools(DEBIAN_PYTHON) else None
 
 

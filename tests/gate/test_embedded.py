@@ -24,6 +24,10 @@ import time
 
 HERE = os.path.dirname(os.path.abspath(__file__))
 TOP = os.path.dirname(os.path.dirname(HERE))
+sys.dont_write_bytecode = True
+sys.path.insert(0, os.path.join(TOP, "tools"))
+from debian_packages import install
+
 EMBED = os.path.join(TOP, "clients", "c")
 TESTS = os.path.join(EMBED, "tests")
 PYTHON_CLIENT = os.path.join(TOP, "clients", "python")
@@ -31,7 +35,7 @@ RUST_CLIENT = os.path.join(TOP, "clients", "rust")
 PAGE = os.path.join(TOP, "docs", "use", "EMBEDDING.md")
 
 STRICT = ["-std=c11", "-g", "-Wall", "-Wextra", "-Wconversion", "-Werror"]
-CALLS = ["apply", "check", "copy", "create", "delete", "fault_text", "feed", "finish", "format", "free", "get", "group", "list", "open",
+CALLS = ["apply", "check", "copy", "copy_in", "create", "delete", "fault_text", "feed", "finish", "format", "free", "get", "group", "list", "open",
          "open_memory", "patch", "patch_if", "pump", "query", "refusal_name", "rev", "schema", "set_schema", "snapshot", "status",
          "system_error", "transaction", "upgrade", "version", "version_number"]
 
@@ -81,10 +85,7 @@ def install_missing():
         packages.append("python3-dev")
     if not glob.glob(SERDE_JSON):
         packages.append("librust-serde-json-dev")
-    if packages and shutil.which("apt-get") and os.geteuid() == 0:
-        quiet = {"stdout": subprocess.DEVNULL, "env": {**os.environ, "DEBIAN_FRONTEND": "noninteractive"}}
-        subprocess.call(["apt-get", "update", "-q"], **quiet)
-        subprocess.call(["apt-get", "install", "-q", "-y", "--no-install-recommends", *packages], **quiet)
+    install(packages)
 
 
 def headers_of(python):

@@ -79,6 +79,16 @@ class Jpstore:
         """The program ends with status 1, says this, and writes nothing else."""
         self.shows(*words, errors=errors, status=1, **how)
 
+    def serves_until_killed(self, given, output):
+        """The program serves the file, gives this reply to a line, and is killed."""
+        with subprocess.Popen([self.program, "serve", self.file], stdin=subprocess.PIPE, stdout=subprocess.PIPE, text=True) as served:
+            served.stdin.write(given)
+            served.stdin.flush()
+            found = served.stdout.readline()
+            served.kill()
+        if found != output:
+            raise Wrong(f"serve: wanted {output}, found {found}")
+
     def contents(self):
         with open(self.file, "rb") as file:
             return file.read()
@@ -92,10 +102,11 @@ class Jpstore:
 CAPACITIES = {(16, 2): 7 * 512, (300, 2): 149 * 512, (300, 3): 9 * 4096}
 
 
-def status_line(documents, opens, seq, used, half=0, sectors=16, version=2):
+def status_line(documents, opens, seq, used, half=0, sectors=16, version=2, slots=None):
+    found = f'"slots":"{slots}",' if slots else ""
     return (
         f'{{"broken":false,"capacity":{CAPACITIES[sectors, version]},"documents":{documents},"half":{half},"ok":true,"opens":{opens},'
-        f'"sectors":{sectors},"seq":{seq},"used":{used}}}\n'
+        f'"sectors":{sectors},"seq":{seq},{found}"used":{used}}}\n'
     )
 
 
@@ -329,6 +340,22 @@ def copies_that_are_refused_leave_what_was_there(jpstore):
         raise Wrong("something was left or changed")
 
 
+def a_store_is_copied_into_either_format(jpstore):
+    new, third = os.path.join(jpstore.folder, "new"), os.path.join(jpstore.folder, "third")
+    jpstore.run("format", jpstore.file, *SIXTEEN)
+    jpstore.run("serve", jpstore.file, given=CREATE + '{"cmd":"patch","name":"d","ops":[]}\n')
+    jpstore.fails("copy", jpstore.file, new, "--sectors", "159", "--format", "3", errors="jpstore: small (71)\n")
+    if os.path.exists(new):
+        raise Wrong("a file without a store was left")
+    jpstore.shows("copy", jpstore.file, new, *BOTH, "--format", "3", output=status_line(1, 3, 2, 67, sectors=300, version=3))
+    questions = '{"cmd":"rev","name":"d"}\n{"cmd":"get","name":"d","path":""}\n'
+    jpstore.shows("serve", new, given=questions, output='{"ok":true,"rev":2}\n{"ok":true,"value":{"a":1}}\n')
+    jpstore.shows("upgrade", new, output=upgraded(3, 3))
+    # And back, from that of format 3.
+    jpstore.shows("copy", new, third, *SIXTEEN, "--format=2", output=status_line(1, 6, 2, 67))
+    jpstore.shows("upgrade", third, "--format", "2", output=upgraded(2, 2))
+
+
 def a_store_in_use_is_not_copied(jpstore):
     new = os.path.join(jpstore.folder, "new")
     jpstore.run("format", jpstore.file, *SIXTEEN)
@@ -420,7 +447,59 @@ def a_store_of_format_1_is_brought_to_format_3(jpstore):
     # The same bytes are a store of 300 sectors, if it says so: half 0 is in force.
     jpstore.put(small[:40] + (300).to_bytes(8, "big") + small[48:] + bytes((300 - 16) * 512))
     jpstore.shows("upgrade", jpstore.file, output=upgraded(3, 2))
-    jpstore.shows("check", jpstore.file, output=status_line(2, 3, 6, 168, half=0, sectors=300, version=3))
+    jpstore.shows("check", jpstore.file, output=status_line(2, 3, 6, 168, half=0, sectors=300, version=3, slots="whole"))
+
+
+def damaged_slots(image, slots):
+    """The image with other bytes in the first sectors of these slots."""
+    made = bytearray(image)
+    for slot in slots:
+        made[slot * 512 + 20:slot * 512 + 500] = bytes(255 - byte for byte in made[slot * 512 + 20:slot * 512 + 500])
+    return bytes(made)
+
+
+def what_the_slots_say_is_told(jpstore):
+    """Of each number of damaged slots: what is said, what is there, and how many openings it takes until all is whole."""
+    jpstore.run("format", jpstore.file, *BOTH, "--format", "3")
+    jpstore.shows("serve", jpstore.file, given=CREATE, output=DONE)
+    jpstore.serves_until_killed('{"cmd":"delete","name":"d"}\n', '{"ok":true,"seq":2}\n')
+    image = jpstore.contents()
+    # It was killed, since the end of `serve` seals. The frames have 67 and 39 bytes, and the store was opened twice. Bytes 16 to 23 of a slot are the number of its commit. The last is that of the deletion, the one before it of the opening.
+    numbers = {slot: int.from_bytes(image[slot * 512 + 16:slot * 512 + 24], "big") for slot in SLOTS}
+    last = [slot for slot in SLOTS if numbers[slot] == max(numbers.values())]
+    first = [slot for slot in SLOTS if slot not in last]
+    for damaged, word, documents, seq, used, opens in (
+        ([], "whole", 0, 2, 106, 1), (last[:1], "mended", 0, 2, 106, 1), (last[1:], "mended", 0, 2, 106, 1), (first[:1], "whole", 0, 2, 106, 1),
+        (first, "cut-off", 0, 2, 106, 1), (last, "cut-off", 1, 1, 67, 1), ([*first, last[0]], "cut-off", 0, 2, 106, 2), ([*last, first[0]], "cut-off", 1, 1, 67, 2),
+    ):
+        found = {"sectors": 300, "version": 3, "slots": word}
+        said = "" if word == "whole" else f'{{"slots":"{word}"}}\n'
+        jpstore.put(damaged_slots(image, damaged))
+        names = '["d"]' if documents else "[]"
+        jpstore.shows("serve", jpstore.file, given='{"cmd":"list"}\n', output=f'{{"names":{names},"ok":true}}\n', errors=said)
+        for strict in (["check"], ["serve"]):
+            jpstore.put(damaged_slots(image, damaged))
+            if word != "cut-off":
+                jpstore.run(*strict, jpstore.file, "--strict")
+                continue
+            # It is refused, and no byte is written.
+            jpstore.fails(*strict, jpstore.file, "--strict", given=CREATE, errors="jpstore: cut-off (75)\n")
+            if jpstore.contents() != damaged_slots(image, damaged):
+                raise Wrong(f"{strict[0]} --strict changed the file")
+        for words, slots in ((["check"], word), (["repair"], word)):
+            jpstore.put(damaged_slots(image, damaged))
+            jpstore.shows(*words, jpstore.file, output=status_line(documents, 3, seq, used, **{**found, "slots": slots}))
+            if opens == 2:
+                jpstore.run("repair", jpstore.file)
+            jpstore.shows("check", jpstore.file, "--strict", output=status_line(documents, 3 + opens, seq, used, **{**found, "slots": "whole"}))
+
+
+def formats_1_and_2_have_no_slots(jpstore):
+    jpstore.run("format", jpstore.file, *SIXTEEN)
+    for opens, words in enumerate((["check"], ["check", "--strict"], ["repair"]), 1):
+        jpstore.shows(words[0], jpstore.file, *words[1:], output=status_line(0, opens, 0, 0))
+    jpstore.shows("serve", jpstore.file, "--strict", given=CREATE, output=DONE)
+    jpstore.fails("repair", os.path.join(jpstore.folder, "none"), errors="jpstore: file\n")
 
 
 # Schemas with the numbers by which a document that is the text `a` is refused under them in format 2 and in format 3, by PROTOCOL.md;
@@ -438,8 +517,17 @@ PROFILES = [
     ({"patternProperties": {"a" * 4096: True}}, 41, 0), ({"patternProperties": {"a" * 4097: True}}, 41, 44),
     ({"patternProperties": {f"a{number}": True for number in range(64)}}, 41, 0),
     ({"patternProperties": {f"a{number}": True for number in range(64)}, "pattern": "a"}, 41, 44),
-    ({"type": "object", "patternProperties": {"a": True}}, 41, 45), ({"unevaluatedItems": False}, 41, 41), ({"$anchor": "a"}, 41, 41),
-    ({"$ref": "#/allOf/0", "allOf": [True]}, 42, 42),
+    ({"type": "object", "patternProperties": {"a": True}}, 41, 45), ({"unevaluatedItems": False}, 41, 41), ({"$anchor": "a"}, 41, 0),
+    ({"$anchor": "1"}, 41, 40), ({"$anchor": 1}, 41, 40), ({"items": {"$anchor": "a"}, "not": {"$anchor": "a", "type": "null"}}, 41, 40),
+    ({"$ref": "#a", "not": {"$anchor": "a", "type": "null"}}, 41, 45), ({"$id": "x", "$ref": "x#%61", "$defs": {"b": {"$anchor": "a"}}}, 41, 0),
+    ({"$id": "x#", "$ref": "x#/not", "not": {"type": "null"}}, 42, 45), ({"$id": "x#", "not": {"$ref": "x##/items"}, "items": True}, 42, 42),
+    ({"$anchor": "a", "$ref": "#a"}, 41, 43), ({"$ref": "#a", "default": {"$anchor": "a"}}, 42, 42), ({"$anchor": "a", "const": "a"}, 41, 0),
+    ({"$ref": "#/allOf/0", "allOf": [True]}, 42, 0), ({"$ref": "#/allOf/00", "allOf": [True]}, 42, 42),
+    ({"$ref": "#/properties/b~1%25", "properties": {"b/%": False}}, 42, 45), ({"$ref": "#/not/%ff", "not": False}, 42, 42),
+    ({"$id": "x", "items": {"$ref": "x#/not"}, "not": False}, 42, 0), ({"$id": "x", "items": {"$ref": "x"}}, 42, 0), ({"$ref": ""}, 42, 43),
+    ({"$ref": "#/%24defs/%", "$defs": {"%": False}}, 42, 45), ({"$ref": "#/default", "default": {}}, 42, 42),
+    ({"$ref": "#/properties", "properties": {}}, 42, 42), ({"$ref": "#/not/~2", "not": False}, 42, 42),
+    ({"allOf": [{"$ref": "#/allOf/1"}, {"$ref": "#/allOf/0"}]}, 42, 43), ({"$ref": "#/pattern"}, 42, 42), ({"$ref": "#a"}, 42, 42),
     ({"items": {"$id": "a"}}, 41, 41), ({"title": "x" * 262131}, 0, 0), ({"title": "x" * 262132, "pattern": "("}, 44, 44),
 ]
 
@@ -462,22 +550,29 @@ def formats_read_their_keywords(jpstore):
 
 
 def a_schema_of_profile_3_stays_in_format_3(jpstore):
-    for schema in ('{"dependentSchemas":{"a":{"maxProperties":1}}}', '{"pattern":"^a"}', '{"patternProperties":{"^a":true}}'):
-        stays_in_format_3(jpstore, schema)
+    keyword, reference = '{"error":"schema-keyword","number":41,"ok":false}\n', '{"error":"schema-ref","number":42,"ok":false}\n'
+    for schema in ('{"dependentSchemas":{"a":{"maxProperties":1}}}', '{"pattern":"^a"}', '{"patternProperties":{"^a":true}}', '{"$anchor":"a"}'):
+        stays_in_format_3(jpstore, schema, keyword)
         os.unlink(jpstore.file)
+    stays_in_format_3(jpstore, '{"items":{"$ref":"#/not"},"not":false}', reference)
 
 
-def stays_in_format_3(jpstore, schema):
+def stays_in_format_3(jpstore, schema, refusal):
+    """The refusal is that of a store of format 2."""
     new = os.path.join(jpstore.folder, "new")
     newer = CREATE.replace("true", schema)
     jpstore.run("format", jpstore.file, *BOTH)
-    jpstore.shows("serve", jpstore.file, given=newer, output='{"error":"schema-keyword","number":41,"ok":false}\n')
+    jpstore.shows("serve", jpstore.file, given=newer, output=refusal)
     jpstore.shows("upgrade", jpstore.file, output=upgraded(3, 2))
     jpstore.shows("serve", jpstore.file, given=newer, output=DONE)
     jpstore.fails("upgrade", jpstore.file, "--format", "2", errors="jpstore: newer-schema (76)\n")
     jpstore.fails("copy", jpstore.file, new, *SIXTEEN, errors="jpstore: newer-schema (76)\n")
     if os.path.exists(new) or jpstore.contents()[8:12] != bytes([0, 0, 0, 3]):
         raise Wrong("a store that can't be brought back, or copied, was changed")
+    # In format 3 it is copied.
+    jpstore.run("copy", jpstore.file, new, *BOTH, "--format", "3")
+    jpstore.shows("serve", new, given='{"cmd":"get-schema","name":"d"}\n', output=f'{{"ok":true,"value":{schema}}}\n')
+    os.unlink(new)
     # Without that schema it goes back.
     jpstore.shows("serve", jpstore.file, given='{"cmd":"schema","name":"d","schema":true}\n', output='{"ok":true,"seq":2}\n')
     jpstore.shows("upgrade", jpstore.file, "--format", "2", output=upgraded(2, 3))
@@ -608,7 +703,8 @@ def words_that_are_no_call_end_with_2(jpstore):
         "copy f --sectors 16", "copy f g", "copy f g h --sectors 16", "copy f g --sectors 2", "copy f g --sectors 16 --batch 2",
         "serve f --halt", "serve f --sparse", "upgrade", "upgrade f g", "upgrade f --format 1",
         "upgrade f --format 4", "upgrade f --format", "upgrade f --sectors 16",
-        "mem --sectors 16 --why", "check f --why --why", "serve f --why=yes", "check f --mode 600", "copy f g --sectors 16 --mode 600",
+        "mem --sectors 16 --why", "check f --why --why", "check f --strict=yes", "check f --strict --strict", "repair", "repair f g", "repair f --strict",
+        "copy f g --sectors 16 --strict", "serve f --why=yes", "check f --mode 600", "copy f g --sectors 16 --mode 600",
         "format f --sectors 16 --mode", "format f --sectors 16 --mode 8", "format f --sectors 16 --mode 600 --mode 600",
     ]
     for call in calls:
@@ -640,10 +736,13 @@ def options_stand_where_they_like(jpstore):
 def help_ends_with_0(jpstore):
     programs = (
         "Commands:\n  format   Make a file with an empty store in it\n  serve    Answer command lines over the store in a file\n"
-        "  check    Open the store in a file as `serve` does, and show its status; this counts as an opening\n"
+        "  check    Open the store in a file as `serve` does, and show its status, which counts as an opening; or, by `--deep`, read all of it, and tell what is damaged\n"
+        "  repair   Open the store in a file, by which its commit slots are written anew, and show its status and what they said; this counts as an opening\n"
         "  copy     Copy the store in a file into a new file of another size; this counts as an opening\n"
         "  upgrade  Bring the store in a file to format 3, or back to 2; this counts as an opening\n"
         "  mem      Answer command lines over a new store in memory\n"
+        "  salvage  Write what can still be read of a damaged store, as lines that make its documents; the file is only read\n"
+        "  dump     Write each document of the store in a file as the line that makes it\n"
     )
     for words, text in (
         (["--help"], programs),
@@ -660,6 +759,9 @@ def help_ends_with_0(jpstore):
         (["format", "--help"], "      --sparse "),
         (["format", "--help"], "--mode <MODE>"),
         (["check", "--help"], "      --why "),
+        (["check", "--help"], "      --strict "),
+        (["serve", "--help"], "      --strict "),
+        (["repair", "--help"], "Usage: jpstore repair [OPTIONS] <FILE>\n"),
         (["upgrade", "--help"], "Usage: jpstore upgrade [OPTIONS] <FILE>\n"),
         (["mem", "--help"], "Usage: jpstore mem --sectors <N>\n"),
     ):
@@ -711,6 +813,7 @@ TESTS = [
     a_store_of_format_1_becomes_one_of_format_2,
     a_store_of_format_1_without_room_in_format_2_is_refused,
     a_store_is_copied_into_a_file_of_another_size,
+    a_store_is_copied_into_either_format,
     copies_that_are_refused_leave_what_was_there,
     a_store_in_use_is_not_copied,
     a_new_file_has_all_its_blocks_unless_it_is_sparse,
@@ -718,6 +821,8 @@ TESTS = [
     a_new_file_on_a_full_disk_is_not_made,
     a_store_is_brought_to_format_3_and_back,
     a_store_of_format_1_is_brought_to_format_3,
+    what_the_slots_say_is_told,
+    formats_1_and_2_have_no_slots,
     formats_read_their_keywords,
     a_schema_of_profile_3_stays_in_format_3,
     upgrades_that_fail,

@@ -1,7 +1,7 @@
 #!/usr/bin/env python3
 """Stops sessions over a small store of format 3 at each call, tears and damages what was written, and opens it again.
 
-    torn_blocks.py PROGRAM [--all]
+    torn_blocks.py PROGRAM [--all | --bits]
 
 A session is recorded by strace: what it writes to the store's file, its syncs, and its replies. It is stopped before and after
 each of these. Each aligned block of 4 KiB that was written since the last sync then has its old bytes, its new ones, or
@@ -10,8 +10,9 @@ of all answered changes, and with those of the change on the way or without them
 and opened again in the same way.
 
 Of a store at rest each block, and a bit of many bytes of the sectors in use, is damaged: then it must open with the same
-documents, or be refused as damaged (73), or say that a commit was cut off. `--all` flips each bit, and opens each image again
-in the middle of its opening: that takes an hour.
+documents, or be refused as damaged (73). Both slots of the last commit are damaged, too: then it must say that a commit was
+cut off, and open with the documents of an earlier one, or, with `--strict`, be refused (75). `--all` flips each bit, and opens each image again
+in the middle of its opening: that takes an hour. `--bits` flips each bit, and stops no session.
 
 The counts of images come first. The last line is `N passed, M failed`. If strace is missing, it installs Debian's package.
 """
@@ -28,6 +29,10 @@ import shutil
 import subprocess
 import sys
 import tempfile
+
+sys.dont_write_bytecode = True
+sys.path.insert(0, os.path.join(os.path.dirname(os.path.abspath(__file__)), "..", "..", "tools"))
+from debian_packages import install
 
 SECTOR, BLOCK = 512, 4096
 SECTORS = 256
@@ -266,6 +271,18 @@ def try_session(program, run, opener, image, session, states, chance, reopened):
     return end
 
 
+def served(program, opener, image, session, states):
+    """The store at the end of a session that is not stopped."""
+    lines, options = session
+    for line in lines:
+        states.take(line)
+    with opener.file_of(image) as path:
+        sent = "".join(json.dumps(line) + "\n" for line in lines)
+        subprocess.run([program, "serve", path, *options], input=sent, text=True, check=True, stdout=subprocess.DEVNULL)
+        with open(path, "rb") as file:
+            return file.read()
+
+
 def try_damage(run, opener, image, seq, documents, all_bits, chance):
     """A store at rest, of which a block or a bit is damaged."""
     def judged(damaged):
@@ -280,23 +297,46 @@ def try_damage(run, opener, image, seq, documents, all_bits, chance):
     # Of each byte of a slot's fields a bit, and of each eighth byte after them.
     places = [at for sector in used for at in range(sector, sector + SECTOR) if all_bits or at % SECTOR < FIELDS or at % 8 == 0]
     bits = [at * 8 + bit for at in places for bit in (range(8) if all_bits else [chance.randrange(8)])]
-    flipped = (image[:bit // 8] + bytes([image[bit // 8] ^ 1 << bit % 8]) + image[bit // 8 + 1:] for bit in bits)
+
+    def judged_with(bit):
+        return judged(image[:bit // 8] + bytes([image[bit // 8] ^ 1 << bit % 8]) + image[bit // 8 + 1:])
     with concurrent.futures.ThreadPoolExecutor(os.cpu_count()) as pool:
-        for what, images in (("a block is damaged", blocks), ("a bit is flipped", flipped)):
-            for found in pool.map(judged, images):
+        for what, found_of, each in (("a block is damaged", judged, blocks), ("a bit is flipped", judged_with, bits)):
+            for found in pool.map(found_of, each):
                 run.count(f"{what}: {found}")
                 if found not in ("the same", "told"):
                     run.wrong.append(f"{what}: {found}")
 
 
+def try_both_slots(program, run, opener, image, seq):
+    """A store at rest whose last commit is damaged in both of its slots."""
+    numbers = {slot: int.from_bytes(image[slot * SECTOR + 16:slot * SECTOR + 24], "big") for slot in (0, 32, 64, 96)}
+    damaged = bytearray(image)
+    for slot in (slot for slot, number in numbers.items() if number == max(numbers.values())):
+        damaged[slot * SECTOR + 100] ^= 1
+    damaged = bytes(damaged)
+    state, said = opener.opened(damaged)
+    run.count("both slots of the last commit are damaged")
+    if state is None or said != '{"slots":"cut-off"}\n' or state[0] > seq:
+        run.wrong.append(f"both slots are damaged: {state} and {said.strip()}")
+    run.count("both slots are damaged, and --strict")
+    with opener.file_of(damaged) as path:
+        strict = subprocess.run([program, "serve", path, "--strict"], input="", text=True, capture_output=True, check=False)
+        with open(path, "rb") as file:
+            left = file.read()
+    if (strict.returncode, strict.stdout, strict.stderr, left) != (1, "", "jpstore: cut-off (75)\n", damaged):
+        run.wrong.append(f"both slots are damaged: {strict}")
+
+
 def main():
     parser = argparse.ArgumentParser()
     parser.add_argument("program")
-    parser.add_argument("--all", action="store_true")
+    how = parser.add_mutually_exclusive_group()
+    how.add_argument("--all", action="store_true")
+    how.add_argument("--bits", action="store_true")
     options = parser.parse_args()
     program = os.path.abspath(options.program)
-    if not shutil.which("strace"):
-        subprocess.run(["apt-get", "install", "-y", "-q", "strace"], check=False, stdout=subprocess.DEVNULL)
+    install([] if shutil.which("strace") else ["strace"])
     chance, states = random.Random(1), States()
     with tempfile.TemporaryDirectory() as folder:
         store = os.path.join(folder, "store")
@@ -306,8 +346,12 @@ def main():
         opener = Opener(program, folder, states)
         run = Run(opener, chance)
         for session in SESSIONS:
-            image = try_session(program, run, opener, image, session, states, chance, 10 ** 9 if options.all else REOPENED // len(SESSIONS))
-        try_damage(run, opener, image, states.last, states.by_seq[states.last], options.all, chance)
+            if options.bits:
+                image = served(program, opener, image, session, states)
+            else:
+                image = try_session(program, run, opener, image, session, states, chance, 10 ** 9 if options.all else REOPENED // len(SESSIONS))
+        try_both_slots(program, run, opener, image, states.last)
+        try_damage(run, opener, image, states.last, states.by_seq[states.last], options.all or options.bits, chance)
     for what, count in sorted(run.counts.items()):
         print(f"{count} images: {what}")
     for wrong in run.wrong[:20]:
