@@ -1,7 +1,7 @@
 #!/usr/bin/env python3
 """How long the built program takes for what its users ask of it.
 
-    bench.py PROGRAM [cost|opening|patches|queries|schemas|store|updates ..] [--folder FOLDER] [--slow MS]
+    bench.py PROGRAM [cost|many|opening|patches|queries|schemas|store|updates ..] [--folder FOLDER] [--slow MS]
     bench.py PROGRAM --beside OTHER [--folder FOLDER] [--slow MS]
 
 PROGRAM is a built `jpstore`. Each figure is the time from the first byte of the lines that were sent to the last byte
@@ -18,6 +18,8 @@ of their replies: it has the reading of a line and the writing of its reply in i
   kind of operation, in the smallest and the largest;
 - updates: durable updates of a file, single and in groups, in format 2 and in format 3, beside floors and SQLite;
 - opening: `check` of a store with 8 MB of small patches;
+- many: a store of format 3 with 50,000 documents of 1 KB under one schema: memory, opening, a change, `list`, a snapshot
+  in steps beside changes, deletions;
 - store: 64 updates in one transaction beside a batch of 64; the opening of a store of 1,000 documents of 1,000 bytes;
   that of the same store in format 1, which is brought to format 2 then, beside as many writes and syncs of another
   file; and 1,000 steps of one sector of a copied snapshot of it.
@@ -35,6 +37,7 @@ import tempfile
 
 from bench_cost import measure_cost
 from bench_lines import create, in_memory, least, line_of, milliseconds, patch, replace
+from bench_many import measure_many
 from bench_store import measure_opening, measure_store
 from bench_turns import measure_turns
 from bench_updates import measure_updates
@@ -163,6 +166,7 @@ def measure_schemas(program, _folder):
 PARTS = {
     "patches": measure_patches, "queries": measure_queries, "schemas": measure_schemas, "cost": measure_cost,
     "updates": measure_updates, "opening": measure_opening, "store": measure_store,
+    "many": measure_many,
 }
 
 

@@ -70,9 +70,9 @@ def in_memory(program, sectors=65_536):
     return Program([program, "mem", "--sectors", str(sectors)])
 
 
-def formatted(program, path, *words):
+def formatted(program, path, *words, sectors=65_536):
     """The path of a new store, as text."""
-    subprocess.run([program, "format", path, "--sectors", "65536", *words], check=True, stdout=subprocess.DEVNULL)
+    subprocess.run([program, "format", path, "--sectors", str(sectors), *words], check=True, stdout=subprocess.DEVNULL)
     return str(path)
 
 

@@ -1,6 +1,7 @@
 """Two programs by turns, as one commit and another build them: durable changes of a file, and creations of records.
 
-- Updates replace a number of six digits in a file of format 2 or 3, one a commit or 64. The file was written full.
+- Updates replace a text in a file of format 2 or 3. A frame has 112 bytes or 700, a commit one of them or 64 small ones.
+  The file was written full.
 - Records are objects of three small members in a list, created and removed in memory, so that the store doesn't grow. The
   members of lines and records are in byte order, as clients write them, and in the last comparison they are not.
 - Each turn of one program is followed by the same turn of the other. A rate is the median of the turns, by the clock and
@@ -13,7 +14,7 @@ import tempfile
 import time
 
 from bench_lines import Program, formatted, in_memory, line_of
-from bench_updates import Store
+from bench_updates import SHAPES, Store
 
 SECONDS, TURNS = 20, 15
 # How long a turn takes, and how many jobs tell how long one takes, once the program has begun.
@@ -29,8 +30,8 @@ def processor_seconds(program):
 class Updates(Store):
     """Updates of a file, in groups."""
 
-    def __init__(self, program, path, group, *words):
-        super().__init__(Program([program, "serve", formatted(program, path, *words), "--batch", str(group)]), group)
+    def __init__(self, program, path, group, size, *words):
+        super().__init__(Program([program, "serve", formatted(program, path, *words), "--batch", str(group)]), group, size)
 
 
 class Creations:
@@ -89,8 +90,10 @@ def measure_turns(program, other, folder):
         compare(f"creations of records of {size:,} bytes", 1, [Creations(each, size) for each in both])
     compare("the same with members in another order", 1, [Creations(each, RECORDS[-1], False) for each in both])
     with tempfile.TemporaryDirectory(prefix="bench-", dir=folder) as made:
-        for group in (1, 64):
+        for size, group in SHAPES:
             for version in "23":
-                path = os.path.join(made, f"{group}-{version}")
-                contenders = [Updates(each, f"{path}-{number}", group, "--format", version) for number, each in enumerate(both)]
-                compare(f"durable updates in groups of {group}, format {version}", group, contenders)
+                path = os.path.join(made, f"{size}-{group}-{version}")
+                contenders = [
+                    Updates(each, f"{path}-{number}", group, size, "--format", version) for number, each in enumerate(both)
+                ]
+                compare(f"durable updates of {size} bytes in groups of {group}, format {version}", group, contenders)

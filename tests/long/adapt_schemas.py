@@ -30,6 +30,7 @@ sys.path.insert(0, str(pathlib.Path(__file__).resolve().parents[2] / "clients" /
 from adapt_patterns import Maker  # noqa: E402
 from jpstore import Invalid, JpstoreError, Refused, Schema, Store, explain, format_file  # noqa: E402
 from jpstore.cli.adapting import _beside  # noqa: E402
+from jpstore.faults.references import References  # noqa: E402
 from jpstore.patterns import read_dialect  # noqa: E402
 
 MATCHING = ["pattern", "patternProperties"]
@@ -158,8 +159,7 @@ def some_value(root, schema, chance, depth):
         if word in schema and chance.random() < 0.9:
             return schema[word] if word == "const" else chance.choice(schema[word] or [None])
     if "$ref" in schema:
-        name = schema["$ref"].rpartition("/")[2]
-        return some_value(root, root["$defs"][name] if name != "#" else root, chance, depth - 1)
+        return some_value(root, References(root, 3).target(schema["$ref"])[1], chance, depth - 1)
     parts = [part for word in ("anyOf", "oneOf", "allOf") for part in schema.get(word, [])]
     if parts and chance.random() < 0.7:
         return some_value(root, chance.choice(parts), chance, depth)

@@ -7,8 +7,8 @@
 - schemas: whether a document is valid under a schema, by the Python package `jsonschema` (draft 2020-12);
 - changes: the same of what a patch makes of a document that is valid under a schema;
 - sequences: the same of two to eight operations, each of which can be made, through documents that may not be valid;
-- schemas-3, changes-3, sequences-3: the same in a store of format 3, with `dependentSchemas`, and with `pattern` and
-  `patternProperties`, which Python's `re` judges;
+- schemas-3, changes-3, sequences-3: the same in a store of format 3, with `dependentSchemas`, with references to any
+  place of a definition, and with `pattern` and `patternProperties`, which Python's `re` judges;
 - queries: the nodelist of a query with its normalized paths, by RFC 9535 as this file reads it.
 
 None of the expected values is the program's own. It prints each difference with the lines that show it, and ends with
@@ -24,6 +24,7 @@ import re
 import subprocess
 import sys
 import tempfile
+import urllib.parse
 
 NAMES = ["a", "b", "c", "", "a/b", "m~n", "it's", "0", "1", "-", "\u00e9", "\U0001F600", "x y", "\\", "\u0001"]
 TEXTS = ["", "a", "ab", "b", "\u00e9", "\U0001F600\U0001F600", "\ud7ff", "a\nb"]
@@ -314,8 +315,47 @@ def with_definitions(schema, definition):
     return {**schema, "$defs": {"d": plain}} if isinstance(schema, dict) else schema
 
 
-def schema_case(choose, profile=2):
+# The keywords that hold schemas, by the shapes of their values: one, a list of some, or some by name.
+ONE = ("additionalProperties", "propertyNames", "items", "contains", "not", "if", "then", "else")
+SEVERAL, NAMED = ("prefixItems", "allOf", "anyOf", "oneOf"), ("properties", "patternProperties", "dependentSchemas")
+
+
+def places_of_schemas(schema, at):
+    """The pointers of a schema and of those in it."""
+    yield at
+    for word, value in schema.items() if isinstance(schema, dict) else ():
+        if word in ONE:
+            yield from places_of_schemas(value, f"{at}/{word}")
+        elif word in SEVERAL + NAMED:
+            for token, inner in enumerate(value) if word in SEVERAL else value.items():
+                yield from places_of_schemas(inner, f"{at}/{word}/{str(token).replace('~', '~0').replace('/', '~1')}")
+
+
+def referring(choose, schema):
+    """The same schema, whose references lead to any place in its definition, written in several ways."""
+    if not isinstance(schema, dict) or "$defs" not in schema:
+        return schema
+    # `jsonschema` takes a `/` off the end of a reference.
+    places = [place for place in places_of_schemas(schema["$defs"]["d"], "/$defs/d") if not place.endswith("/")]
+    front = choose.choice(["", "", "http://x/y"])
+    if isinstance(schema["$defs"]["d"], dict) and choose.random() < 0.3:
+        schema["$defs"]["d"]["$anchor"] = places[0] = "an-Anchor.1"
+
+    def reference(_):
+        place, safe = choose.choice(places), choose.choice(["/$", "/", "/$^*()[]|\\"])
+        return '"$ref": ' + json.dumps(front * choose.randrange(2) + "#" + urllib.parse.quote(place, safe=safe))
+
+    made = json.loads(re.sub(r'"\$ref": "#/\$defs/d"', reference, json.dumps(schema)))
+    return {**made, "$id": front} if front else made
+
+
+def both_schemas(choose, profile):
     schema = with_definitions(random_schema(choose, 3, profile), random_schema(choose, 2, profile))
+    return referring(choose, schema) if profile > 2 else schema
+
+
+def schema_case(choose, profile=2):
+    schema = both_schemas(choose, profile)
     validator = judge(schema)
     documents = [document(choose, 3) for _ in range(4)]
     lines, wanted = [], []
@@ -332,7 +372,7 @@ def schema_case(choose, profile=2):
 def valid_pair(choose, profile, levels):
     """A random schema, and a random document of at most this many levels that it accepts."""
     while True:
-        schema = with_definitions(random_schema(choose, 3, profile), random_schema(choose, 2, profile))
+        schema = both_schemas(choose, profile)
         root = document(choose, levels)
         if judge(schema).is_valid(root):
             return schema, root

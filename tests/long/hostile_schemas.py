@@ -5,7 +5,7 @@
 
 PROGRAM is a built `jpstore`. Each case is sent in memory (`mem`), then to a new file (`serve`), and the file is opened
 again (`check`), each by a process of its own with 8 MiB of stack and 5 seconds. A case fails if a process ends by a
-signal, takes too long, or answers another than the wanted replies. Schemas with patterns go to stores of format 3, whose
+signal, takes too long, or answers another than the wanted replies. Schemas with patterns, or with references by pointers, go to stores of format 3, whose
 processes have 1 GiB of memory.
 """
 import argparse
@@ -17,7 +17,7 @@ import sys
 import tempfile
 import time
 
-OK, INVALID, TOO_LARGE, FORM, MEMORY = True, 45, 44, 40, 63
+OK, INVALID, TOO_LARGE, FORM, MEMORY, DANGLING, LOOP = True, 45, 44, 40, 63, 42, 43
 
 
 def nest(height, value=None):
@@ -157,6 +157,36 @@ def by_patterns(count, schema):
     return {'patternProperties': {'^%s.*%d$' % (short(i)[1:], i % 10): schema for i in range(count)}}
 
 
+def long_pointers(count, depth):
+    inner = {'properties': {}}
+    for _ in range(depth):
+        inner = {'properties': {'x': inner}}
+    return {'$defs': {'d': inner}, 'allOf': [{'properties': {'a': {'$ref': '#/$defs/d' + '/properties/x' * depth}}}] * count}
+
+
+def escaped_pointers(count, letters):
+    return {'$defs': {'~' * letters: {'type': 'integer'}}, 'allOf': [{'properties': {'x': {'$ref': '#/%24defs/' + '%7E0' * letters}}}] * count}
+
+
+def short_pointers(count, depth):
+    inner = {}
+    for _ in range(depth):
+        inner = {'not': inner}
+    return {'$defs': {'d': inner}, 'allOf': [{'$ref': '#/$defs/d' + '/not' * depth}] * count}
+
+
+def chained_pointers(count, last):
+    return {'allOf': [{'$ref': '#/allOf/%d' % (i + 1)} for i in range(count)] + [last]}
+
+
+def among_anchors(count):
+    return {'$defs': {'d%d' % i: {'$anchor': 'a%d' % i} for i in range(count)}, 'allOf': [{'$ref': '#a%d' % i} for i in range(count)]}
+
+
+def among_names(count):
+    return {'$defs': {'n%d' % i: {} for i in range(count)}, 'allOf': [{'$ref': '#/$defs/n%d' % i} for i in range(count)]}
+
+
 MEGABYTE = 1000000
 MEMBERS = {'%s%d' % (short(i), i % 10): 0 for i in range(46656)}
 OTHER_MEMBERS = {'-%s' % name: 0 for name in MEMBERS}
@@ -210,9 +240,68 @@ PATTERN_CASES = [
     ('10,000 objects of four members by 64 patterns', {'items': by_patterns(64, {'type': 'integer'})}, [{'aa0': 0, 'ab1': 1, 'b': 2, 'c': 3}] * 10000, [], OK),
     ('a name of 1 MB by a pattern', {'patternProperties': {'(a|aa)+$': False}}, {'a' * (MEGABYTE - 10) + 'b': 0}, [], OK),
     ('a name of 1 MB by 64 patterns', {'patternProperties': {'(%s|aa)+$' % ('a' * (i + 1)): False for i in range(64)}}, {'a' * (MEGABYTE - 10) + 'b': 0}, [], OK),
+    ('1,000 references by pointers of 32 tokens', long_pointers(1000, 15), {}, [], OK),
+    ('400 references by a pointer of 520 bytes, escaped', escaped_pointers(400, 130), {'x': 0}, [], OK),
+    ('5,000 references by pointers of nine tokens', short_pointers(5000, 7), {}, [], OK),
+    ('5,000 references with broken escapes', {'$defs': {'%%4': {}}, 'allOf': [{'$ref': '#/$defs/%%4'}] * 5000}, {}, [], OK),
+    ('5,000 chained pointers', chained_pointers(5000, {}), {}, [], OK),
+    ('a loop of 5,000 pointers', chained_pointers(4999, {'$ref': '#/allOf/0'}), {}, [], LOOP),
+    ('8,000 references that lead nowhere', {'allOf': [{'$ref': '#/properties/a%d' % i} for i in range(8000)]}, {}, [], DANGLING),
+    ('a reference of 200,000 bytes', {'items': {'$ref': '#' + '/not' * 50000}}, [], [], DANGLING),
+    ('a reference of 66,000 bytes that are no UTF-8', {'items': {'$ref': '#/' + '%ff' * 66000}}, [], [], DANGLING),
+    ('5,000 references among 5,000 anchors', among_anchors(5000), {}, [], OK),
+    ('13,000 equal anchors', {'allOf': [{'$anchor': 'a'}] * 13000}, {}, [], FORM),
+    ('an anchor of 200,000 bytes', {'$anchor': 'a' * 200000}, {}, [], OK),
+    ('7,000 references among 7,000 names', among_names(7000), {}, [], OK),
     ('31 schemas that depend on one name', dependent(31), {'a': 0}, [], OK),
     ('20,000 names with a schema each', {'dependentSchemas': {name: False for name in REQUIRED[:20000]}}, {name: 0 for name in REQUIRED[20000:20500]}, [], OK),
     ('200 patches of a text of 100,000 letters', patterned('^(a|aa)+$'), 'a' * 100000, [{'cmd': 'patch', 'name': 'd', 'ops': []}] * 200, OK),
+]
+
+
+def chain_of_pointers(names, last):
+    definitions = {name: {'$ref': '#/%24defs/' + after} for name, after in zip(names, names[1:])}
+    definitions[names[-1]] = last
+    return {'$defs': definitions, '$ref': '#/%24defs/' + names[0]}
+
+
+def chain_through_nots(names, last):
+    made = {name: {'not': {'$ref': '#/$defs/%s/not' % after}} for name, after in zip(names, names[1:])}
+    made[names[-1]] = {'not': last}
+    return {'$defs': made, 'not': {'$ref': '#/$defs/%s/not' % names[0]}}
+
+
+# References by pointers. A schema has at most 262,144 bytes.
+PATTERN_CASES += [
+    ('7,000 chained pointers, 64 high', chain_of_pointers(NAMES[:7000], AGAIN), nest(63), [], OK),
+    ('the same, each to the name before it', chain_of_pointers(NAMES[6999::-1], AGAIN), nest(63), [], OK),
+    ('7,000 chained pointers in a ring', chain_of_pointers(NAMES[:7000], {'$ref': '#/%24defs/' + NAMES[0]}), 1, [], LOOP),
+    ('5,500 pointers through a schema of each name', chain_through_nots(NAMES[:5500], True), 1, [], INVALID),
+    ('1,150 pointers through 50 schemas each', {**negations(50, True), 'allOf': [{'$ref': '#' + '/not' * 50}] * 1150}, 1, [], OK),
+    ('5,000 pointers past 10,000 members', {**{'a%s' % short(i): 0 for i in range(10000)}, 'properties': {'z': True}, 'allOf': [{'$ref': '#/properties/z'}] * 5000}, 1, [], OK),
+    ('5,000 pointers to the last of 8,500 definitions', {'$defs': dict.fromkeys(sorted(NAMES)[:8500] + ['zzzz'], True), 'allOf': [{'$ref': '#/%24defs/zzzz'}] * 5000}, 1, [], OK),
+    ('5,500 pointers to the last of 10,000 schemas', {'prefixItems': [True] * 10000, 'allOf': [{'$ref': '#/prefixItems/9999'}] * 5500}, 1, [], OK),
+    ('an escape of one digit', {'not': {'$ref': '#/%2'}}, 1, [], DANGLING),
+    ('80,000 escapes', {'not': {'$ref': '#/' + '%41' * 80000}}, 1, [], DANGLING),
+    ('120,000 steps', {'not': {'$ref': '#' + '/a' * 120000}}, 1, [], DANGLING),
+    ('an identifier of 100 bytes before each of 1,800 pointers', {'$id': 'i' * 100, 'properties': {'z': True}, 'allOf': [{'$ref': 'i' * 100 + '#/properties/z'}] * 1800}, 1, [], OK),
+    ('an identifier with a fragment', {'$id': 'http://x/#', 'properties': {'z': True}, 'not': {'$ref': 'http://x/#/properties/z'}}, 1, [], INVALID),
+]
+
+
+def anchored(names, targets):
+    return {'allOf': [{'$anchor': name, '$ref': '#' + target} for name, target in zip(names, targets)]}
+
+
+# References by anchors.
+ANCHORS = ['a' + short(i) for i in range(7500)]
+PATTERN_CASES += [
+    ('7,500 chained anchors, 64 high', {'$anchor': 'z', 'additionalProperties': {'$ref': '#z'}, **anchored(ANCHORS[:-1], ANCHORS[1:]), 'items': {'$anchor': ANCHORS[-1]}}, nest(63), [], OK),
+    ('the same, each to the anchor before it', {**anchored(ANCHORS[:0:-1], ANCHORS[-2::-1]), 'items': {'$anchor': ANCHORS[0]}}, 1, [], OK),
+    ('7,500 chained anchors in a ring', anchored(ANCHORS, ANCHORS[1:] + ANCHORS[:1]), 1, [], LOOP),
+    ('7,000 references to the last of 7,000 anchors', {**anchored(ANCHORS[:7000], ['z'] * 7000), 'items': {'$anchor': 'z', 'type': 'integer'}}, 1, [], OK),
+    ('7,400 references to no anchor', anchored(ANCHORS[:7400], ['b' + anchor for anchor in ANCHORS]), 1, [], DANGLING),
+    ('7,500 anchors, the last as the first', anchored(ANCHORS[:-1] + ANCHORS[:1], ANCHORS), 1, [], FORM),
 ]
 
 

@@ -28,7 +28,9 @@ import tempfile
 import time
 
 HERE = pathlib.Path(__file__).resolve().parent
-sys.path.insert(0, str(HERE.parent / "gate"))
+sys.dont_write_bytecode = True
+sys.path[:0] = [str(HERE.parent / "gate"), str(HERE.parent.parent / "tools")]
+from debian_packages import install
 from test_pages import README, sessions
 
 PAGE = HERE.parent.parent / "docs" / "use" / "EMBEDDING.md"
@@ -119,11 +121,7 @@ def go_through_readme(said):
 
 
 def install_missing():
-    missing = [package for command, package in WANTED.items() if not shutil.which(command)]
-    if missing and os.geteuid() == 0:
-        environment = {**os.environ, "DEBIAN_FRONTEND": "noninteractive"}
-        for words in (["update"], ["install", "-y", "--no-install-recommends", *missing]):
-            subprocess.call(["apt-get", "-q", *words], stdout=subprocess.DEVNULL, env=environment)
+    install([package for command, package in WANTED.items() if not shutil.which(command)])
 
 
 # The files of DIST.
