@@ -17,6 +17,7 @@ def may_install():
 def apt(*words, cwd=None):
     """Runs apt-get without a question, after the other scripts of this tree that do."""
     environment = {**os.environ, "DEBIAN_FRONTEND": "noninteractive"}
+    os.makedirs(os.path.dirname(LOCK), exist_ok=True)
     with open(LOCK, "w", encoding="utf-8") as lock:
         fcntl.flock(lock, fcntl.LOCK_EX)
         subprocess.call(["apt-get", "-q", "-o", "DPkg::Lock::Timeout=600", *words], cwd=cwd, env=environment, stdin=subprocess.DEVNULL, stdout=subprocess.DEVNULL)
