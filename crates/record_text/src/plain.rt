@@ -76,8 +76,10 @@ fn after_patch<'b>(name: &str, ops: &Tree, body: &'b [u8]) -> Option<&'b [u8]>
 }
 
 /// The name, and the bytes in the place of the operations, which aren't read, in the body of a patch that asks for no
-/// revision: the body is the text of the patch by each document that has these bytes as its text.
-pub(crate) fn patch_parts(body: &[u8]) -> Option<(&str, &[u8])>
+/// revision: the body is the text of the patch by each document that has these bytes as its text. It takes no memory.
+///
+/// `None` says nothing: the body is no such patch's, or the name holds an escape.
+pub fn patch_parts(body: &[u8]) -> Option<(&str, &[u8])>
     ensures { IfSome result (λ p. (ops : Doc) → p.1.now ≡ text_of ops → IsSound ops → height ops ≤ 126
         → IsTextOf body.now (object_of (patch p.0.now ops None))) }
 {

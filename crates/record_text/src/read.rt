@@ -30,7 +30,7 @@ pub fn read_frame(alloc: Global, bytes: &[u8]) -> Result<(Command, u64, usize), 
 {
     let seq = seq_within(bytes)?;
     let body = body_within(bytes, 12)?;
-    let command = command_within(alloc, body)?;
+    let command = read_body(alloc, body)?;
     Ok((command, seq, 12 + body.len()))
 }
 
@@ -45,7 +45,7 @@ pub fn read_frame_1(alloc: Global, bytes: &[u8]) -> Result<(Command, usize), Rec
         → MatchResult result (λ r. (change_of r.0 ≡ c) × (r.1 ≡ n)) (λ e. e ≡ Memory) }
 {
     let body = body_within(bytes, 4)?;
-    let command = command_within(alloc, body)?;
+    let command = read_body(alloc, body)?;
     if !command.asks_none() {
         return Err(RecordFault::Shape);
     }
@@ -90,8 +90,11 @@ pub(crate) fn body_within(bytes: &[u8], head: usize) -> Result<&[u8], RecordFaul
     Ok(&rest[..len])
 }
 
-// The command whose object a body is the compact text of.
-fn command_within(alloc: Global, body: &[u8]) -> Result<Command, RecordFault>
+/// The command whose object a body is the compact text of.
+///
+/// `Text` if the body isn't the compact text of a document at most 127 high, in its one spelling; `Shape` if that
+/// document is no command's object; in this order. `Memory` may come in place of any answer.
+pub fn read_body(alloc: Global, body: &[u8]) -> Result<Command, RecordFault>
     ensures { MatchResult result (λ c. IsTextOf body.now (object_of (change_of c))) (λ e. IsBodyFault e body.now) }
 {
     if let Some(command) = plain_patch(alloc, body) {
