@@ -1,5 +1,6 @@
 mod Built
 mod Filled
+mod Wide
 pub mod Said
 mod Tails
 mod Four

@@ -1,13 +1,14 @@
 -- What the first sector of a slot says is what was written, and so are the bytes of its tail.
 use Rattle.std.proofs.Common.{◌≡◌, ℕ, ◌+◌, ◌*◌, ◌/◌, ◌%◌, ◌<◌, ◌^◌, List, [], ◌++◌, length, take, drop, get_or, sym, ◌∙◌, ap, refl, arith}
 use Rattle.std.proofs.lemmas.List.{ext_get_or, get_or-drop, get_or-append-add, length-append}
-use Rattle.std.specs.Int.{w32, w64, from_be_bytes, to_be_bytes}
+use Rattle.std.specs.Int.{w32, w64, w128, from_be_bytes, to_be_bytes}
 use Rattle.std.proofs.lemmas.Nat.{from_be_bytes-to_be_bytes_4, from_be_bytes-to_be_bytes_8}
 use Rattle.checksum.specs.Crc.{crc_of}
 use Rattle.commit_slots.specs.Sealed.{Verifies, beginning, number_of, rest_of}
 use Rattle.commit_slots.specs.Slots.{IsHeld, IsSlotOf, content_of, numbers_in, piece_of, slot_sector, Image}
 use Rattle.commit_slots.specs.declared.slot.Slot.{Slot}
 use Rattle.commit_slots.proofs.Filled.{piece_byte, piece_long}
+use Rattle.commit_slots.proofs.Wide.{from_be_bytes-to_be_bytes_16}
 
 -- what a sector says, if it is the first of a slot
 abbrev pub said_in : List ℕ → Slot
@@ -21,6 +22,7 @@ said_in s =
       half = from_be_bytes w32 (take 4 (drop 60 s));
       blocks = from_be_bytes w32 (take 4 (drop 64 s));
       check = from_be_bytes w32 (take 4 (drop 68 s));
+      identity = from_be_bytes w128 (take 16 (drop 72 s));
     }
 
 pub said_is : (sectors : ℕ) (slot : Slot) (tail : List ℕ) → IsSlotOf sectors slot tail → said_in (slot_sector slot tail 0) ≡ slot
@@ -34,6 +36,7 @@ said_is sectors slot tail of = λ i. record {
   half = from_be_bytes-to_be_bytes_4 slot.half (omega (arith, of.half_fits)) i;
   blocks = from_be_bytes-to_be_bytes_4 slot.blocks of.blocks_fit i;
   check = from_be_bytes-to_be_bytes_4 slot.check of.check_fits i;
+  identity = from_be_bytes-to_be_bytes_16 slot.identity of.identity_fits i;
 }
 
 -- what stands before the piece
@@ -46,17 +49,17 @@ unfolding slot_sector
 sector_byte slot tail k r lt = get_or-append-add (front_of slot tail k) (piece_of k (content_of slot tail)) r 0 ∙ piece_byte k (content_of slot tail) r lt
 
 -- byte i of the tail is in the sector that its place names
-pub tail_byte : (slot : Slot) (tail : List ℕ) (image : Image) (i : ℕ) → IsHeld slot tail 0 image → i < length tail → get_or (get_or image ((44 + i) / 484) []) (28 + (44 + i) % 484) 0 ≡ get_or tail i 0
+pub tail_byte : (slot : Slot) (tail : List ℕ) (image : Image) (i : ℕ) → IsHeld slot tail 0 image → i < length tail → get_or (get_or image ((60 + i) / 484) []) (28 + (60 + i) % 484) 0 ≡ get_or tail i 0
 tail_byte slot tail image i held lt =
-    let k = (44 + i) / 484 in
-    let r = (44 + i) % 484 in
+    let k = (60 + i) / 484 in
+    let r = (60 + i) % 484 in
     let first : k ≡ 0 + k = omega arith in
-    let place : 484 * k + r ≡ 44 + i = omega arith in
+    let place : 484 * k + r ≡ 60 + i = omega arith in
     ap (λ (s : List ℕ). get_or s (28 + r) 0) (ap (λ (n : ℕ). get_or image n []) first ∙ held k (omega (arith, lt)))
     ∙ sector_byte slot tail k r (omega arith) ∙ ap (λ (n : ℕ). get_or (content_of slot tail) n 0) place ∙ get_or-append-add (numbers_in slot) tail i 0
 
 -- so it is read
-pub tail_read : (slot : Slot) (was tail : List ℕ) (image : Image) → length tail ≡ length was → ((i : ℕ) → i < length tail → get_or tail i 0 ≡ get_or (get_or image ((44 + i) / 484) []) (28 + (44 + i) % 484) 0) → IsHeld slot was 0 image → tail ≡ was
+pub tail_read : (slot : Slot) (was tail : List ℕ) (image : Image) → length tail ≡ length was → ((i : ℕ) → i < length tail → get_or tail i 0 ≡ get_or (get_or image ((60 + i) / 484) []) (28 + (60 + i) % 484) 0) → IsHeld slot was 0 image → tail ≡ was
 tail_read slot was tail image size each held = ext_get_or 0 tail was size (λ i lt. each i lt ∙ tail_byte slot was image i held (omega (arith, lt, size)))
 
 -- the first sector tells the commit

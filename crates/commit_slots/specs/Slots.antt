@@ -1,6 +1,6 @@
 -- A commit in a slot: its numbers and the last committed bytes, over up to 32 sectors. All numbers are big-endian.
 use Rattle.std.specs.Prelude.{◌≡◌, ◌⊎◌, ℕ, ◌+◌, ◌-◌, ◌*◌, ◌/◌, ◌%◌, ◌<◌, ◌≤◌, ◌^◌, List, [], ◌++◌, length, take, drop, replicate, slice_index_or}
-use Rattle.std.specs.Int.{w32, w64, to_be_bytes}
+use Rattle.std.specs.Int.{w32, w64, w128, to_be_bytes}
 use Rattle.commit_slots.specs.Sealed.{sealed, rest_of}
 use Rattle.commit_slots.specs.declared.slot.Slot.{Slot}
 
@@ -8,11 +8,11 @@ use Rattle.commit_slots.specs.declared.slot.Slot.{Slot}
 abbrev pub Image : Type 0
 Image = List (List ℕ)
 
--- its numbers, 44 bytes
+-- its numbers, 60 bytes
 abbrev pub numbers_in : Slot → List ℕ
 numbers_in slot =
     to_be_bytes w64 slot.length ++ to_be_bytes w64 slot.seq ++ to_be_bytes w64 slot.opens ++ to_be_bytes w64 slot.sectors
-    ++ to_be_bytes w32 slot.half ++ to_be_bytes w32 slot.blocks ++ to_be_bytes w32 slot.check
+    ++ to_be_bytes w32 slot.half ++ to_be_bytes w32 slot.blocks ++ to_be_bytes w32 slot.check ++ to_be_bytes w128 slot.identity
 
 -- the content of a slot: the numbers, and the tail of the committed bytes
 abbrev pub content_of : Slot → List ℕ → List ℕ
@@ -20,7 +20,7 @@ content_of slot tail = numbers_in slot ++ tail
 
 -- its sectors
 abbrev pub count_of : ℕ → ℕ
-count_of tail = (44 + tail + 483) / 484
+count_of tail = (60 + tail + 483) / 484
 
 -- the piece in sector k, with zeros after its end
 abbrev pub piece_of : ℕ → List ℕ → List ℕ
@@ -59,12 +59,13 @@ pub record IsSlotOf (sectors : ℕ) (slot : Slot) (tail : List ℕ) : Type 0 whe
   pub half_fits : slot.half ≤ 1
   pub length_is : slot.length ≡ 4096 * slot.blocks + length tail
   pub length_fits : slot.length ≤ slots_capacity sectors
-  pub tail_fits : length tail ≤ 15444
+  pub tail_fits : length tail ≤ 15428
   pub number_fits : slot.number < 2 ^ 64
   pub seq_fits : slot.seq < 2 ^ 64
   pub opens_fits : slot.opens < 2 ^ 64
   pub blocks_fit : slot.blocks < 2 ^ 32
   pub check_fits : slot.check < 2 ^ 32
+  pub identity_fits : slot.identity < 2 ^ 128
 
 -- a copy of a commit that is valid
 pub record IsCopy (slot : Slot) (tail : List ℕ) (copy : ℕ) (image : Image) : Type 0 where

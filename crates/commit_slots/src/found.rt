@@ -1,6 +1,6 @@
 //! The commit that a slot holds, read from its sectors.
 ghost use Rattle.std.specs.Prelude.{◌≡◌, ◌≤◌, ◌*◌, ◌+◌, ◌-◌, ◌^◌, ◌↔◌, List, ℕ, take, drop, IfOk, IfSome, IfNone, MatchOption, IsTrue, length};
-ghost use Rattle.std.specs.Int.{w32, w64, from_be_bytes};
+ghost use Rattle.std.specs.Int.{w32, w64, w128, from_be_bytes};
 ghost use Rattle.commit_slots.specs.Slots.{IsHeld, IsSlotOf, count_of, slot_sector, slots_capacity};
 ghost use Rattle.commit_slots.specs.declared.slot.Slot.{Slot};
 
@@ -55,6 +55,7 @@ fn said_in(first: &[u8; 512]) -> Slot
         half: u32_at(first, 60),
         blocks: u32_at(first, 64),
         check: u32_at(first, 68),
+        identity: u128_at(first, 72),
     }
 }
 
@@ -104,7 +105,7 @@ fn tail_in(alloc: Global, slot: &[[u8; 512]], bytes: usize) -> Result<Vec<u8>, A
 
 // The byte of sector k at which the tail begins or goes on: after the numbers, which are in sector 0 alone.
 fn piece_start(k: usize) -> usize
-    ensures { result ≡ 28 + (44 - 484 * k) }
+    ensures { result ≡ 28 + (60 - 484 * k) }
 {
     if k == 0 { 28 + NUMBERS } else { 28 }
 }
@@ -139,6 +140,15 @@ fn u64_at(sector: &[u8; 512], at: usize) -> u64
     ])
 }
 
+fn u128_at(sector: &[u8; 512], at: usize) -> u128
+    requires { at + 16 ≤ 512 }
+    ensures { result ≡ from_be_bytes w128 (take 16 (drop at sector.now)) }
+{
+    let mut bytes = [0; 16];
+    bytes.copy_from_slice(&sector[at..at + 16]);
+    u128::from_be_bytes(bytes)
+}
+
 fn u32_at(sector: &[u8; 512], at: usize) -> u32
     requires { at + 4 ≤ 512 }
     ensures { result ≡ from_be_bytes w32 (take 4 (drop at sector.now)) }
@@ -160,6 +170,7 @@ mod tests {
         half: 1,
         blocks: 2,
         check: 77,
+        identity: 0x0123_4567_89ab_cdef_fedc_ba98_7654_3210,
     };
 
     // A slot of three sectors, with the checksums that another program gives them: it counts whole or not at all.
@@ -171,9 +182,9 @@ mod tests {
         for k in 0..3 {
             all[k as usize] = slot_sector(&ONE, &tail, k);
         }
-        assert!(rt; begins(&all[0], 12, b"\x5c\x74\x0c\x6d"));
+        assert!(rt; begins(&all[0], 12, b"\x61\x9e\x49\xe4"));
         assert!(rt; begins(&all[1], 12, b"\x30\x89\x2f\xb8"));
-        assert!(rt; begins(&all[2], 12, b"\xd5\x31\x89\x4c"));
+        assert!(rt; begins(&all[2], 12, b"\x6d\x25\xdd\x81"));
         let found = slot_in(alloc, &all, 2048).expect(&rt, "room");
         let (one, tail) = found.expect(&rt, "a commit");
         assert!(rt; one == ONE && tail.len() == 1000 && tail[999] == 9);

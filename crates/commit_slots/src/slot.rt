@@ -19,4 +19,6 @@ pub struct Slot {
     pub blocks: u32,
     /// The checksum of these.
     pub check: u32,
+    /// The identity of the store, which each of its commits has.
+    pub identity: u128,
 }

@@ -6,10 +6,10 @@ use crate::sealed::{PIECE_BYTES, seal};
 use crate::slot::Slot;
 
 /// The most bytes of a tail.
-pub const SLOT_BYTES: usize = 15_444;
+pub const SLOT_BYTES: usize = 15_428;
 
 /// The bytes of the numbers in front of it.
-pub const NUMBERS: usize = 44;
+pub const NUMBERS: usize = 60;
 
 /// The sectors of a slot with a tail of `tail` bytes.
 pub fn sectors_of_tail(tail: usize) -> usize
@@ -30,7 +30,7 @@ pub fn slot_sector(slot: &Slot, tail: &[u8], k: u32) -> [u8; 512]
 }
 
 // The piece `k` of these bytes, with zeros after their end.
-fn piece_at(front: &[u8; 44], bytes: &[u8], k: usize) -> [u8; 484]
+fn piece_at(front: &[u8; 60], bytes: &[u8], k: usize) -> [u8; 484]
     requires fits { length bytes.now ≤ SLOT_BYTES }
     requires place { k < 32 }
     ensures { result ≡ piece_of k (front.now ++ bytes.now) }
@@ -47,11 +47,11 @@ fn piece_at(front: &[u8; 44], bytes: &[u8], k: usize) -> [u8; 484]
     piece
 }
 
-// The numbers of a slot: the first 44 bytes of its content.
-fn numbers_of(slot: &Slot) -> [u8; 44]
+// The numbers of a slot: the first 60 bytes of its content.
+fn numbers_of(slot: &Slot) -> [u8; 60]
     ensures { result ≡ numbers_in slot.now }
 {
-    let mut numbers = [0; 44];
+    let mut numbers = [0; 60];
     put_number(&mut numbers, 0, &slot.length.to_be_bytes());
     put_number(&mut numbers, 8, &slot.seq.to_be_bytes());
     put_number(&mut numbers, 16, &slot.opens.to_be_bytes());
@@ -59,11 +59,12 @@ fn numbers_of(slot: &Slot) -> [u8; 44]
     put_number(&mut numbers, 32, &slot.half.to_be_bytes());
     put_number(&mut numbers, 36, &slot.blocks.to_be_bytes());
     put_number(&mut numbers, 40, &slot.check.to_be_bytes());
+    put_number(&mut numbers, 44, &slot.identity.to_be_bytes());
     numbers
 }
 
-fn put_number(numbers: &mut [u8; 44], at: usize, bytes: &[u8])
-    requires { at + length bytes.now ≤ 44 }
+fn put_number(numbers: &mut [u8; 60], at: usize, bytes: &[u8])
+    requires { at + length bytes.now ≤ 60 }
     ensures { numbers.new ≡ take at numbers.old ++ bytes.now ++ drop (at + length bytes.now) numbers.old }
 {
     numbers[at..at + bytes.len()].copy_from_slice(bytes);
@@ -96,10 +97,11 @@ mod tests {
             half: 0,
             blocks: 0,
             check: 0,
+            identity: 0x0123_4567_89ab_cdef_fedc_ba98_7654_3210,
         };
         let sector = slot_sector(&slot, tail, 0);
-        let head = b"JPSTORE1\0\0\0\x03\x72\x27\x97\x87\0\0\0\0\0\0\0\x02\0\0\0\0";
-        assert!(rt; begins(&sector, 0, head) && begins(&sector, 72, tail));
+        let head = b"JPSTORE1\0\0\0\x03\x90\x49\x56\x4e\0\0\0\0\0\0\0\x02\0\0\0\0";
+        assert!(rt; begins(&sector, 0, head) && begins(&sector, 88, tail));
         assert!(rt; is_sealed(&sector) && number_of(&sector) == 2);
     }
 }

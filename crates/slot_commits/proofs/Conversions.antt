@@ -108,6 +108,7 @@ next_of sectors slot tail of fits = record {
   number_fits = fits;
   seq_fits = of.seq_fits;
   opens_fits = of.opens_fits;
+  identity_fits = of.identity_fits;
   blocks_fit = of.blocks_fit;
   check_fits = of.check_fits;
 }

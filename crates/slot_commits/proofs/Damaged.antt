@@ -101,12 +101,13 @@ module _ (number : ℕ) (c : State) (before image : Image) (stands : Stands numb
       let half_same : d.half ≡ c.half = ap (λ (s : Slot). s.half) same.0 in
       let seq_same : d.seq ≡ c.seq = ap (λ (s : Slot). s.seq) same.0 in
       let opens_same : d.opens ≡ c.opens = ap (λ (s : Slot). s.opens) same.0 in
+      let identity_same : d.identity ≡ c.identity = ap (λ (s : Slot). s.identity) same.0 in
       let blocks_same : d.blocks ≡ c.blocks = ap (λ (s : Slot). s.blocks) same.0 in
       let length_same : length d.bytes ≡ length c.bytes = ap (λ (s : Slot). s.length) same.0 in
       let fronts = told (blocks_of d.blocks d.bytes) (omega (arith, length-take (4096 * d.blocks) d.bytes, length-take (4096 * c.blocks) c.bytes, blocks_same, length_same))
       (subst (λ (h : ℕ). Begins image (block_start n h) (blocks_of d.blocks d.bytes)) half_same carries.begins) (ap (λ (s : Slot). s.check) same.0) in
       let bytes_same : d.bytes ≡ c.bytes = sym (take-append-drop (4096 * d.blocks) d.bytes) ∙ (λ i. fronts i ++ same.1 i) ∙ take-append-drop (4096 * c.blocks) c.bytes in
-      λ i. record { half = half_same i; bytes = bytes_same i; seq = seq_same i; opens = opens_same i; blocks = blocks_same i }
+      λ i. record { half = half_same i; bytes = bytes_same i; seq = seq_same i; opens = opens_same i; blocks = blocks_same i; identity = identity_same i }
 
   -- one block is damaged: a copy is held
   apart : (block copy : ℕ) → IsOneBlock block before image → copy ≤ 1 → block / 4 ≢ slot_start number copy / 32 → HoldsCopy number c copy image

@@ -59,6 +59,7 @@ carries_one image c d first second =
     let half_is : c.half ≡ d.half = ap (λ (s : Slot). s.half) same.0 in
     let seq_is : c.seq ≡ d.seq = ap (λ (s : Slot). s.seq) same.0 in
     let opens_is : c.opens ≡ d.opens = ap (λ (s : Slot). s.opens) same.0 in
+    let identity_is : c.identity ≡ d.identity = ap (λ (s : Slot). s.identity) same.0 in
     let blocks_is : c.blocks ≡ d.blocks = ap (λ (s : Slot). s.blocks) same.0 in
     let length_is : length c.bytes ≡ length d.bytes = ap (λ (s : Slot). s.length) same.0 in
     let long_c = length-take (4096 * c.blocks) c.bytes in
@@ -67,10 +68,10 @@ carries_one image c d first second =
     = ext_get_or 0 (blocks_of c.blocks c.bytes) (blocks_of d.blocks d.bytes) (omega (arith, long_c, long_d, blocks_is, length_is))
     (λ i lt. sym (first.begins i lt) ∙ ap (λ (h : ℕ). byte_at image (block_start n h) i) half_is ∙ second.begins i (omega (arith, lt, long_c, long_d, blocks_is, length_is))) in
     let bytes_is : c.bytes ≡ d.bytes = sym (take-append-drop (4096 * c.blocks) c.bytes) ∙ (λ i. fronts i ++ same.1 i) ∙ take-append-drop (4096 * d.blocks) d.bytes in
-    λ i. record { half = half_is i; bytes = bytes_is i; seq = seq_is i; opens = opens_is i; blocks = blocks_is i }
+    λ i. record { half = half_is i; bytes = bytes_is i; seq = seq_is i; opens = opens_is i; blocks = blocks_is i; identity = identity_is i }
 
 -- a copy that is written leaves all behind the slots
-module _ (torn : Option (List ℕ → Bool)) (slot : Slot) (tail : List ℕ) (copy : ℕ) (mid image : Image) (low : copy ≤ 1) (fits : length tail ≤ 15444) (over : SlotOver torn slot tail copy mid image) where
+module _ (torn : Option (List ℕ → Bool)) (slot : Slot) (tail : List ℕ) (copy : ℕ) (mid image : Image) (low : copy ≤ 1) (fits : length tail ≤ 15428) (over : SlotOver torn slot tail copy mid image) where
   pub behind_slots : (k : ℕ) → 128 ≤ k → get_or image k [] ≡ get_or mid k []
   behind_slots k past = elim (over.each k) [
     | inl same ↦ same

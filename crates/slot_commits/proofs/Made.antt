@@ -131,6 +131,7 @@ module _ (torn : Option (List ℕ → Bool)) (told : IsToldBy torn) (slot : Slot
         number_fits = omega (arith, low);
         seq_fits = of.seq_fits;
         opens_fits = of.opens_fits;
+        identity_fits = of.identity_fits;
         blocks_fit = of.blocks_fit;
         check_fits = of.check_fits;
       }

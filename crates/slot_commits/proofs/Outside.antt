@@ -17,7 +17,7 @@ use Rattle.slot_commits.proofs.Renewed.{may_more}
 pub outside_more : (first count : ℕ) (before mid image : Image) → KeepsOutside first count before mid → KeepsOutside first count mid image → KeepsOutside first count before image
 outside_more first count before mid image one two = record { size = two.size ∙ one.size; same = λ k apart. two.same k apart ∙ one.same k apart }
 
-pub slot_outside : (torn : Option (List ℕ → Bool)) (slot : Slot) (tail : List ℕ) (copy : ℕ) (mid image : Image) → copy ≤ 1 → length tail ≤ 15444 → SlotOver torn slot tail copy mid image → KeepsOutside (64 * (slot.number % 2)) 64 mid image
+pub slot_outside : (torn : Option (List ℕ → Bool)) (slot : Slot) (tail : List ℕ) (copy : ℕ) (mid image : Image) → copy ≤ 1 → length tail ≤ 15428 → SlotOver torn slot tail copy mid image → KeepsOutside (64 * (slot.number % 2)) 64 mid image
 slot_outside torn slot tail copy mid image low fits over = record {
   size = over.size;
   same = λ k apart. elim (over.each k) [
@@ -36,7 +36,7 @@ slot_outside torn slot tail copy mid image low fits over = record {
     near k (inr above) is = omega (arith, above, is, low)
 
 -- the calls of a pair
-module _ (torn : Option (List ℕ → Bool)) (old : Disk) (slot : Slot) (tail : List ℕ) (fits : length tail ≤ 15444) where
+module _ (torn : Option (List ℕ → Bool)) (old : Disk) (slot : Slot) (tail : List ℕ) (fits : length tail ≤ 15428) where
   abbrev O : Disk
   O = tearing_by torn old
 

@@ -53,7 +53,7 @@ starts_apart number next copy first false low other own zeroth mate same =
 module _ (image : Image) (slot : Slot) (tail bytes : List ℕ) (copy : ℕ) (counts : Counts slot tail copy image) (size : length bytes ≡ slot.length) (last : drop (4096 * slot.blocks) bytes ≡ tail) (check : crc_of (take (4096 * slot.blocks) bytes) ≡ slot.check)
     (begins : Begins image (block_start (length image) slot.half) (take (4096 * slot.blocks) bytes)) where
   slot_is : slot ≡ slot_of (state_in slot bytes) (length image) slot.number
-  slot_is i = record { number = slot.number; length = sym size i; seq = slot.seq; opens = slot.opens; sectors = counts.valid.of.sectors_is i; half = slot.half; blocks = slot.blocks; check = sym check i }
+  slot_is i = record { number = slot.number; length = sym size i; seq = slot.seq; opens = slot.opens; sectors = counts.valid.of.sectors_is i; half = slot.half; blocks = slot.blocks; check = sym check i; identity = slot.identity }
 
   pub recovered_carries : CarriesInSlots (state_in slot bytes) image
   recovered_carries = record {

@@ -22,13 +22,13 @@ module _ (slots : List (List ℕ)) (image : Image) (size : length slots ≡ 128)
   same : (k : ℕ) → k < 128 → get_or image k [] ≡ get_or slots k []
   same k lt = begins k (omega (arith, lt, size))
 
-  held_there : (slot : Slot) (tail : List ℕ) (start : ℕ) → length tail ≤ 15444 → start ≤ 96 → IsHeld slot tail start slots → IsHeld slot tail start image
+  held_there : (slot : Slot) (tail : List ℕ) (start : ℕ) → length tail ≤ 15428 → start ≤ 96 → IsHeld slot tail start slots → IsHeld slot tail start image
   held_there slot tail start fits low held k lt = same (start + k) (omega (arith, lt, fits, low)) ∙ held k lt
 
-  held_back : (slot : Slot) (tail : List ℕ) (start : ℕ) → length tail ≤ 15444 → start ≤ 96 → IsHeld slot tail start image → IsHeld slot tail start slots
+  held_back : (slot : Slot) (tail : List ℕ) (start : ℕ) → length tail ≤ 15428 → start ≤ 96 → IsHeld slot tail start image → IsHeld slot tail start slots
   held_back slot tail start fits low held k lt = sym (same (start + k) (omega (arith, lt, fits, low))) ∙ held k lt
 
-  pub both_there : (slot : Slot) (tail : List ℕ) (both : Bool) → length tail ≤ 15444 → IsTrue both ↔ HasBoth slot tail slots → IsTrue both ↔ HasBoth slot tail image
+  pub both_there : (slot : Slot) (tail : List ℕ) (both : Bool) → length tail ≤ 15428 → IsTrue both ↔ HasBoth slot tail slots → IsTrue both ↔ HasBoth slot tail image
   both_there slot tail both fits told = (
     λ yes. let has = told.0 yes in (held_there slot tail (slot_start slot.number 0) fits (omega arith) has.0, held_there slot tail (slot_start slot.number 1) fits (omega arith) has.1),
     λ has. told.1 (held_back slot tail (slot_start slot.number 0) fits (omega arith) has.0, held_back slot tail (slot_start slot.number 1) fits (omega arith) has.1),

@@ -9,9 +9,9 @@ use Rattle.commit_slots.specs.declared.slot.Slot.{Slot}
 use Rattle.slot_commits.specs.States.{CarriesInSlots, Stands, State, slot_of, tail_of}
 use Rattle.slot_commits.specs.Tears.{IsTornBy, tearing_by}
 
--- what a device carries that was formatted with these bytes and numbers: in half 0, all whole blocks of them
-abbrev pub formatted : List ℕ → ℕ → ℕ → State
-formatted bytes seq opens = record { half = 0; bytes = bytes; seq = seq; opens = opens; blocks = length bytes / 4096 }
+-- what a device carries that was formatted with these bytes and numbers, and this identity: in half 0, all whole blocks of them
+abbrev pub formatted : List ℕ → ℕ → ℕ → ℕ → State
+formatted bytes seq opens identity = record { half = 0; bytes = bytes; seq = seq; opens = opens; blocks = length bytes / 4096; identity = identity }
 
 -- sector 0 is no sector of another format: it doesn't begin as a store's, or as a slot, or is torn
 abbrev pub IsOfSlots : Option (List ℕ → Bool) → Image → Type 0

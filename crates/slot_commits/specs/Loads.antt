@@ -25,7 +25,7 @@ HasNumbers image = IsFresh number_end image
 
 -- what a slot says, with all committed bytes
 abbrev pub state_in : Slot → List ℕ → State
-state_in slot bytes = record { half = slot.half; bytes = bytes; seq = slot.seq; opens = slot.opens; blocks = slot.blocks }
+state_in slot bytes = record { half = slot.half; bytes = bytes; seq = slot.seq; opens = slot.opens; blocks = slot.blocks; identity = slot.identity }
 
 -- The image carries c, and waits for an opening's commit under this number: the number is fresh, and the copy that counts isn't at the place of its copy `first`.
 pub record Awaits (number first : ℕ) (c : State) (image : Image) : Type 0 where

@@ -14,6 +14,8 @@ pub record State : Type 0 where
   pub seq : ℕ
   pub opens : ℕ
   pub blocks : ℕ
+  -- the identity of the store
+  pub identity : ℕ
 
 -- the first `count` blocks of bytes
 abbrev pub blocks_of : ℕ → List ℕ → List ℕ
@@ -31,6 +33,7 @@ slot_of c sectors number =
       half = c.half;
       blocks = c.blocks;
       check = crc_of (blocks_of c.blocks c.bytes);
+      identity = c.identity;
     }
 
 -- the bytes that the slot holds itself

@@ -13,7 +13,7 @@ use commit_slots::{BLOCK_BYTES, Slot};
 use sector_device::{DeviceFault, SectorDevice, write_run};
 
 /// Makes a device that carries these bytes in another format, by sector 0 and by sectors after the blocks written here,
-/// one that carries them in slots: the whole blocks of the bytes, into half 0, both copies of a commit under this odd
+/// one that carries them in slots, with this identity: the whole blocks of the bytes, into half 0, both copies of a commit under this odd
 /// number, and a sync; then both copies under the next number, of which the first is over sector 0, and a sync. So before
 /// sector 0 is written the slots carry all. `Err`: one of these failed, and none was made after it.
 pub fn convert<D: SectorDevice>(
@@ -21,6 +21,7 @@ pub fn convert<D: SectorDevice>(
     bytes: &[u8],
     seq: u64,
     opens: u64,
+    identity: u128,
     number: u64,
 ) -> Result<(), DeviceFault>
     requires room { 128 ≤ (D.disk device.old).sectors }
@@ -31,7 +32,7 @@ pub fn convert<D: SectorDevice>(
     ensures same { IsSame (D.disk device.old) (D.disk device.new) }
     ensures charges { Charges (D.disk device.old) (D.disk device.new) (convert_calls (length bytes.now)) result }
     ensures converted { (torn : Option (List ℕ → Bool)) → CanConvert torn (D.disk device.old) number
-        → Converted torn (D.disk device.old) (D.disk device.new) number (formatted bytes.now seq opens) result }
+        → Converted torn (D.disk device.old) (D.disk device.new) number (formatted bytes.now seq opens identity) result }
     ensures sector_0 { (torn : Option (List ℕ → Bool)) → (D.disk device.old).honest → LeavesFirst torn (D.disk device.old) (D.disk device.new) }
 {
     let blocks = bytes.len() as u64 / BLOCK_BYTES;
@@ -45,6 +46,7 @@ pub fn convert<D: SectorDevice>(
         half: 0,
         blocks: blocks as u32,
         check: crc32c(&bytes[..whole]),
+        identity,
     };
     write_pairs(device, &slot, &bytes[whole..], bytes)
 }

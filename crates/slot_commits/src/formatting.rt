@@ -13,13 +13,14 @@ use commit_slots::{BLOCK_BYTES, SLOT_BYTES, Slot, sectors_of_tail, slot_sector};
 use sector_device::{DeviceFault, SectorDevice, write_run};
 
 /// Makes a device that doesn't look like a store one with these bytes, which hold `seq` changes and were opened `opens`
-/// times: all sectors of the slots, but that the first of each is wiped; the whole blocks of the bytes, into half 0;
+/// times, and with this identity: all sectors of the slots, but that the first of each is wiped; the whole blocks of the bytes, into half 0;
 /// sync; the first sector of each slot; sync. `Err`: one of these failed, and none was made after it.
 pub fn format_slots<D: SectorDevice>(
     device: &mut D,
     bytes: &[u8],
     seq: u64,
     opens: u64,
+    identity: u128,
 ) -> Result<(), DeviceFault>
     requires room { 128 ≤ (D.disk device.old).sectors }
     requires most { (D.disk device.old).sectors ≤ 2 ^ 32 }
@@ -27,7 +28,7 @@ pub fn format_slots<D: SectorDevice>(
     ensures same { IsSame (D.disk device.old) (D.disk device.new) }
     ensures charges { Charges (D.disk device.old) (D.disk device.new) (format_calls (length bytes.now)) result }
     ensures formatted { (torn : Option (List ℕ → Bool)) → IsToldBy torn → (D.disk device.old).honest → ((image : Image) → (tearing_by torn (D.disk device.old)).left image → IsMarked image → ⊥)
-        → Formatted torn (D.disk device.old) (D.disk device.new) (formatted bytes.now seq opens) result }
+        → Formatted torn (D.disk device.old) (D.disk device.new) (formatted bytes.now seq opens identity) result }
 {
     let blocks = bytes.len() as u64 / BLOCK_BYTES;
     let whole = (blocks * BLOCK_BYTES) as usize;
@@ -40,6 +41,7 @@ pub fn format_slots<D: SectorDevice>(
         half: 0,
         blocks: blocks as u32,
         check: crc32c(&bytes[..whole]),
+        identity,
     };
     fill(device, &slot, &bytes[whole..], bytes)
 }

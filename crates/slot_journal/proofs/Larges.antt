@@ -79,7 +79,7 @@ other_outside known k other low first count from below = elim (cases_lt known.sl
         let beyond = start_0 known.slot.sectors (1 - known.slot.half) (omega (arith, is)) in (omega (arith, other.from, beyond), inl (omega (arith, other.below, from, there, beyond)))
 
 -- the calls
-pub calls_large : (used : ℕ) (front back : List ℕ) → used % 4096 + length front ≡ 4096 → 15444 < 4096 + length back
+pub calls_large : (used : ℕ) (front back : List ℕ) → used % 4096 + length front ≡ 4096 → 15428 < 4096 + length back
     → 8 + (length (take (length back / 4096 * 4096) back) / 512 + (1 + (2 * count_of (length (drop (length back / 4096 * 4096) back)) + 1))) ≡ append_calls used (length (front ++ back))
 calls_large used front back fills large =
     let m = length (front ++ back) in
@@ -87,7 +87,7 @@ calls_large used front back fills large =
     let rest : length (drop (length back / 4096 * 4096) back) ≡ used + length (front ++ back) - 4096 * ((used + length (front ++ back)) / 4096) = omega (arith, length-drop (length back / 4096 * 4096) back, fills, more) in
     let blocks : 8 + length (take (length back / 4096 * 4096) back) / 512 ≡ 8 * ((used + length (front ++ back)) / 4096 - used / 4096) = omega (arith, length-take (length back / 4096 * 4096) back, fills, more) in
     sums (length (take (length back / 4096 * 4096) back) / 512) (8 * ((used + length (front ++ back)) / 4096 - used / 4096)) (length (drop (length back / 4096 * 4096) back)) (used + length (front ++ back) - 4096 * ((used + length (front ++ back)) / 4096)) blocks rest
-    ∙ ap calls_by (sym (lt-leb (used % 4096 + m) 15444 (omega (arith, fills, large, more))))
+    ∙ ap calls_by (sym (lt-leb (used % 4096 + m) 15428 (omega (arith, fills, large, more))))
   where
     calls_by : Bool → ℕ
     calls_by b =
@@ -200,7 +200,7 @@ module _ (known : Known) (c : State) (knows : Knows known c) (front back : List 
         (whole_holds w one image first 8 blocks first_is (blocks_as ∙ ap (λ (n : ℕ). take n filled) fills ∙ block_is ∙ ap (drop (4096 * w)) (sym whole_mid)) count before written)
 
   -- the slot
-  module _ (adds opens check : ℕ) (large : 15444 < 4096 + length back) (check_as : check ≡ crc_of ((c.bytes ++ front) ++ take (length back / 4096 * 4096) back)) where
+  module _ (adds opens check : ℕ) (large : 15428 < 4096 + length back) (check_as : check ≡ crc_of ((c.bytes ++ front) ++ take (length back / 4096 * 4096) back)) where
     both : length front + length back ≡ length (front ++ back)
     both = sym (length-append front back)
 
@@ -211,7 +211,7 @@ module _ (known : Known) (c : State) (knows : Knows known c) (front back : List 
     named_all = named_large (length c.bytes) (length (front ++ back)) (omega (arith, large, fills_there, length-append front back)) ∙ ap (λ (n : ℕ). n / 4096) (sym (length-append c.bytes (front ++ back)))
 
     pub says_large : (sectors : ℕ) → known.slot.sectors ≡ sectors
-        → ◌≡◌ {A = Slot} (record { number = known.slot.number + 1; length = known.slot.length + (length front + length back); seq = known.slot.seq + adds; opens = opens; sectors = known.slot.sectors; half = known.slot.half; blocks = (known.slot.length + (length front + length back)) / 4096; check = check })
+        → ◌≡◌ {A = Slot} (record { number = known.slot.number + 1; length = known.slot.length + (length front + length back); seq = known.slot.seq + adds; opens = opens; sectors = known.slot.sectors; half = known.slot.half; blocks = (known.slot.length + (length front + length back)) / 4096; check = check; identity = known.slot.identity })
         (slot_of (appended c (front ++ back) adds opens) sectors (known.slot.number + 1))
     says_large sectors size = λ i. record {
       number = known.slot.number + 1;
@@ -222,6 +222,7 @@ module _ (known : Known) (c : State) (knows : Knows known c) (front back : List 
       half = half_is known c knows i;
       blocks = named_is i;
       check = (check_as ∙ ap crc_of (sym blocks_all ∙ ap (λ (n : ℕ). blocks_of n (c.bytes ++ (front ++ back))) (sym named_all))) i;
+      identity = ap (λ (s : Slot). s.identity) knows.slot_is i;
     }
 
     pub tail_large : drop (length back / 4096 * 4096) back ≡ tail_of (appended c (front ++ back) adds opens)
@@ -229,7 +230,7 @@ module _ (known : Known) (c : State) (knows : Knows known c) (front back : List 
 
     -- what is known after it
     pub knows_large : (moved : List ℕ) (next : Known) → take (length (drop (length back / 4096 * 4096) back)) moved ≡ drop (length back / 4096 * 4096) back
-        → next.slot ≡ record { number = known.slot.number + 1; length = known.slot.length + (length front + length back); seq = known.slot.seq + adds; opens = opens; sectors = known.slot.sectors; half = known.slot.half; blocks = (known.slot.length + (length front + length back)) / 4096; check = check }
+        → next.slot ≡ record { number = known.slot.number + 1; length = known.slot.length + (length front + length back); seq = known.slot.seq + adds; opens = opens; sectors = known.slot.sectors; half = known.slot.half; blocks = (known.slot.length + (length front + length back)) / 4096; check = check; identity = known.slot.identity }
         → next.check ≡ check → next.tail.items ≡ moved → Knows next (appended c (front ++ back) adds opens)
     knows_large moved next moved_as slot_as next_check next_tail = record {
       slot_is = slot_as ∙ says_large known.slot.sectors refl ∙ ap (λ (s : Slot). slot_of (appended c (front ++ back) adds opens) s.sectors s.number) (sym slot_as);
@@ -247,7 +248,7 @@ module _ (known : Known) (c : State) (knows : Knows known c) (front back : List 
       room : known.slot.length + length (front ++ back) ≤ slots_capacity disk.sectors
       room = subst (λ (n : ℕ). known.slot.length + length (front ++ back) ≤ slots_capacity n) formed.size fits
 
-      slot_fits : IsSlotOf disk.sectors (record { number = known.slot.number + 1; length = known.slot.length + (length front + length back); seq = known.slot.seq + adds; opens = opens; sectors = known.slot.sectors; half = known.slot.half; blocks = (known.slot.length + (length front + length back)) / 4096; check = check }) (drop (length back / 4096 * 4096) back)
+      slot_fits : IsSlotOf disk.sectors (record { number = known.slot.number + 1; length = known.slot.length + (length front + length back); seq = known.slot.seq + adds; opens = opens; sectors = known.slot.sectors; half = known.slot.half; blocks = (known.slot.length + (length front + length back)) / 4096; check = check; identity = known.slot.identity }) (drop (length back / 4096 * 4096) back)
       slot_fits = record {
         sectors_is = formed.size;
         sectors_fit = formed.at_most;
@@ -260,18 +261,19 @@ module _ (known : Known) (c : State) (knows : Knows known c) (front back : List 
         opens_fits = opens_fit;
         blocks_fit = omega (arith, room, formed.at_most, length-append front back);
         check_fits = check_fits;
+        identity_fits = formed.identity_fits;
       }
 
       pub can_large : (first : ℕ) (blocks tail : List ℕ) → first ≡ block_start known.slot.sectors known.slot.half + 8 * (known.slot.length / 4096) + 8 → blocks ≡ take (length back / 4096 * 4096) back
           → tail ≡ drop (length back / 4096 * 4096) back → CanCommit torn disk first blocks true
-          (record { number = known.slot.number + 1; length = known.slot.length + (length front + length back); seq = known.slot.seq + adds; opens = opens; sectors = known.slot.sectors; half = known.slot.half; blocks = (known.slot.length + (length front + length back)) / 4096; check = check })
+          (record { number = known.slot.number + 1; length = known.slot.length + (length front + length back); seq = known.slot.seq + adds; opens = opens; sectors = known.slot.sectors; half = known.slot.half; blocks = (known.slot.length + (length front + length back)) / 4096; check = check; identity = known.slot.identity })
           tail known.slot.number c (appended c (front ++ back) adds opens) (length c.bytes / 4096 + 1)
       can_large first blocks tail first_as blocks_as tail_as = record {
         told = told;
         honest = honest;
         names = says_large disk.sectors formed.size;
         tail_is = tail_as ∙ tail_large;
-        of = subst (IsSlotOf disk.sectors (record { number = known.slot.number + 1; length = known.slot.length + (length front + length back); seq = known.slot.seq + adds; opens = opens; sectors = known.slot.sectors; half = known.slot.half; blocks = (known.slot.length + (length front + length back)) / 4096; check = check })) (sym tail_as) slot_fits;
+        of = subst (IsSlotOf disk.sectors (record { number = known.slot.number + 1; length = known.slot.length + (length front + length back); seq = known.slot.seq + adds; opens = opens; sectors = known.slot.sectors; half = known.slot.half; blocks = (known.slot.length + (length front + length back)) / 4096; check = check; identity = known.slot.identity })) (sym tail_as) slot_fits;
         stands = stands;
         read = read;
         held = λ settles. absurd (cc settles);

@@ -23,6 +23,7 @@ module _ (known : Known) (c : State) (knows : KnowsFound known c) (number opens 
     half = (knows.slot_is i).half;
     blocks = (knows.slot_is i).blocks;
     check = (knows.slot_is i).check;
+    identity = (knows.slot_is i).identity;
   }
 
   pub can_renew : (torn : Option (List ℕ → Bool)) (disk : Disk) (tail : List ℕ) (first : ℕ) → IsToldBy torn → disk.honest → IsFormed disk.sectors known → tail ≡ take (known.slot.length - 4096 * known.slot.blocks) known.tail.items

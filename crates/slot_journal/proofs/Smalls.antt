@@ -18,11 +18,11 @@ use Rattle.slot_journal.specs.Known.{IsFormed, Knows}
 use Rattle.slot_journal.specs.declared.known.Known.{Known}
 use Rattle.slot_journal.proofs.Bytes.{blocks_more, blocks_same, filled_is, rest_is, whole_is}
 
-pub named_small : (used more : ℕ) → used % 4096 + more ≤ 15444 → named_after used more ≡ used / 4096
-named_small used more small = ap (λ (b : Bool). if b then used / 4096 else (used + more) / 4096) (le-leb (used % 4096 + more) 15444 small)
+pub named_small : (used more : ℕ) → used % 4096 + more ≤ 15428 → named_after used more ≡ used / 4096
+named_small used more small = ap (λ (b : Bool). if b then used / 4096 else (used + more) / 4096) (le-leb (used % 4096 + more) 15428 small)
 
-pub named_large : (used more : ℕ) → 15444 < used % 4096 + more → named_after used more ≡ (used + more) / 4096
-named_large used more large = ap (λ (b : Bool). if b then used / 4096 else (used + more) / 4096) (lt-leb (used % 4096 + more) 15444 large)
+pub named_large : (used more : ℕ) → 15428 < used % 4096 + more → named_after used more ≡ (used + more) / 4096
+named_large used more large = ap (λ (b : Bool). if b then used / 4096 else (used + more) / 4096) (lt-leb (used % 4096 + more) 15428 large)
 
 -- a commit that failed
 pub put_failed : {T E : Type 0} (torn : Option (List ℕ → Bool)) (old new_disk : Disk) (number : ℕ) (c new : State) (one other : Result T E) → IsErr other → Put torn old new_disk number c new one → Put torn old new_disk number c new other
@@ -66,15 +66,15 @@ module _ (known : Known) (c : State) (knows : Knows known c) where
       front : take (known.slot.length % 4096) filled ≡ take (known.slot.length % 4096) known.tail.items
       front = sym (take-take rest (rest + length more) filled (omega arith)) ∙ ap (take rest) put ∙ take_at (take rest known.tail.items) more rest (length-take-le rest known.tail.items long)
 
-  module _ (more : List ℕ) (adds opens : ℕ) (small : known.slot.length % 4096 + length more ≤ 15444) where
+  module _ (more : List ℕ) (adds opens : ℕ) (small : known.slot.length % 4096 + length more ≤ 15428) where
     named_is : known.slot.length / 4096 ≡ named_after (length c.bytes) (length more)
-    named_is = ap (λ (n : ℕ). n / 4096) length_is ∙ sym (named_small (length c.bytes) (length more) (subst (λ (n : ℕ). n % 4096 + length more ≤ 15444) length_is small))
+    named_is = ap (λ (n : ℕ). n / 4096) length_is ∙ sym (named_small (length c.bytes) (length more) (subst (λ (n : ℕ). n % 4096 + length more ≤ 15428) length_is small))
 
     few : 4096 * (length c.bytes / 4096) ≤ length c.bytes
     few = omega arith
 
     pub says_small : (sectors : ℕ) → known.slot.sectors ≡ sectors
-        → ◌≡◌ {A = Slot} (record { number = known.slot.number + 1; length = known.slot.length + length more; seq = known.slot.seq + adds; opens = opens; sectors = known.slot.sectors; half = known.slot.half; blocks = known.slot.length / 4096; check = known.check })
+        → ◌≡◌ {A = Slot} (record { number = known.slot.number + 1; length = known.slot.length + length more; seq = known.slot.seq + adds; opens = opens; sectors = known.slot.sectors; half = known.slot.half; blocks = known.slot.length / 4096; check = known.check; identity = known.slot.identity })
         (slot_of (appended c more adds opens) sectors (known.slot.number + 1))
     says_small sectors size = λ i. record {
       number = known.slot.number + 1;
@@ -86,6 +86,7 @@ module _ (known : Known) (c : State) (knows : Knows known c) where
       blocks = named_is i;
       check = (knows.check_is
           ∙ ap crc_of (sym (blocks_same c.bytes more (length c.bytes / 4096) few) ∙ ap (λ (n : ℕ). blocks_of n (c.bytes ++ more)) (ap (λ (n : ℕ). n / 4096) (sym length_is) ∙ named_is))) i;
+      identity = ap (λ (s : Slot). s.identity) knows.slot_is i;
     }
 
     -- the buffer, once it has these bytes too
@@ -106,7 +107,7 @@ module _ (known : Known) (c : State) (knows : Knows known c) where
         -- what is known after it
         pub knows_small : (check : ℕ) (moved : List ℕ) (next : Known) → check ≡ crc_of (blocks_of (length c.bytes / 4096) c.bytes ++ take whole filled)
             → take (known.slot.length % 4096 + length more - whole) moved ≡ drop whole (take (known.slot.length % 4096 + length more) filled)
-            → next.slot ≡ record { number = known.slot.number + 1; length = known.slot.length + length more; seq = known.slot.seq + adds; opens = opens; sectors = known.slot.sectors; half = known.slot.half; blocks = known.slot.length / 4096; check = known.check }
+            → next.slot ≡ record { number = known.slot.number + 1; length = known.slot.length + length more; seq = known.slot.seq + adds; opens = opens; sectors = known.slot.sectors; half = known.slot.half; blocks = known.slot.length / 4096; check = known.check; identity = known.slot.identity }
             → next.check ≡ check → next.tail.items ≡ moved → Knows next (appended c more adds opens)
         knows_small check moved next check_as moved_as slot_as next_check next_tail = record {
           slot_is = slot_as ∙ says_small known.slot.sectors refl ∙ ap (λ (s : Slot). slot_of (appended c more adds opens) s.sectors s.number) (sym slot_as);
@@ -118,14 +119,14 @@ module _ (known : Known) (c : State) (knows : Knows known c) where
 
         module _ (torn : Option (List ℕ → Bool)) (disk : Disk) (told : IsToldBy torn) (honest : disk.honest) (coherent : IsCoherent (tearing_by torn disk)) (formed : IsFormed disk.sectors known)
             (fits : known.slot.length + length more ≤ slots_capacity known.slot.sectors) (seq_fits : known.slot.seq + adds < 2 ^ 64) (number_fits : known.slot.number + 1 < 2 ^ 64) (opens_fit : opens < 2 ^ 64)
-            (long : length filled ≡ 15444) (stands : (image : Image) → (tearing_by torn disk).left image → Stands known.slot.number c image) where
+            (long : length filled ≡ 15428) (stands : (image : Image) → (tearing_by torn disk).left image → Stands known.slot.number c image) where
           tail_long : length (take (known.slot.length % 4096 + length more) filled) ≡ known.slot.length % 4096 + length more
           tail_long = length-take-le (known.slot.length % 4096 + length more) filled (omega (arith, small, long))
 
           room : known.slot.length + length more ≤ slots_capacity disk.sectors
           room = subst (λ (n : ℕ). known.slot.length + length more ≤ slots_capacity n) formed.size fits
 
-          slot_fits : IsSlotOf disk.sectors (record { number = known.slot.number + 1; length = known.slot.length + length more; seq = known.slot.seq + adds; opens = opens; sectors = known.slot.sectors; half = known.slot.half; blocks = known.slot.length / 4096; check = known.check }) (take (known.slot.length % 4096 + length more) filled)
+          slot_fits : IsSlotOf disk.sectors (record { number = known.slot.number + 1; length = known.slot.length + length more; seq = known.slot.seq + adds; opens = opens; sectors = known.slot.sectors; half = known.slot.half; blocks = known.slot.length / 4096; check = known.check; identity = known.slot.identity }) (take (known.slot.length % 4096 + length more) filled)
           slot_fits = record {
             sectors_is = formed.size;
             sectors_fit = formed.at_most;
@@ -138,18 +139,19 @@ module _ (known : Known) (c : State) (knows : Knows known c) where
             opens_fits = opens_fit;
             blocks_fit = omega (arith, formed.used_fits, formed.at_most);
             check_fits = formed.check_fits;
+            identity_fits = formed.identity_fits;
           }
 
           pub can_small : (first : ℕ) (blocks tail : List ℕ) → first ≡ block_start known.slot.sectors known.slot.half + 8 * (known.slot.length / 4096) → blocks ≡ take whole filled
               → tail ≡ take (known.slot.length % 4096 + length more) filled → CanCommit torn disk first blocks false
-              (record { number = known.slot.number + 1; length = known.slot.length + length more; seq = known.slot.seq + adds; opens = opens; sectors = known.slot.sectors; half = known.slot.half; blocks = known.slot.length / 4096; check = known.check })
+              (record { number = known.slot.number + 1; length = known.slot.length + length more; seq = known.slot.seq + adds; opens = opens; sectors = known.slot.sectors; half = known.slot.half; blocks = known.slot.length / 4096; check = known.check; identity = known.slot.identity })
               tail known.slot.number c (appended c more adds opens) (length c.bytes / 4096)
           can_small first blocks tail first_as blocks_as tail_as = record {
             told = told;
             honest = honest;
             names = says_small disk.sectors formed.size;
             tail_is = tail_as ∙ tail_small;
-            of = subst (IsSlotOf disk.sectors (record { number = known.slot.number + 1; length = known.slot.length + length more; seq = known.slot.seq + adds; opens = opens; sectors = known.slot.sectors; half = known.slot.half; blocks = known.slot.length / 4096; check = known.check }))
+            of = subst (IsSlotOf disk.sectors (record { number = known.slot.number + 1; length = known.slot.length + length more; seq = known.slot.seq + adds; opens = opens; sectors = known.slot.sectors; half = known.slot.half; blocks = known.slot.length / 4096; check = known.check; identity = known.slot.identity }))
                 (sym tail_as) slot_fits;
             stands = stands;
             read = holds_more (length c.bytes / 4096) c more adds opens disk.seen few (stands disk.seen (subst (λ (i : Image). (tearing_by torn disk).left i) (seen_by torn disk) coherent.seen)).begins;

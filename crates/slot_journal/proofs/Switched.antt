@@ -42,7 +42,7 @@ copy_aside known c knows sectors formed first place count first_as room =
 
 module _ (known : Known) (c : State) (knows : Knows known c) (target : List ℕ) (adds : ℕ) where
   pub says_switched : (sectors check : ℕ) → known.slot.sectors ≡ sectors → check ≡ crc_of (take (4096 * (length target / 4096)) target)
-      → ◌≡◌ {A = Slot} (record { number = known.slot.number + 1; length = length target; seq = known.slot.seq + adds; opens = known.slot.opens; sectors = known.slot.sectors; half = 1 - known.slot.half; blocks = length target / 4096; check = check })
+      → ◌≡◌ {A = Slot} (record { number = known.slot.number + 1; length = length target; seq = known.slot.seq + adds; opens = known.slot.opens; sectors = known.slot.sectors; half = 1 - known.slot.half; blocks = length target / 4096; check = check; identity = known.slot.identity })
       (slot_of (switched c target adds) sectors (known.slot.number + 1))
   says_switched sectors check size check_as = λ i. record {
     number = known.slot.number + 1;
@@ -53,10 +53,11 @@ module _ (known : Known) (c : State) (knows : Knows known c) (target : List ℕ)
     half = 1 - half_is known c knows i;
     blocks = length target / 4096;
     check = check_as i;
+    identity = ap (λ (s : Slot). s.identity) knows.slot_is i;
   }
 
   pub knows_switched : (check : ℕ) (moved : List ℕ) (next : Known) → check ≡ crc_of (take (4096 * (length target / 4096)) target) → take (length target % 4096) moved ≡ drop (4096 * (length target / 4096)) target
-      → next.slot ≡ record { number = known.slot.number + 1; length = length target; seq = known.slot.seq + adds; opens = known.slot.opens; sectors = known.slot.sectors; half = 1 - known.slot.half; blocks = length target / 4096; check = check }
+      → next.slot ≡ record { number = known.slot.number + 1; length = length target; seq = known.slot.seq + adds; opens = known.slot.opens; sectors = known.slot.sectors; half = 1 - known.slot.half; blocks = length target / 4096; check = check; identity = known.slot.identity }
       → next.check ≡ check → next.tail.items ≡ moved → Knows next (switched c target adds)
   knows_switched check moved next check_as moved_as slot_as next_check next_tail = record {
     slot_is = slot_as ∙ says_switched known.slot.sectors check refl check_as ∙ ap (λ (s : Slot). slot_of (switched c target adds) s.sectors s.number) (sym slot_as);
@@ -69,7 +70,7 @@ module _ (known : Known) (c : State) (knows : Knows known c) (target : List ℕ)
       (read : HoldsBlocks (length target / 4096) (switched c target adds) disk.seen) where
     pub can_switch : (first check : ℕ) (tail : List ℕ) → check < 2 ^ 32 → check ≡ crc_of (take (4096 * (length target / 4096)) target) → first ≡ block_start known.slot.sectors (1 - known.slot.half) + 8 * (length target / 4096) → tail ≡ drop (4096 * (length target / 4096)) target
         → CanCommit torn disk first [] true
-        (record { number = known.slot.number + 1; length = length target; seq = known.slot.seq + adds; opens = known.slot.opens; sectors = known.slot.sectors; half = 1 - known.slot.half; blocks = length target / 4096; check = check })
+        (record { number = known.slot.number + 1; length = length target; seq = known.slot.seq + adds; opens = known.slot.opens; sectors = known.slot.sectors; half = 1 - known.slot.half; blocks = length target / 4096; check = check; identity = known.slot.identity })
         tail known.slot.number c (switched c target adds) (length target / 4096)
     can_switch first check tail check_fits check_as first_as tail_as = record {
       told = told;
@@ -88,6 +89,7 @@ module _ (known : Known) (c : State) (knows : Knows known c) (target : List ℕ)
         opens_fits = subst (λ (n : ℕ). n < 2 ^ 64) (sym (ap (λ (s : Slot). s.opens) knows.slot_is)) was.of.opens_fits;
         blocks_fit = omega (arith, room, formed.at_most);
         check_fits = check_fits;
+        identity_fits = formed.identity_fits;
       };
       stands = stands;
       read = read;

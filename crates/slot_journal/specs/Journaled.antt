@@ -6,7 +6,7 @@ use Rattle.slot_commits.specs.States.{State}
 
 -- more bytes after `used` ones fit the slot, with those that fill no block before them
 abbrev pub fits_slot : ℕ → ℕ → Bool
-fits_slot used more = nat_le (used % 4096 + more) 15444
+fits_slot used more = nat_le (used % 4096 + more) 15428
 
 -- how many blocks the slot names then: if they fit, none that the commit writes, so it needs no sync of them
 abbrev pub named_after : ℕ → ℕ → ℕ
@@ -14,7 +14,7 @@ named_after used more = if fits_slot used more then used / 4096 else (used + mor
 
 -- the bytes with more after them, and `adds` changes more
 abbrev pub appended : State → List ℕ → ℕ → ℕ → State
-appended c more adds opens = record { half = c.half; bytes = c.bytes ++ more; seq = c.seq + adds; opens = opens; blocks = named_after (length c.bytes) (length more) }
+appended c more adds opens = record { half = c.half; bytes = c.bytes ++ more; seq = c.seq + adds; opens = opens; blocks = named_after (length c.bytes) (length more); identity = c.identity }
 
 -- the slot that names it, but for the checksum
 abbrev pub slot_appended : Slot → ℕ → ℕ → ℕ → ℕ → Slot
@@ -28,6 +28,7 @@ slot_appended slot more adds opens check =
       half = slot.half;
       blocks = named_after slot.length more;
       check = check;
+      identity = slot.identity;
     }
 
 -- the calls: a write of each sector of the new blocks, a sync of them if the slot names them, both copies of the slot, sync
@@ -37,7 +38,7 @@ append_calls used more =
 
 -- the target in the other half, which holds all its whole blocks, and `adds` changes more
 abbrev pub switched : State → List ℕ → ℕ → State
-switched c target adds = record { half = 1 - c.half; bytes = target; seq = c.seq + adds; opens = c.opens; blocks = length target / 4096 }
+switched c target adds = record { half = 1 - c.half; bytes = target; seq = c.seq + adds; opens = c.opens; blocks = length target / 4096; identity = c.identity }
 
 -- the slot that names it, but for the checksum
 abbrev pub slot_switched : Slot → ℕ → ℕ → ℕ → Slot
@@ -51,6 +52,7 @@ slot_switched slot used adds check =
       half = 1 - slot.half;
       blocks = used / 4096;
       check = check;
+      identity = slot.identity;
     }
 
 -- the calls: sync, both copies of the slot, sync
@@ -59,7 +61,7 @@ switch_calls used = 1 + (2 * count_of (used % 4096) + 1)
 
 -- what was read, opened so often
 abbrev pub opened : State → ℕ → State
-opened c opens = record { half = c.half; bytes = c.bytes; seq = c.seq; opens = opens; blocks = c.blocks }
+opened c opens = record { half = c.half; bytes = c.bytes; seq = c.seq; opens = opens; blocks = c.blocks; identity = c.identity }
 
 -- the slot that names it
 abbrev pub slot_opened : Slot → ℕ → ℕ → Slot
@@ -73,4 +75,5 @@ slot_opened slot number opens =
       half = slot.half;
       blocks = slot.blocks;
       check = slot.check;
+      identity = slot.identity;
     }

@@ -14,7 +14,8 @@ pub record IsFormed (sectors : ℕ) (known : Known) : Type 0 where
   pub used_fits : known.slot.length ≤ slots_capacity sectors
   pub blocks_fit : 4096 * known.slot.blocks ≤ known.slot.length
   pub check_fits : known.check < 2 ^ 32
-  pub room : length known.tail.items ≡ 15444
+  pub identity_fits : known.slot.identity < 2 ^ 128
+  pub room : length known.tail.items ≡ 15428
 
 -- so it has to be for this state: the slot, the checksum of all whole blocks, and the bytes after them
 pub record Knows (known : Known) (c : State) : Type 0 where

@@ -62,7 +62,7 @@ fn append_small<D: SectorDevice>(
     adds: u64,
     opens: u64,
 ) -> Result<(), DeviceFault>
-    requires small { known.old.slot.length % 4096 + length bytes.now ≤ 15444 }
+    requires small { known.old.slot.length % 4096 + length bytes.now ≤ 15428 }
     requires formed { IsFormed (D.disk device.old).sectors known.old }
     requires fits { known.old.slot.length + length bytes.now ≤ slots_capacity known.old.slot.sectors }
     requires seq { known.old.slot.seq + adds < 2 ^ 64 }
@@ -125,7 +125,7 @@ fn append_large<D: SectorDevice>(
     opens: u64,
 ) -> Result<(), DeviceFault>
     requires fills { known.old.slot.length % 4096 + length front.now ≡ 4096 }
-    requires large { 15444 < 4096 + length back.now }
+    requires large { 15428 < 4096 + length back.now }
     requires formed { IsFormed (D.disk device.old).sectors known.old }
     requires fits { known.old.slot.length + length (front.now ++ back.now) ≤ slots_capacity known.old.slot.sectors }
     requires seq { known.old.slot.seq + adds < 2 ^ 64 }

@@ -21,8 +21,8 @@ use std::alloc::{AllocError, Global};
 /// it names. `Err`: there is no memory for the buffer.
 pub fn recovered(alloc: Global, slot: Slot, bytes: &[u8]) -> Result<Known, AllocError>
     requires blocks { 4096 * slot.blocks ≤ length bytes.now }
-    requires short { length bytes.now ≤ 4096 * slot.blocks + 15444 }
-    ensures numbers { IfOk result (λ known. (known.slot ≡ slot) × (known.check ≡ slot.check) × (length known.tail.items ≡ 15444)) }
+    requires short { length bytes.now ≤ 4096 * slot.blocks + 15428 }
+    ensures numbers { IfOk result (λ known. (known.slot ≡ slot) × (known.check ≡ slot.check) × (length known.tail.items ≡ 15428)) }
     ensures tail { IfOk result (λ known. take (length bytes.now - 4096 * slot.blocks) known.tail.items ≡ drop (4096 * slot.blocks) bytes.now) }
 {
     let mut tail = vec![in alloc; 0; SLOT_BYTES]?;

@@ -31,7 +31,7 @@ damaged number blocks c d notice before image was is carries said = by d.rides (
             let one : state_of d there.0 ≡ state_of c blocks = carried_same number (state_of c blocks) before image was.stands is.slots copy low holds is.told (state_of d there.0) there.1.in_slots in
             let version = there.1.version_is ∙ sym was.version_is in
             let rides = sym same ∙ mine in
-            λ i. record { version = version i; rides = rides i; half = (one i).half; bytes = (one i).bytes; seq = (one i).seq; opens = (one i).opens }
+            λ i. record { version = version i; rides = rides i; half = (one i).half; bytes = (one i).bytes; seq = (one i).seq; opens = (one i).opens; identity = (one i).identity }
 
         at : HoldsCopy number (state_of c blocks) 0 image ⊎ (HoldsCopy number (state_of c blocks) 0 image → ⊥) → HoldsCopy number (state_of c blocks) 1 image ⊎ (HoldsCopy number (state_of c blocks) 1 image → ⊥)
             → (d ≡ c) ⊎ ((notice ≡ CutOff) × LostBothCopies number blocks c image)

@@ -124,7 +124,7 @@ pub record IsTurning (sectors : ℕ) (known : Known) (c : Carried) (target : Lis
 
 module _ (sectors : ℕ) (known : Known) (c : Carried) (target : List ℕ) (turning : IsTurning sectors known c target) where
   abbrev Next : Carried
-  Next = turned false c target
+  Next = turned false 0 c target
 
   abbrev Content : List ℕ
   Content = sector_of (commit_turned known.slot (length target))
@@ -170,7 +170,7 @@ module _ (sectors : ℕ) (known : Known) (c : Carried) (target : List ℕ) (turn
     named_image : (torn : List ℕ → Bool) (image : Image) → IsTold m1.sectors torn → length image ≡ m1.sectors → OrTorn torn (m1.torn_left torn) 0 Content image → EitherCarried c Next image
     named_image torn image told long (before, left, from) = elim (from.each 0) [
       | inl same ↦ inl (stays (inl same))
-      | inr (inl new) ↦ inr (carries_half Next image refl (named_too m1.seen image wide holds (long ∙ known_size) new.1 (λ k high. behind torn Content before image from k high ∙ ap (λ (i : Image). get_or i k []) (alone torn before left))))
+      | inr (inl new) ↦ inr (carries_half Next image refl refl (named_too m1.seen image wide holds (long ∙ known_size) new.1 (λ k high. behind torn Content before image from k high ∙ ap (λ (i : Image). get_or i k []) (alone torn before left))))
       | inr (inr damage) ↦ inl (stays (inr damage.1))
     ]
       where
@@ -209,8 +209,8 @@ pub half_done : (m2 m3 : Disk) (next : HalfState) → IsCoherent m3 → ((torn :
 half_done m2 m3 next coherent tears run image left =
     left_now (weak m2) (weak m3) (CarriesInHalf next) (weak_coherent m3 coherent tears) run image (never, told_never m3.sectors, (tears never).adds image left)
 
-pub wipe_either : (m2 m3 : Disk) (c next : Carried) → next.rides ≡ false → LeavesOnly (weak m2) (weak m3) (CarriesInHalf (half_of next)) → LeavesOnly (weak m2) (weak m3) (EitherCarried c next)
-wipe_either m2 m3 c next plain = leaves_weaker (weak m2) (weak m3) (CarriesInHalf (half_of next)) (EitherCarried c next) (λ image carries. inr (carries_half next image plain carries))
+pub wipe_either : (m2 m3 : Disk) (c next : Carried) → next.rides ≡ false → next.identity ≡ 0 → LeavesOnly (weak m2) (weak m3) (CarriesInHalf (half_of next)) → LeavesOnly (weak m2) (weak m3) (EitherCarried c next)
+wipe_either m2 m3 c next plain none = leaves_weaker (weak m2) (weak m3) (CarriesInHalf (half_of next)) (EitherCarried c next) (λ image carries. inr (carries_half next image plain none carries))
 
 pub aside_either : (old m1 : Disk) (c next : Carried) → c.rides ≡ true → LeavesOnly (model c.rides old) (model c.rides m1) (Carries c) → LeavesOnly (weak old) (weak m1) (EitherCarried c next)
 aside_either old m1 c next rides leaves =

@@ -21,7 +21,7 @@ abbrev first_in : Option Awaiting → ℕ
 first_in None = 0
 first_in (Some awaiting) = awaiting.first
 
-pub slots_found : (old new : Disk) (found : Recovered) (known : Known) → IsSized true old.sectors → IsRecovered old new found → known.slot ≡ found.slot → known.check ≡ found.slot.check → length known.tail.items ≡ 15444
+pub slots_found : (old new : Disk) (found : Recovered) (known : Known) → IsSized true old.sectors → IsRecovered old new found → known.slot ≡ found.slot → known.check ≡ found.slot.check → length known.tail.items ≡ 15428
     → take (length found.bytes.items - 4096 * found.slot.blocks) known.tail.items ≡ drop (4096 * found.slot.blocks) found.bytes.items
     → IsFoundInSlots old new (record { held = InSlots known (Some (record { number = found.number; first = found.first })); bytes = found.bytes; notice = found.notice })
 slots_found old new found known sized read slot_is check_is room tail_is =
@@ -43,14 +43,15 @@ slots_found old new found known sized read slot_is check_is room tail_is =
           used_fits = subst (λ (s : Slot). s.length ≤ slots_capacity old.sectors) (sym slot_is) of.length_fits;
           blocks_fit = subst (λ (s : Slot). 4096 * s.blocks ≤ s.length) (sym slot_is) (omega (arith, of.length_is));
           check_fits = subst (λ (n : ℕ). n < 2 ^ 32) (sym check_is) of.check_fits;
+          identity_fits = subst (λ (s : Slot). s.identity < 2 ^ 128) (sym slot_is) of.identity_fits;
           room = room;
         };
         number_fits = λ is. absurd (cc is);
-        waiting = λ awaiting is. (subst (λ (s : Slot). s.length ≤ 4096 * s.blocks + 15444) (sym slot_is) (omega (arith, of.length_is, of.tail_fits)), subst (λ (n : ℕ). n ≤ 1) (ap first_in is) read.first_fits);
+        waiting = λ awaiting is. (subst (λ (s : Slot). s.length ≤ 4096 * s.blocks + 15428) (sym slot_is) (omega (arith, of.length_is, of.tail_fits)), subst (λ (n : ℕ). n ≤ 1) (ap first_in is) read.first_fits);
       };
       size = sym long;
       knows = record {
-        slot_is = λ i. record { number = known.slot.number; length = long i; seq = known.slot.seq; opens = known.slot.opens; sectors = known.slot.sectors; half = known.slot.half; blocks = known.slot.blocks; check = check i };
+        slot_is = λ i. record { number = known.slot.number; length = long i; seq = known.slot.seq; opens = known.slot.opens; sectors = known.slot.sectors; half = known.slot.half; blocks = known.slot.blocks; check = check i; identity = known.slot.identity };
         check_is = check_is ∙ sym (ap (λ (s : Slot). s.check) slot_is);
         tail_is = ap (λ (n : ℕ). take n known.tail.items) rest ∙ tail_is ∙ ap (λ (n : ℕ). drop (4096 * n) found.bytes.items) (sym blocks);
       };
@@ -73,7 +74,7 @@ no_buffer old new found read = record {
 
 -- a slot names whole blocks of the bytes that were found, and has room for the others
 pub tail_fits : (sectors : ℕ) (held : Held) (count : ℕ) → IsFormed sectors held → (numbers_of held).used ≡ count → ((numbers_of held).rides ≡ true → (numbers_of held).settled ≡ false) → (numbers_of held).rides ≡ true
-    → (4096 * (numbers_of held).blocks ≤ count) × (count ≤ 4096 * (numbers_of held).blocks + 15444)
+    → (4096 * (numbers_of held).blocks ≤ count) × (count ≤ 4096 * (numbers_of held).blocks + 15428)
 tail_fits sectors (InHalf known) count formed used fresh rides = absurd (cc rides)
 tail_fits sectors (InSlots known None) count formed used fresh rides = let settled = fresh rides in absurd (cc settled)
 tail_fits sectors (InSlots known (Some awaiting)) count formed used fresh rides =

@@ -33,7 +33,7 @@ copy_marks image slot tail copy valid = one (place_of_four slot.number copy vali
     one (inr (inr (inr is))) = inr (inr (inr (ap (take 12) (at 96 is) ∙ slot_begins slot tail 0)))
 
 pub is_like : (rides : Bool) (c : Carried) (image : Image) → CarriesIn rides c image → IsLikeStore image
-is_like false c image carries = inl (ap (take 8) carries.commit)
+is_like false c image carries = inl (ap (take 8) carries.0.commit)
 is_like true c image carries = inr (carries.1.sized, copy_marks image _ _ _ carries.1.in_slots.counted.valid)
 
 -- and has a size of one
@@ -42,5 +42,5 @@ sized_so false sectors sized = sized
 sized_so true sectors sized = let least = sized.at_least in record { at_least = omega (arith, least); at_most = sized.at_most }
 
 pub carries_sized : (rides : Bool) (c : Carried) (image : Image) → CarriesIn rides c image → IsSized false (length image)
-carries_sized false c image carries = carries.sized
+carries_sized false c image carries = carries.0.sized
 carries_sized true c image carries = sized_so true (length image) carries.1.sized

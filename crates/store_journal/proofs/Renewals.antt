@@ -28,7 +28,7 @@ always_err (Err fault) p = p
 
 module _ (old new : Disk) (known : Known) (awaiting : Awaiting) (c next : Carried) (opens : ℕ) (tears : (t : List ℕ → Bool) → IsTearing t old) (coherent_old : IsCoherent old) (coherent : IsCoherent new) (tears_new : (t : List ℕ → Bool) → IsTearing t new)
     (size : new.sectors ≡ old.sectors) (formed : IsRidingFormed old.sectors known (Some awaiting)) (end : awaiting.number < number_end) (is : IsAwaiting old awaiting known c)
-    (next_is : next ≡ record { version = c.version; rides = c.rides; half = c.half; bytes = c.bytes; seq = c.seq; opens = opens }) where
+    (next_is : next ≡ record { version = c.version; rides = c.rides; half = c.half; bytes = c.bytes; seq = c.seq; opens = opens; identity = c.identity }) where
   abbrev was : State
   was = state_of c known.slot.blocks
 

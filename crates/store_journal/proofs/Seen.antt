@@ -25,8 +25,8 @@ use Rattle.store_journal.proofs.Weak.{never, told_never}
 
 -- ---- by the format
 
-pub carries_half : (c : Carried) (image : Image) → c.rides ≡ false → CarriesInHalf (half_of c) image → Carries c image
-carries_half c image is carries = subst (λ (r : Bool). CarriesIn r c image) (sym is) carries
+pub carries_half : (c : Carried) (image : Image) → c.rides ≡ false → c.identity ≡ 0 → CarriesInHalf (half_of c) image → Carries c image
+carries_half c image is none carries = subst (λ (r : Bool). CarriesIn r c image) (sym is) (carries, none)
 
 pub carries_riding : (c : Carried) (image : Image) (blocks : ℕ) → c.rides ≡ true → CarriesRiding c blocks image → Carries c image
 carries_riding c image blocks is carries = subst (λ (r : Bool). CarriesIn r c image) (sym is) (blocks, carries)
@@ -83,11 +83,11 @@ module _ (disk : Disk) (coherent : IsCoherent disk) (tears : (torn : List ℕ �
 
   numbers_are : (held : Held) (c : Carried) → IsOf disk held c → bytes_in disk.seen held ≡ c.bytes → carried_in disk.seen held ≡ c
   numbers_are (InHalf known) c is bytes =
-      λ i. record { version = (is.knows.commit_is i).format; rides = sym is.plain i; half = (is.knows.commit_is i).half; bytes = bytes i; seq = (is.knows.commit_is i).seq; opens = (is.knows.commit_is i).opens }
+      λ i. record { version = (is.knows.commit_is i).format; rides = sym is.plain i; half = (is.knows.commit_is i).half; bytes = bytes i; seq = (is.knows.commit_is i).seq; opens = (is.knows.commit_is i).opens; identity = sym is.identity_is i }
   numbers_are (InSlots known None) c is bytes =
-      λ i. record { version = sym is.version_is i; rides = sym is.rides_is i; half = (is.knows.slot_is i).half; bytes = bytes i; seq = (is.knows.slot_is i).seq; opens = (is.knows.slot_is i).opens }
+      λ i. record { version = sym is.version_is i; rides = sym is.rides_is i; half = (is.knows.slot_is i).half; bytes = bytes i; seq = (is.knows.slot_is i).seq; opens = (is.knows.slot_is i).opens; identity = (is.knows.slot_is i).identity }
   numbers_are (InSlots known (Some awaiting)) c is bytes =
-      λ i. record { version = sym is.version_is i; rides = sym is.rides_is i; half = (is.knows.slot_is i).half; bytes = bytes i; seq = (is.knows.slot_is i).seq; opens = (is.knows.slot_is i).opens }
+      λ i. record { version = sym is.version_is i; rides = sym is.rides_is i; half = (is.knows.slot_is i).half; bytes = bytes i; seq = (is.knows.slot_is i).seq; opens = (is.knows.slot_is i).opens; identity = (is.knows.slot_is i).identity }
 
   pub held_is : (held : Held) (c : Carried) → IsFormed disk.sectors held → IsOf disk held c → carried_in disk.seen held ≡ c
   held_is held c formed is = numbers_are held c is (reads_of held c formed is)
@@ -103,7 +103,7 @@ module _ (disk : Disk) (coherent : IsCoherent disk) (tears : (torn : List ℕ �
   }
 
   pub carried_by : (held : Held) (c : Carried) → IsFormed disk.sectors held → IsOf disk held c → (image : Image) → (model c.rides disk).left image → Carries c image
-  carried_by (InHalf known) c formed is image left = carries_half c image is.plain (is.carried image (subst (λ (r : Bool). (model r disk).left image) is.plain left))
+  carried_by (InHalf known) c formed is image left = carries_half c image is.plain is.identity_is (is.carried image (subst (λ (r : Bool). (model r disk).left image) is.plain left))
   carried_by (InSlots known None) c formed is image left =
       let weak_left = subst (λ (r : Bool). (model r disk).left image) is.rides_is left in
       let stands = is.stands image weak_left in

@@ -141,12 +141,12 @@ slots_spares known awaits old new others n fits =
 
 -- an append
 module _ (known now : Known) (c : Carried) (more : List ℕ) (adds opens opens_next : ℕ) (next : Carried) (knows : SlotKnows known (state_of c known.slot.blocks)) (opens_is : opens ≡ opens_next)
-    (next_is : next ≡ record { version = c.version; rides = c.rides; half = c.half; bytes = c.bytes ++ more; seq = c.seq + adds; opens = opens_next }) where
+    (next_is : next ≡ record { version = c.version; rides = c.rides; half = c.half; bytes = c.bytes ++ more; seq = c.seq + adds; opens = opens_next; identity = c.identity }) where
   abbrev named : ℕ
   named = named_after (length c.bytes) (length more)
 
   pub state_appended : slot_appended_state (state_of c known.slot.blocks) more adds opens ≡ state_of next named
-  state_appended = (λ i. record { half = c.half; bytes = c.bytes ++ more; seq = c.seq + adds; opens = opens_is i; blocks = named }) ∙ ap (λ (d : Carried). state_of d named) (sym next_is)
+  state_appended = (λ i. record { half = c.half; bytes = c.bytes ++ more; seq = c.seq + adds; opens = opens_is i; blocks = named; identity = c.identity }) ∙ ap (λ (d : Carried). state_of d named) (sym next_is)
 
   pub append_tried : {T E : Type 0} {result : Result T E} (old new : Disk) (check : ℕ) → ((t : List ℕ → Bool) → IsTearing t old) → IsCoherent new → ((t : List ℕ → Bool) → IsTearing t new) → new.sectors ≡ old.sectors
       → IsSlotFormed old.sectors known → known.slot.number + 2 ≤ number_end → IsInSlots old known c

@@ -23,9 +23,9 @@ module _ {D : Type 0} {G : Ghosts D} where
   sound_of fields c coherent tears is = subst (IsOf (G.disk fields.device) fields.held) (sym (held_is (G.disk fields.device) coherent tears fields.held c (formed_by fields) is)) is
 
   -- a call that succeeded
-  pub became : (j new : Inside D G) (next : Carried) (used size calls blocks : ℕ) → numbers_of new.held ≡ numbers_after (numbers_of j.held) next.version next.half used next.seq next.opens blocks → used ≡ size → (numbers_of j.held).rides ≡ next.rides → new.broken ≡ false
+  pub became : (j new : Inside D G) (next : Carried) (used size calls blocks : ℕ) → numbers_of new.held ≡ numbers_after (numbers_of j.held) next.version next.half used next.seq next.opens blocks → used ≡ size → (numbers_of j.held).rides ≡ next.rides → (numbers_of j.held).identity ≡ next.identity → new.broken ≡ false
       → ((G.disk j.device).honest → bytes_in (G.disk new.device).seen new.held ≡ next.bytes) → Made (G.disk j.device) (G.disk new.device) calls → Became (G.disk j.device) (G.disk new.device) (view_of j) (view_of new) next size calls
-  became j new next used size calls blocks numbers size_is rides works bytes made = record {
+  became j new next used size calls blocks numbers size_is rides identity works bytes made = record {
     bytes = bytes;
     used = used_is new ∙ ap (λ (n : Numbers). n.used) numbers ∙ size_is;
     version = ap (λ (n : Numbers). n.version) numbers;
@@ -33,6 +33,7 @@ module _ {D : Type 0} {G : Ghosts D} where
     half = ap (λ (n : Numbers). n.half) numbers;
     seq = ap (λ (n : Numbers). n.seq) numbers;
     opens = ap (λ (n : Numbers). n.opens) numbers;
+    identity = ap (λ (n : Numbers). n.identity) numbers ∙ identity;
     sectors = ap (λ (n : Numbers). n.sectors) numbers;
     works = works;
     settled = ap (λ (n : Numbers). n.settled) numbers;
@@ -50,6 +51,7 @@ module _ {D : Type 0} {G : Ghosts D} where
     rides = ap (λ (n : Numbers). n.rides) numbers;
     half = ap (λ (n : Numbers). n.half) numbers;
     opens = ap (λ (n : Numbers). n.opens) numbers;
+    identity = ap (λ (n : Numbers). n.identity) numbers;
     sectors = ap (λ (n : Numbers). n.sectors) numbers;
     settled = ap (λ (n : Numbers). n.settled) numbers;
     next = ap (λ (n : Numbers). n.next) numbers;

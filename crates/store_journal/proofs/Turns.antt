@@ -31,10 +31,10 @@ failed_of : (old new : Disk) (calls number : ℕ) → number ≡ DEVICE → Turn
 failed_of old new calls number is refusal = ⊎_elim (λ memory. absurd (omega (arith, is, memory.0))) (⊎_elim (λ end. absurd (omega (arith, is, end.0))) (λ failed. failed.1)) refusal
 
 module _ {D : Type 0} {G : Ghosts D} where
-  pub upgraded_to : (j new : Inside D G) (target : List ℕ) (next blocks : ℕ) → numbers_of new.held ≡ numbers_turned (numbers_of j.held) true (length target) next blocks → (numbers_of new.held).next < number_end → j.broken ≡ false → new.broken ≡ false → new.copied ≡ 0
+  pub upgraded_to : (j new : Inside D G) (identity : ℕ) (target : List ℕ) (next blocks : ℕ) → numbers_of new.held ≡ numbers_turned (numbers_of j.held) true identity (length target) next blocks → (numbers_of new.held).next < number_end → j.broken ≡ false → new.broken ≡ false → new.copied ≡ 0
       → ((G.disk new.device).honest → LeavesNumbers (G.disk j.device).seen) → ((G.disk new.device).honest → bytes_in (G.disk new.device).seen new.held ≡ target) → Made (G.disk j.device) (G.disk new.device) (upgrade_calls (length target))
-      → Upgraded (G.disk j.device) (G.disk new.device) (view_of j) (view_of new) target
-  upgraded_to j new target next blocks numbers fits worked works copied leaves bytes made = record {
+      → Upgraded (G.disk j.device) (G.disk new.device) (view_of j) (view_of new) identity target
+  upgraded_to j new identity target next blocks numbers fits worked works copied leaves bytes made = record {
     worked = worked;
     numbers = leaves;
     bytes = bytes;
@@ -44,6 +44,7 @@ module _ {D : Type 0} {G : Ghosts D} where
     half = ap (λ (n : Numbers). n.half) numbers;
     seq = ap (λ (n : Numbers). n.seq) numbers;
     opens = ap (λ (n : Numbers). n.opens) numbers;
+    identity_is = ap (λ (n : Numbers). n.identity) numbers;
     sectors = ap (λ (n : Numbers). n.sectors) numbers;
     works = works;
     settled = ap (λ (n : Numbers). n.settled) numbers;
@@ -79,7 +80,7 @@ module _ {D : Type 0} {G : Ghosts D} where
       ⊎_elim (λ memory. inr (inl (memory.0, unwritten j new held copied worked works memory.1)))
       (⊎_elim (λ end. inr (inr (inl (end.0, end.1, unwritten j new held copied worked works end.2)))) (λ failed. absurd (other failed.0))) refusal
 
-  pub downgraded_to : (j new : Inside D G) (target : List ℕ) → numbers_of new.held ≡ numbers_turned (numbers_of j.held) false (length target) 0 0 → j.broken ≡ false → new.broken ≡ false → new.copied ≡ 0 → ((G.disk j.device).honest → bytes_in (G.disk new.device).seen new.held ≡ target)
+  pub downgraded_to : (j new : Inside D G) (target : List ℕ) → numbers_of new.held ≡ numbers_turned (numbers_of j.held) false 0 (length target) 0 0 → j.broken ≡ false → new.broken ≡ false → new.copied ≡ 0 → ((G.disk j.device).honest → bytes_in (G.disk new.device).seen new.held ≡ target)
       → Made (G.disk j.device) (G.disk new.device) (downgrade_calls (length target)) → Downgraded (G.disk j.device) (G.disk new.device) (view_of j) (view_of new) target
   downgraded_to j new target numbers worked works copied bytes made = record {
     worked = worked;
@@ -91,6 +92,7 @@ module _ {D : Type 0} {G : Ghosts D} where
       half = ap (λ (n : Numbers). n.half) numbers;
       seq = ap (λ (n : Numbers). n.seq) numbers;
       opens = ap (λ (n : Numbers). n.opens) numbers;
+      identity = ap (λ (n : Numbers). n.identity) numbers;
       sectors = ap (λ (n : Numbers). n.sectors) numbers;
       works = works;
       settled = ap (λ (n : Numbers). n.settled) numbers;

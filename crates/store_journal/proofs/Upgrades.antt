@@ -76,15 +76,15 @@ half_reads known c before image from names half wide apart same was =
 
 -- ---- the state in slots
 
-module _ (known : HalfKnown) (c : Carried) (target : List ℕ) (names : known.commit ≡ commit_of (half_of c) known.commit.sectors) (half : known.commit.half ≡ 1) where
+module _ (known : HalfKnown) (c : Carried) (identity : ℕ) (target : List ℕ) (names : known.commit ≡ commit_of (half_of c) known.commit.sectors) (half : known.commit.half ≡ 1) where
   pub half_one : c.half ≡ 1
   half_one = ap (λ (m : Commit). m.half) (sym names) ∙ half
 
   other : 0 ≡ 1 - c.half
   other = omega (arith, half_one)
 
-  pub state_turned : formatted target known.commit.seq known.commit.opens ≡ state_of (turned true c target) (length target / 4096)
-  state_turned = λ i. record { half = other i; bytes = target; seq = (names i).seq; opens = (names i).opens; blocks = length target / 4096 }
+  pub state_turned : formatted target known.commit.seq known.commit.opens identity ≡ state_of (turned true identity c target) (length target / 4096)
+  state_turned = λ i. record { half = other i; bytes = target; seq = (names i).seq; opens = (names i).opens; blocks = length target / 4096; identity = identity }
 
 -- what is known of it
 pub knows_whole : (slots : Known) (s : State) (sectors number : ℕ) → slots.slot ≡ slot_of s sectors number → slots.check ≡ crc_of (blocks_of s.blocks s.bytes) → s.blocks ≡ length s.bytes / 4096
@@ -101,8 +101,8 @@ knows_whole slots s sectors number slot_is check_is whole tail_is =
 
 -- and it fits the device
 pub formed_whole : (sectors number size : ℕ) (slots : Known) (s : State) → slots.slot ≡ slot_of s sectors number → s.half ≤ 1 → s.blocks ≡ length s.bytes / 4096 → sectors ≡ size → FitsBetween sectors (length s.bytes) → number + 1 < number_end → slots.check < 2 ^ 32
-    → length slots.tail.items ≡ 15444 → IsRidingFormed size slots None
-formed_whole sectors number size slots s slot_is low whole same between end check room = record {
+    → s.identity < 2 ^ 128 → length slots.tail.items ≡ 15428 → IsRidingFormed size slots None
+formed_whole sectors number size slots s slot_is low whole same between end check identity room = record {
   formed = record {
     size = ap (λ (m : Slot). m.sectors) slot_is ∙ same;
     at_least = omega (arith, same, between.sized.at_least);
@@ -111,6 +111,7 @@ formed_whole sectors number size slots s slot_is low whole same between end chec
     used_fits = subst (λ (n : ℕ). slots.slot.length ≤ slots_capacity n) same (subst (λ (m : Slot). m.length ≤ slots_capacity sectors) (sym slot_is) between.fits);
     blocks_fit = subst (λ (m : Slot). 4096 * m.blocks ≤ m.length) (sym slot_is) (omega (arith, whole));
     check_fits = check;
+    identity_fits = subst (λ (m : Slot). m.identity < 2 ^ 128) (sym slot_is) identity;
     room = room;
   };
   number_fits = λ is. subst (λ (m : Slot). m.number < number_end) (sym slot_is) (omega (arith, end));
@@ -125,9 +126,9 @@ none_standing number s image even stands commit of fits is =
 
 -- ---- the conversion
 
-module _ (mid new : Disk) (known : HalfKnown) (c : Carried) (target : List ℕ) (number : ℕ) (coherent : IsCoherent mid) (coherent_new : IsCoherent new) (size : known.commit.sectors ≡ mid.sectors) (half : known.commit.half ≡ 1) (between : FitsBetween known.commit.sectors (length target))
+module _ (mid new : Disk) (known : HalfKnown) (c : Carried) (identity : ℕ) (target : List ℕ) (number : ℕ) (coherent : IsCoherent mid) (coherent_new : IsCoherent new) (size : known.commit.sectors ≡ mid.sectors) (half : known.commit.half ≡ 1) (between : FitsBetween known.commit.sectors (length target))
     (end : number + 2 ≤ number_end) (is : IsInHalf mid known c) (alone : (image : Image) → mid.left image → image ≡ mid.seen)
-    (converting : LeavesOnly mid new (Converting number (formatted target known.commit.seq known.commit.opens) mid.seen)) where
+    (converting : LeavesOnly mid new (Converting number (formatted target known.commit.seq known.commit.opens identity) mid.seen)) where
   abbrev From : ℕ
   From = 128 + 8 * (length target / 4096)
 
@@ -138,57 +139,57 @@ module _ (mid new : Disk) (known : HalfKnown) (c : Carried) (target : List ℕ) 
   apart = subst (λ (n : ℕ). From ≤ start_in_half n 1) (sym wide) (omega (arith, between.apart))
 
   one : c.half ≡ 1
-  one = half_one known c target is.knows.commit_is half
+  one = half_one known c identity target is.knows.commit_is half
 
-  still : (image : Image) → length image ≡ length mid.seen → get_or image 0 [] ≡ get_or mid.seen 0 [] → ((k : ℕ) → From ≤ k → get_or image k [] ≡ get_or mid.seen k []) → EitherCarried c (turned true c target) image
-  still image long zero same = inl (carries_half c image is.plain (half_kept (half_of c) mid.seen image From one apart long zero same (is.carried mid.seen coherent.seen)))
+  still : (image : Image) → length image ≡ length mid.seen → get_or image 0 [] ≡ get_or mid.seen 0 [] → ((k : ℕ) → From ≤ k → get_or image k [] ≡ get_or mid.seen k []) → EitherCarried c (turned true identity c target) image
+  still image long zero same = inl (carries_half c image is.plain is.identity_is (half_kept (half_of c) mid.seen image From one apart long zero same (is.carried mid.seen coherent.seen)))
 
   behind : (image : Image) (first count : ℕ) → first + count ≡ From → KeepsOutside first count mid.seen image → (k : ℕ) → From ≤ k → get_or image k [] ≡ get_or mid.seen k []
   behind image first count all outside k high = outside.same k (inr (omega (arith, all, high)))
 
-  either : (image : Image) → Converting number (formatted target known.commit.seq known.commit.opens) mid.seen image × KeepsFirst None mid.left image → EitherCarried c (turned true c target) image
+  either : (image : Image) → Converting number (formatted target known.commit.seq known.commit.opens identity) mid.seen image × KeepsFirst None mid.left image → EitherCarried c (turned true identity c target) image
   either image (inl outside, first) = still image outside.size (outside.same 0 (inl (omega arith))) (behind image 64 (64 + 8 * (length target / 4096)) (omega arith) outside)
   either image (inr now, first) =
       let outside = now.0 in
       ⊎_elim (λ zero. still image outside.size (zero ∙ ap (λ (i : Image). get_or i 0 []) (alone first.0 first.1)) (behind image 0 From (omega arith) outside))
       (⊎_elim (λ begins.
-      inr (riding_at (turned true c target) refl refl known.commit.sectors between.sized.at_least between.sized.at_most (length target / 4096) (number + 2) image end (outside.size ∙ wide)
-      (λ commit of fits same. slot_is_none commit fits of.format_fits.at_most (ap (take 12) (sym same) ∙ begins)) now.2 (subst (λ (s : State). CarriesInSlots s image) (state_turned known c target is.knows.commit_is half) now.1)))
+      inr (riding_at (turned true identity c target) refl refl known.commit.sectors between.sized.at_least between.sized.at_most (length target / 4096) (number + 2) image end (outside.size ∙ wide)
+      (λ commit of fits same. slot_is_none commit fits of.format_fits.at_most (ap (take 12) (sym same) ∙ begins)) now.2 (subst (λ (s : State). CarriesInSlots s image) (state_turned known c identity target is.knows.commit_is half) now.1)))
       (λ torn. absurd torn)) first.2
 
-  pub upgrade_moment : LeavesFirst None mid new → LeavesOnly mid new (EitherCarried c (turned true c target))
+  pub upgrade_moment : LeavesFirst None mid new → LeavesOnly mid new (EitherCarried c (turned true identity c target))
   upgrade_moment first =
-      leaves_weaker mid new (λ image. Converting number (formatted target known.commit.seq known.commit.opens) mid.seen image × KeepsFirst None mid.left image) (EitherCarried c (turned true c target)) either
-      (leaves_both mid new (Converting number (formatted target known.commit.seq known.commit.opens) mid.seen) (KeepsFirst None mid.left) converting first)
+      leaves_weaker mid new (λ image. Converting number (formatted target known.commit.seq known.commit.opens identity) mid.seen image × KeepsFirst None mid.left image) (EitherCarried c (turned true identity c target)) either
+      (leaves_both mid new (Converting number (formatted target known.commit.seq known.commit.opens identity) mid.seen) (KeepsFirst None mid.left) converting first)
 
   pub upgrade_stays : bytes_in new.seen (InHalf known) ≡ c.bytes
   upgrade_stays =
-      let now = left_now mid new (Converting number (formatted target known.commit.seq known.commit.opens) mid.seen) coherent_new converting new.seen coherent_new.seen in
+      let now = left_now mid new (Converting number (formatted target known.commit.seq known.commit.opens identity) mid.seen) coherent_new converting new.seen coherent_new.seen in
       half_reads known c mid.seen new.seen From is.knows.commit_is one wide apart
       (⊎_elim (λ outside. behind new.seen 64 (64 + 8 * (length target / 4096)) (omega arith) outside) (λ all. behind new.seen 0 From (omega arith) all.0) now) (is.carried mid.seen coherent.seen)
 
 -- it is done
-pub upgrade_done : (new : Disk) (known : HalfKnown) (slots : Known) (c : Carried) (target : List ℕ) (number : ℕ) → known.commit ≡ commit_of (half_of c) known.commit.sectors → known.commit.half ≡ 1 → number % 2 ≡ 1
-    → slots.slot ≡ slot_of (formatted target known.commit.seq known.commit.opens) known.commit.sectors (number + 1) → SlotKnows slots (formatted target known.commit.seq known.commit.opens)
-    → ((torn : List ℕ → Bool) → IsTold new.sectors torn → (image : Image) → new.torn_left torn image → Stands (number + 1) (formatted target known.commit.seq known.commit.opens) image) → IsInSlots new slots (turned true c target)
-upgrade_done new known slots c target number names half odd slot_is knows stands =
+pub upgrade_done : (new : Disk) (known : HalfKnown) (slots : Known) (c : Carried) (identity : ℕ) (target : List ℕ) (number : ℕ) → known.commit ≡ commit_of (half_of c) known.commit.sectors → known.commit.half ≡ 1 → number % 2 ≡ 1
+    → slots.slot ≡ slot_of (formatted target known.commit.seq known.commit.opens identity) known.commit.sectors (number + 1) → SlotKnows slots (formatted target known.commit.seq known.commit.opens identity)
+    → ((torn : List ℕ → Bool) → IsTold new.sectors torn → (image : Image) → new.torn_left torn image → Stands (number + 1) (formatted target known.commit.seq known.commit.opens identity) image) → IsInSlots new slots (turned true identity c target)
+upgrade_done new known slots c identity target number names half odd slot_is knows stands =
     let blocks : length target / 4096 ≡ slots.slot.blocks = sym (ap (λ (m : Slot). m.blocks) slot_is) in
-    let state : formatted target known.commit.seq known.commit.opens ≡ state_of (turned true c target) slots.slot.blocks = state_turned known c target names half ∙ ap (state_of (turned true c target)) blocks in
+    let state : formatted target known.commit.seq known.commit.opens identity ≡ state_of (turned true identity c target) slots.slot.blocks = state_turned known c identity target names half ∙ ap (state_of (turned true identity c target)) blocks in
     let numbered : number + 1 ≡ slots.slot.number = sym (ap (λ (m : Slot). m.number) slot_is) in
     record {
       rides_is = refl;
       version_is = refl;
       knows = subst (SlotKnows slots) state knows;
-      stands = λ image left. subst (λ (n : ℕ). Stands n (state_of (turned true c target) slots.slot.blocks) image) numbered (subst (λ (s : State). Stands (number + 1) s image) state (stands left.0 left.1 image left.2));
-      none = λ image left. none_standing (number + 1) (formatted target known.commit.seq known.commit.opens) image (omega (arith, odd)) (stands left.0 left.1 image left.2);
+      stands = λ image left. subst (λ (n : ℕ). Stands n (state_of (turned true identity c target) slots.slot.blocks) image) numbered (subst (λ (s : State). Stands (number + 1) s image) state (stands left.0 left.1 image left.2));
+      none = λ image left. none_standing (number + 1) (formatted target known.commit.seq known.commit.opens identity) image (omega (arith, odd)) (stands left.0 left.1 image left.2);
     }
 
 -- before it nothing was written
 pub in_half_kept : (old mid : Disk) (known : HalfKnown) (c : Carried) → KeepsImages old mid → IsInHalf old known c → IsInHalf mid known c
-in_half_kept old mid known c kept is = record { plain = is.plain; knows = is.knows; carried = λ image left. is.carried image (kept.left image left) }
+in_half_kept old mid known c kept is = record { plain = is.plain; identity_is = is.identity_is; knows = is.knows; carried = λ image left. is.carried image (kept.left image left) }
 
 pub looked_moment : (old mid : Disk) (known : HalfKnown) (c next : Carried) → KeepsImages old mid → IsInHalf old known c → LeavesOnly old mid (EitherCarried c next)
-looked_moment old mid known c next kept is = leaves_weaker old mid old.left (EitherCarried c next) (λ image left. inl (carries_half c image is.plain (is.carried image left))) kept.any_moment
+looked_moment old mid known c next kept is = leaves_weaker old mid old.left (EitherCarried c next) (λ image left. inl (carries_half c image is.plain is.identity_is (is.carried image left))) kept.any_moment
 
 pub looked_stays : (old mid : Disk) (known : HalfKnown) (c : Carried) → IsCoherent old → known.commit.sectors ≡ old.sectors → KeepsImages old mid → IsInHalf old known c → bytes_in mid.seen (InHalf known) ≡ c.bytes
 looked_stays old mid known c coherent size kept is =

@@ -47,6 +47,7 @@ pub record Stays {D : Type 0} (disk : Disk) (old new : JournalView D) : Type 0 w
   pub rides : new.rides ≡ old.rides
   pub half : new.half ≡ old.half
   pub opens : new.opens ≡ old.opens
+  pub identity : new.identity ≡ old.identity
   pub sectors : new.sectors ≡ old.sectors
   pub settled : new.settled ≡ old.settled
   pub next : new.next ≡ old.next
@@ -71,6 +72,7 @@ pub record Became {D : Type 0} (disk new_disk : Disk) (old new : JournalView D) 
   pub half : new.half ≡ c.half
   pub seq : new.seq ≡ c.seq
   pub opens : new.opens ≡ c.opens
+  pub identity : new.identity ≡ c.identity
   pub sectors : new.sectors ≡ old.sectors
   pub works : new.broken ≡ false
   pub settled : new.settled ≡ true

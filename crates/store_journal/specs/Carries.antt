@@ -17,6 +17,13 @@ pub record Carried : Type 0 where
   pub bytes : List ℕ
   pub seq : ℕ
   pub opens : ℕ
+  -- the identity of the store, in format 3; else 0
+  pub identity : ℕ
+
+-- the identity of a store in format 3; formats 1 and 2 have none
+abbrev pub identity_in : Bool → ℕ → ℕ
+identity_in false identity = 0
+identity_in true identity = identity
 
 -- the same in formats 1 and 2
 abbrev pub half_of : Carried → HalfState
@@ -24,7 +31,7 @@ half_of c = record { version = c.version; half = c.half; bytes = c.bytes; seq = 
 
 -- the state in slots, of which the slot names that many blocks
 abbrev pub state_of : Carried → ℕ → State
-state_of c blocks = record { half = c.half; bytes = c.bytes; seq = c.seq; opens = c.opens; blocks = blocks }
+state_of c blocks = record { half = c.half; bytes = c.bytes; seq = c.seq; opens = c.opens; blocks = blocks; identity = c.identity }
 
 -- In format 3: the image has 160 to 2^32 sectors, sector 0 is no commit sector of the other formats, and the slots and blocks carry it. Numbers are left for an opening.
 pub record CarriesRiding (c : Carried) (blocks : ℕ) (image : Image) : Type 0 where
@@ -36,7 +43,7 @@ pub record CarriesRiding (c : Carried) (blocks : ℕ) (image : Image) : Type 0 w
 
 -- by the format
 abbrev pub CarriesIn : Bool → Carried → Image → Type 0
-CarriesIn false c image = CarriesInHalf (half_of c) image
+CarriesIn false c image = CarriesInHalf (half_of c) image × (c.identity ≡ 0)
 CarriesIn true c image = (blocks : ℕ) × CarriesRiding c blocks image
 
 abbrev pub Carries : Carried → Image → Type 0
@@ -68,8 +75,8 @@ counted c = record c { opens = one_more c.opens }
 
 -- the target in the other half, in format 2, opened one time more
 abbrev pub migrated : Carried → List ℕ → Carried
-migrated c target = record { version = 2; rides = false; half = 1 - c.half; bytes = target; seq = c.seq; opens = one_more c.opens }
+migrated c target = record c { version = 2; rides = false; half = 1 - c.half; bytes = target; opens = one_more c.opens }
 
--- the target in the other half, in format 3 or 2; it was opened as often
-abbrev pub turned : Bool → Carried → List ℕ → Carried
-turned rides c target = record { version = 2; rides = rides; half = 1 - c.half; bytes = target; seq = c.seq; opens = c.opens }
+-- the target in the other half, in format 3 with this identity, or in format 2; it was opened as often
+abbrev pub turned : Bool → ℕ → Carried → List ℕ → Carried
+turned rides identity c target = record { version = 2; rides = rides; half = 1 - c.half; bytes = target; seq = c.seq; opens = c.opens; identity = identity_in rides identity }

@@ -16,6 +16,7 @@ view_of {D} {G} fields = record {
   bytes = bytes_in (G.disk fields.device).seen fields.held;
   seq = (numbers_of fields.held).seq;
   opens = (numbers_of fields.held).opens;
+  identity = (numbers_of fields.held).identity;
   broken = fields.broken;
   settled = (numbers_of fields.held).settled;
   next = (numbers_of fields.held).next;

@@ -11,9 +11,9 @@ use Rattle.store_journal.specs.Models.{model}
 use Rattle.store_journal.specs.Opening.{LooksIn, look_calls, nothing_in}
 use Rattle.half_journal.specs.Layout.{HasMagic}
 
--- what a device carries that was just formatted with these bytes and numbers, in format 2, or 3: they are in half 0, as no bytes are on a device that was formatted
-abbrev pub filled : Bool → List ℕ → ℕ → ℕ → Carried
-filled rides bytes seq opens = record (nothing_in rides) { bytes = bytes; seq = seq; opens = opens }
+-- what a device carries that was just formatted with these bytes and numbers, in format 2, or in 3 with this identity: they are in half 0, as no bytes are on a device that was formatted
+abbrev pub filled : Bool → List ℕ → ℕ → ℕ → ℕ → Carried
+filled rides bytes seq opens identity = record (nothing_in rides identity) { bytes = bytes; seq = seq; opens = opens }
 
 -- the calls that look for a store: sync, read 0; in format 3 those of a formatting
 abbrev pub calls_to_look : Bool → ℕ

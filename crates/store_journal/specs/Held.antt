@@ -28,6 +28,7 @@ pub record Numbers : Type 0 where
   pub used : ℕ
   pub seq : ℕ
   pub opens : ℕ
+  pub identity : ℕ
   -- a commit may be made: in format 3 once the opening was counted
   pub settled : Bool
   -- in format 3 the number of the next commit, and how many blocks the slot names; else 0
@@ -52,6 +53,7 @@ numbers_of (InHalf known) = record {
   used = known.commit.length;
   seq = known.commit.seq;
   opens = known.commit.opens;
+  identity = 0;
   settled = true;
   next = 0;
   blocks = 0;
@@ -64,6 +66,7 @@ numbers_of (InSlots known awaits) = record {
   used = known.slot.length;
   seq = known.slot.seq;
   opens = known.slot.opens;
+  identity = known.slot.identity;
   settled = is_settled awaits;
   next = next_of awaits known.slot;
   blocks = known.slot.blocks;
@@ -90,6 +93,7 @@ carried_in image held =
       bytes = bytes_in image held;
       seq = (numbers_of held).seq;
       opens = (numbers_of held).opens;
+      identity = (numbers_of held).identity;
     }
 
 -- the first n bytes of the half that doesn't count, as they are read
@@ -100,7 +104,7 @@ other_bytes image held n = bytes_read image (half_start (numbers_of held).rides 
 pub record IsRidingFormed (sectors : ℕ) (known : Known) (awaits : Option Awaiting) : Type 0 where
   pub formed : IsSlotFormed sectors known
   pub number_fits : awaits ≡ None → known.slot.number < number_end
-  pub waiting : (awaiting : Awaiting) → awaits ≡ Some awaiting → (known.slot.length ≤ 4096 * known.slot.blocks + 15444) × (awaiting.first ≤ 1)
+  pub waiting : (awaiting : Awaiting) → awaits ≡ Some awaiting → (known.slot.length ≤ 4096 * known.slot.blocks + 15428) × (awaiting.first ≤ 1)
 
 -- its numbers fit a device of `sectors` sectors
 abbrev pub IsFormed : ℕ → Held → Type 0
@@ -115,6 +119,7 @@ pub record HasForm (sectors : ℕ) (held : Held) : Type 0 where
 -- in formats 1 and 2: so it has to be for c, and each image carries c
 pub record IsInHalf (disk : Disk) (known : HalfKnown) (c : Carried) : Type 0 where
   pub plain : c.rides ≡ false
+  pub identity_is : c.identity ≡ 0
   pub knows : HalfKnows known (half_of c)
   pub carried : (image : Image) → disk.left image → CarriesInHalf (half_of c) image
 
@@ -163,6 +168,7 @@ numbers_after old version half used seq opens blocks =
       used = used;
       seq = seq;
       opens = opens;
+      identity = old.identity;
       settled = true;
       next = if old.rides then old.next + 1 else 0;
       blocks = blocks;

@@ -20,6 +20,8 @@ pub record JournalView (D : Type 0) : Type 0 where
   pub bytes : List ℕ
   pub seq : ℕ
   pub opens : ℕ
+  -- the identity of the store, in format 3; else 0
+  pub identity : ℕ
   -- the device failed
   pub broken : Bool
   -- a commit may be made: in format 3 once the opening was counted
@@ -32,7 +34,7 @@ pub record JournalView (D : Type 0) : Type 0 where
 
 -- what each of its images carries, as it is seen
 abbrev pub carried_of : {D : Type 0} → JournalView D → Carried
-carried_of view = record { version = view.version; rides = view.rides; half = view.half; bytes = view.bytes; seq = view.seq; opens = view.opens }
+carried_of view = record { version = view.version; rides = view.rides; half = view.half; bytes = view.bytes; seq = view.seq; opens = view.opens; identity = view.identity }
 
 -- what holds of every journal: its numbers fit the device, and of a working one on an honest device each image that its format withstands carries what it is seen as
 pub record IsKept {D : Type 0} (disk : Disk) (view : JournalView D) : Type 0 where

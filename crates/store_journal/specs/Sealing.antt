@@ -20,6 +20,7 @@ pub record Sealed {D : Type 0} (disk new_disk : Disk) (old new : JournalView D) 
   pub half : new.half ≡ old.half
   pub seq : new.seq ≡ old.seq
   pub opens : new.opens ≡ old.opens
+  pub identity : new.identity ≡ old.identity
   pub sectors : new.sectors ≡ old.sectors
   pub works : new.broken ≡ false
   pub settled : new.settled ≡ true

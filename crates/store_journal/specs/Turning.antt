@@ -8,7 +8,7 @@ use Rattle.commit_slots.specs.declared.slot.Slot.{Slot}
 use Rattle.half_journal.specs.declared.commit_sector.Commit.{Commit}
 use Rattle.slot_commits.specs.Loads.{number_end}
 use Rattle.store_journal.specs.Calls.{Moved, Stays}
-use Rattle.store_journal.specs.Carries.{turned}
+use Rattle.store_journal.specs.Carries.{identity_in, turned}
 use Rattle.store_journal.specs.Held.{Numbers}
 use Rattle.store_journal.specs.JournalView.{JournalView, carried_of}
 use Rattle.store_journal.specs.Writes.{downgrade_calls, upgrade_calls}
@@ -18,9 +18,9 @@ use Rattle.refusals.specs.declared.numbers.TheConstants.{BROKEN, DEVICE, MEMORY,
 abbrev pub LeavesNumbers : Image → Type 0
 LeavesNumbers image = IsFresh (number_end - 3) image
 
--- the numbers in the other format: bytes of this size in the other half
-abbrev pub numbers_turned : Numbers → Bool → ℕ → ℕ → ℕ → Numbers
-numbers_turned old rides used next blocks =
+-- the numbers in the other format, in format 3 with this identity: bytes of this size in the other half
+abbrev pub numbers_turned : Numbers → Bool → ℕ → ℕ → ℕ → ℕ → Numbers
+numbers_turned old rides identity used next blocks =
     record {
       sectors = old.sectors;
       version = 2;
@@ -29,6 +29,7 @@ numbers_turned old rides used next blocks =
       used = used;
       seq = old.seq;
       opens = old.opens;
+      identity = identity_in rides identity;
       settled = true;
       next = next;
       blocks = blocks;
@@ -52,8 +53,8 @@ TurnRefusal disk new_disk calls number =
     ⊎ ((number ≡ SEQ_END) × (new_disk.honest → LeavesNumbers disk.seen → ⊥) × Looked disk new_disk)
     ⊎ ((number ≡ DEVICE) × Failed disk new_disk calls)
 
--- An upgrade that succeeded: in format 3, with the target in the other half. It reads, so nothing is said of bytes if the device isn't honest afterwards.
-pub record Upgraded {D : Type 0} (disk new_disk : Disk) (old new : JournalView D) (target : List ℕ) : Type 0 where
+-- An upgrade that succeeded: in format 3 with this identity, with the target in the other half. It reads, so nothing is said of bytes if the device isn't honest afterwards.
+pub record Upgraded {D : Type 0} (disk new_disk : Disk) (old new : JournalView D) (identity : ℕ) (target : List ℕ) : Type 0 where
   pub worked : old.broken ≡ false
   pub numbers : new_disk.honest → LeavesNumbers disk.seen
   pub bytes : new_disk.honest → new.bytes ≡ target
@@ -63,6 +64,7 @@ pub record Upgraded {D : Type 0} (disk new_disk : Disk) (old new : JournalView D
   pub half : new.half ≡ 1 - old.half
   pub seq : new.seq ≡ old.seq
   pub opens : new.opens ≡ old.opens
+  pub identity_is : new.identity ≡ identity
   pub sectors : new.sectors ≡ old.sectors
   pub works : new.broken ≡ false
   pub settled : new.settled ≡ true
@@ -101,4 +103,4 @@ HasNoSlots image = (k : ℕ) → 8 ≤ k → k < 128 → slice_index_or image k 
 
 -- a downgrade that succeeded: in format 2, with the target in the other half
 abbrev pub Downgraded : {D : Type 0} → Disk → Disk → JournalView D → JournalView D → List ℕ → Type 0
-Downgraded disk new_disk old new target = Moved disk new_disk old new (turned false (carried_of old) target) (downgrade_calls (length target))
+Downgraded disk new_disk old new target = Moved disk new_disk old new (turned false 0 (carried_of old) target) (downgrade_calls (length target))

@@ -36,6 +36,7 @@ pub fn count_in_slots<D: SectorDevice>(
         seq: _seq,
         blocks: _blocks,
         check: _check,
+        identity: _identity,
         opens,
         ..
     } = known.slot;

@@ -46,9 +46,9 @@ pub fn downgrade<D: SectorDevice>(
     ensures same { IsSame (D.disk device.old) (D.disk device.new) }
     ensures charges { Charges (D.disk device.old) (D.disk device.new) (downgrade_calls (length target.now)) result }
     ensures formed { IsFormed (D.disk device.new).sectors held.new }
-    ensures numbers { OnOk result (numbers_of held.new ≡ numbers_turned (numbers_of held.old) false (length target.now) 0 0) }
+    ensures numbers { OnOk result (numbers_of held.new ≡ numbers_turned (numbers_of held.old) false 0 (length target.now) 0 0) }
     ensures stays { OnErr result (held.new ≡ held.old) }
-    ensures tried { (c : Carried) → (D.disk device.old).honest → IsOf (D.disk device.old) held.old c → Tried (D.disk device.old) (D.disk device.new) held.new c (turned false c target.now) result }
+    ensures tried { (c : Carried) → (D.disk device.old).honest → IsOf (D.disk device.old) held.old c → Tried (D.disk device.old) (D.disk device.new) held.new c (turned false 0 c target.now) result }
     ensures wiped { (D.disk device.old).honest → OnOk result ((image : Image) → (D.disk device.new).left image → HasNoSlots image) }
 {
     match held {
@@ -76,8 +76,8 @@ fn to_half<D: SectorDevice>(
     ensures charges { Charges (D.disk device.old) (D.disk device.new) (downgrade_calls (length target.now)) result }
     ensures commit { IfOk result (λ half. half.commit ≡ commit_turned known.now.slot (length target.now)) }
     ensures knows { IfOk result (λ half. HalfKnows half (half_state_in (commit_turned known.now.slot (length target.now)) target.now)) }
-    ensures any_moment { (c : Carried) → (D.disk device.old).honest → IsInSlots (D.disk device.old) known.now c → LeavesOnly (weak (D.disk device.old)) (weak (D.disk device.new)) (EitherCarried c (turned false c target.now)) }
-    ensures done { (c : Carried) → (D.disk device.old).honest → IsInSlots (D.disk device.old) known.now c → OnOk result ((image : Image) → (D.disk device.new).left image → CarriesInHalf (half_of (turned false c target.now)) image) }
+    ensures any_moment { (c : Carried) → (D.disk device.old).honest → IsInSlots (D.disk device.old) known.now c → LeavesOnly (weak (D.disk device.old)) (weak (D.disk device.new)) (EitherCarried c (turned false 0 c target.now)) }
+    ensures done { (c : Carried) → (D.disk device.old).honest → IsInSlots (D.disk device.old) known.now c → OnOk result ((image : Image) → (D.disk device.new).left image → CarriesInHalf (half_of (turned false 0 c target.now)) image) }
     ensures wiped { (D.disk device.old).honest → OnOk result ((image : Image) → (D.disk device.new).left image → HasNoSlots image) }
     ensures stays { (c : Carried) → (D.disk device.old).honest → IsInSlots (D.disk device.old) known.now c → bytes_in (D.disk device.new).seen (InSlots known.now None) ≡ c.bytes }
 {

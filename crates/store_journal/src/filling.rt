@@ -15,7 +15,7 @@ use refusals::numbers::{ALREADY_A_STORE, DEVICE, NO_ROOM, SMALL};
 use sector_device::{SectorDevice, read_first};
 use slot_commits::format_slots;
 
-/// Makes `device` a store with these bytes, in format 3 if `rides` and else in format 2, which hold `seq` changes and were
+/// Makes `device` a store with these bytes, in format 3 with this identity if `rides` and else in format 2, which hold `seq` changes and were
 /// opened `opens` times. It takes no memory. In format 2: sync, read 0, the sectors that hold the bytes in ascending order,
 /// sync, write 0, sync. In format 3: sync, a read of the first sector of each slot, and `format_slots`. A crash at any
 /// moment leaves no store, or all of it; in format 3 also if it tears blocks of sectors.
@@ -30,15 +30,16 @@ pub fn format_with<D: SectorDevice>(
     seq: u64,
     opens: u64,
     rides: bool,
+    identity: u128,
 ) -> Result<(), FormatFault>
-    ensures ok { OnOk result (Filled (D.disk device.old) (D.disk device.new) (filled rides bytes.now seq opens)) }
-    ensures err { IfErr result (λ fault. FillRefusal (D.disk device.old) (D.disk device.new) (filled rides bytes.now seq opens) fault.number) }
+    ensures ok { OnOk result (Filled (D.disk device.old) (D.disk device.new) (filled rides bytes.now seq opens identity)) }
+    ensures err { IfErr result (λ fault. FillRefusal (D.disk device.old) (D.disk device.new) (filled rides bytes.now seq opens identity) fault.number) }
     ensures any_moment { (D.disk device.new).honest → LeavesOnly (model rides (D.disk device.old)) (model rides (D.disk device.new))
-        (NoneOrAll rides (D.disk device.old) (Carries (filled rides bytes.now seq opens))) }
+        (NoneOrAll rides (D.disk device.old) (Carries (filled rides bytes.now seq opens identity))) }
     ensures same { IsSameRead (D.disk device.old) (D.disk device.new) }
 {
     if rides {
-        fill_riding(device, bytes, seq, opens)
+        fill_riding(device, bytes, seq, opens, identity)
     } else {
         fill_plain(device, bytes, seq, opens)
     }
@@ -51,10 +52,10 @@ fn fill_plain<D: SectorDevice>(
     seq: u64,
     opens: u64,
 ) -> Result<(), FormatFault>
-    ensures ok { OnOk result (Filled (D.disk device.old) (D.disk device.new) (filled false bytes.now seq opens)) }
-    ensures err { IfErr result (λ fault. FillRefusal (D.disk device.old) (D.disk device.new) (filled false bytes.now seq opens) fault.number) }
+    ensures ok { OnOk result (Filled (D.disk device.old) (D.disk device.new) (filled false bytes.now seq opens 0)) }
+    ensures err { IfErr result (λ fault. FillRefusal (D.disk device.old) (D.disk device.new) (filled false bytes.now seq opens 0) fault.number) }
     ensures any_moment { (D.disk device.new).honest → LeavesOnly (D.disk device.old) (D.disk device.new)
-        (NoneOrAll false (D.disk device.old) (Carries (filled false bytes.now seq opens))) }
+        (NoneOrAll false (D.disk device.old) (Carries (filled false bytes.now seq opens 0))) }
     ensures same { IsSameRead (D.disk device.old) (D.disk device.new) }
 {
     let sectors = device.sectors();
@@ -86,11 +87,12 @@ fn fill_riding<D: SectorDevice>(
     bytes: &[u8],
     seq: u64,
     opens: u64,
+    identity: u128,
 ) -> Result<(), FormatFault>
-    ensures ok { OnOk result (Filled (D.disk device.old) (D.disk device.new) (filled true bytes.now seq opens)) }
-    ensures err { IfErr result (λ fault. FillRefusal (D.disk device.old) (D.disk device.new) (filled true bytes.now seq opens) fault.number) }
+    ensures ok { OnOk result (Filled (D.disk device.old) (D.disk device.new) (filled true bytes.now seq opens identity)) }
+    ensures err { IfErr result (λ fault. FillRefusal (D.disk device.old) (D.disk device.new) (filled true bytes.now seq opens identity) fault.number) }
     ensures any_moment { (D.disk device.new).honest → LeavesOnly (model true (D.disk device.old)) (model true (D.disk device.new))
-        (NoneOrAll true (D.disk device.old) (Carries (filled true bytes.now seq opens))) }
+        (NoneOrAll true (D.disk device.old) (Carries (filled true bytes.now seq opens identity))) }
     ensures same { IsSameRead (D.disk device.old) (D.disk device.new) }
 {
     let sectors = device.sectors();
@@ -110,7 +112,7 @@ fn fill_riding<D: SectorDevice>(
             }
         }
     }
-    match format_slots(device, bytes, seq, opens) {
+    match format_slots(device, bytes, seq, opens, identity) {
         Err(_) => Err(FormatFault { number: DEVICE }),
         Ok(()) => Ok(()),
     }

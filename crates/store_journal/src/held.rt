@@ -99,6 +99,16 @@ impl Held {
         }
     }
 
+    /// The identity of the store in format 3; in formats 1 and 2 it has none, and this is 0.
+    pub fn identity(&self) -> u128
+        ensures { result ≡ (numbers_of self.now).identity }
+    {
+        match self {
+            Held::InHalf(_) => 0,
+            Held::InSlots { known, .. } => known.slot.identity,
+        }
+    }
+
     /// Whether a number is left for the next commit: in format 3 numbers end, and the last are for openings.
     pub fn has_number(&self) -> bool
         ensures { IsTrue result ↔ ((numbers_of self.now).next < number_end) }

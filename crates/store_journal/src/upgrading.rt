@@ -29,12 +29,13 @@ use slot_commits::{NUMBER_END, convert, find};
 use slot_journal::{Known, recovered};
 use std::alloc::Global;
 
-/// Brings a journal in format 2 whose half 1 counts to format 3, with `target` as its bytes, in half 0. `MEMORY` or
+/// Brings a journal in format 2 whose half 1 counts to format 3 with this identity, with `target` as its bytes, in half 0. `MEMORY` or
 /// `SEQ_END`: nothing was written. `DEVICE`: a call of the device failed, and none was made after it.
 pub fn upgrade<D: SectorDevice>(
     alloc: Global,
     device: &mut D,
     held: &mut Held,
+    identity: u128,
     target: &[u8],
 ) -> Result<(), JournalFault>
     requires formed { IsFormed (D.disk device.old).sectors held.old }
@@ -46,14 +47,14 @@ pub fn upgrade<D: SectorDevice>(
     ensures refused { IfErr result (λ fault. TurnRefusal (D.disk device.old) (D.disk device.new) (upgrade_calls (length target.now)) fault.number) }
     ensures leaves { (D.disk device.new).honest → OnOk result (LeavesNumbers (D.disk device.old).seen) }
     ensures formed { IsFormed (D.disk device.new).sectors held.new }
-    ensures numbers { OnOk result (numbers_of held.new ≡ numbers_turned (numbers_of held.old) true (length target.now) (numbers_of held.new).next (numbers_of held.new).blocks) }
+    ensures numbers { OnOk result (numbers_of held.new ≡ numbers_turned (numbers_of held.old) true identity (length target.now) (numbers_of held.new).next (numbers_of held.new).blocks) }
     ensures next { OnOk result ((numbers_of held.new).next < number_end) }
     ensures stays { OnErr result (held.new ≡ held.old) }
-    ensures tried { (c : Carried) → (D.disk device.new).honest → IsOf (D.disk device.old) held.old c → Tried (D.disk device.old) (D.disk device.new) held.new c (turned true c target.now) result }
+    ensures tried { (c : Carried) → (D.disk device.new).honest → IsOf (D.disk device.old) held.old c → Tried (D.disk device.old) (D.disk device.new) held.new c (turned true identity c target.now) result }
 {
     match held {
         Held::InHalf(known) => {
-            let known = to_slots(alloc, device, *known, target)?;
+            let known = to_slots(alloc, device, *known, identity, target)?;
             *held = Held::InSlots {
                 known,
                 awaits: None,
@@ -69,6 +70,7 @@ fn to_slots<D: SectorDevice>(
     alloc: Global,
     device: &mut D,
     known: HalfKnown,
+    identity: u128,
     target: &[u8],
 ) -> Result<Known, JournalFault>
     requires formed { IsHalfFormed (D.disk device.old).sectors known }
@@ -79,20 +81,20 @@ fn to_slots<D: SectorDevice>(
     ensures refused { IfErr result (λ fault. TurnRefusal (D.disk device.old) (D.disk device.new) (upgrade_calls (length target.now)) fault.number) }
     ensures leaves { (D.disk device.new).honest → OnOk result (LeavesNumbers (D.disk device.old).seen) }
     ensures formed { IfOk result (λ slots. IsRidingFormed (D.disk device.new).sectors slots None) }
-    ensures slot { IfOk result (λ slots. slots.slot ≡ slot_of (formatted target.now known.commit.seq known.commit.opens) known.commit.sectors slots.slot.number) }
+    ensures slot { IfOk result (λ slots. slots.slot ≡ slot_of (formatted target.now known.commit.seq known.commit.opens identity) known.commit.sectors slots.slot.number) }
     ensures next { IfOk result (λ slots. slots.slot.number + 1 < number_end) }
-    ensures any_moment { (c : Carried) → (D.disk device.new).honest → IsInHalf (D.disk device.old) known c → LeavesOnly (D.disk device.old) (D.disk device.new) (EitherCarried c (turned true c target.now)) }
-    ensures done { (c : Carried) → (D.disk device.new).honest → IsInHalf (D.disk device.old) known c → IfOk result (λ slots. IsInSlots (D.disk device.new) slots (turned true c target.now)) }
+    ensures any_moment { (c : Carried) → (D.disk device.new).honest → IsInHalf (D.disk device.old) known c → LeavesOnly (D.disk device.old) (D.disk device.new) (EitherCarried c (turned true identity c target.now)) }
+    ensures done { (c : Carried) → (D.disk device.new).honest → IsInHalf (D.disk device.old) known c → IfOk result (λ slots. IsInSlots (D.disk device.new) slots (turned true identity c target.now)) }
     ensures stays { (c : Carried) → (D.disk device.new).honest → IsInHalf (D.disk device.old) known c → bytes_in (D.disk device.new).seen (InHalf known) ≡ c.bytes }
 {
     let Commit { seq, opens, .. } = known.commit;
     let number = settle_numbers(alloc, device)?;
-    let slot = slot_for(target, known.commit, number + 1);
+    let slot = slot_for(target, known.commit, identity, number + 1);
     let slots = match recovered(alloc, slot, target) {
         Ok(slots) => slots,
         Err(_) => return Err(JournalFault { number: MEMORY }),
     };
-    match convert(device, target, seq, opens, number) {
+    match convert(device, target, seq, opens, identity, number) {
         Ok(()) => Ok(slots),
         Err(_) => Err(JournalFault { number: DEVICE }),
     }
@@ -126,10 +128,10 @@ fn settle_numbers<D: SectorDevice>(alloc: Global, device: &mut D) -> Result<u64,
 }
 
 // The slot of a commit of the target with that one's numbers: half 0 has all its whole blocks.
-fn slot_for(target: &[u8], commit: Commit, number: u64) -> Slot
+fn slot_for(target: &[u8], commit: Commit, identity: u128, number: u64) -> Slot
     requires fits { length target.now ≤ slots_capacity commit.sectors }
     requires most { commit.sectors ≤ 2 ^ 32 }
-    ensures { result ≡ slot_of (formatted target.now commit.seq commit.opens) commit.sectors number }
+    ensures { result ≡ slot_of (formatted target.now commit.seq commit.opens identity) commit.sectors number }
 {
     let blocks = target.len() as u64 / BLOCK_BYTES;
     let whole = (blocks * BLOCK_BYTES) as usize;
@@ -142,5 +144,6 @@ fn slot_for(target: &[u8], commit: Commit, number: u64) -> Slot
         half: 0,
         blocks: blocks as u32,
         check: crc32c(&target[..whole]),
+        identity,
     }
 }

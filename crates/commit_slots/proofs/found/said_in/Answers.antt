@@ -5,7 +5,7 @@ use Rattle.commit_slots.proofs.found.said_in.Goals as goal
 
 pub returns : goal.returns
 returns c = λ sectors slot tail of is.
-    let said : Slot = record { number = c.number_of.result; length = c.u64_at.result; seq = c.u64_at-2.result; opens = c.u64_at-3.result; sectors = c.u64_at-4.result; half = c.u32_at.result; blocks = c.u32_at-2.result; check = c.u32_at-3.result } in
+    let said : Slot = record { number = c.number_of.result; length = c.u64_at.result; seq = c.u64_at-2.result; opens = c.u64_at-3.result; sectors = c.u64_at-4.result; half = c.u32_at.result; blocks = c.u32_at-2.result; check = c.u32_at-3.result; identity = c.u128_at.result } in
     let read : said ≡ said_in c.args.first.now = λ i. record {
       number = c.number_of.ensures i;
       length = c.u64_at.ensures i;
@@ -15,5 +15,6 @@ returns c = λ sectors slot tail of is.
       half = c.u32_at.ensures i;
       blocks = c.u32_at-2.ensures i;
       check = c.u32_at-3.ensures i;
+      identity = c.u128_at.ensures i;
     } in
     read ∙ ap said_in is ∙ said_is sectors slot tail of

@@ -11,6 +11,6 @@ returns-clause-converted g c = λ torn can.
     let bytes = c.args.bytes.now in
     let turned : length bytes / 4096 * 4096 ≡ 4096 * (length bytes / 4096) = omega arith in
     let check = c.crc32c.ensures ∙ ap (λ (n : ℕ). crc_of (take n bytes)) turned in
-    let named : record { number = c.args.number; length = length bytes; seq = c.args.seq; opens = c.args.opens; sectors = c.sectors.result; half = 0; blocks = length bytes / 4096; check = c.crc32c.result } ≡ slot_of (formatted bytes c.args.seq c.args.opens) old.sectors c.args.number
-    = (λ i. record { number = c.args.number; length = length bytes; seq = c.args.seq; opens = c.args.opens; sectors = c.sectors.ensures i; half = 0; blocks = length bytes / 4096; check = check i }) in
-    c.write_pairs.ensures.converted torn (formatted bytes c.args.seq c.args.opens) can named (take_rest bytes (length bytes / 4096 * 4096) ∙ ap (λ (n : ℕ). drop n bytes) turned) refl
+    let named : record { number = c.args.number; length = length bytes; seq = c.args.seq; opens = c.args.opens; sectors = c.sectors.result; half = 0; blocks = length bytes / 4096; check = c.crc32c.result; identity = c.args.identity } ≡ slot_of (formatted bytes c.args.seq c.args.opens c.args.identity) old.sectors c.args.number
+    = (λ i. record { number = c.args.number; length = length bytes; seq = c.args.seq; opens = c.args.opens; sectors = c.sectors.ensures i; half = 0; blocks = length bytes / 4096; check = check i; identity = c.args.identity }) in
+    c.write_pairs.ensures.converted torn (formatted bytes c.args.seq c.args.opens c.args.identity) can named (take_rest bytes (length bytes / 4096 * 4096) ∙ ap (λ (n : ℕ). drop n bytes) turned) refl

@@ -14,7 +14,7 @@ returns-in-InHalf-clause-tried g c = λ state honest is.
     let known = c.in-InHalf.known in
     let now = subst (λ (h : Held). IsOf old h state) c.in-InHalf.is is in
     let formed = subst (IsFormed old.sectors) c.in-InHalf.is c.requires.formed in
-    half_tried old (g.D.SectorDevice.disk c.commit.new.device) known c.commit.new.known state (appended state c.args.bytes.now c.args.adds) _ c.commit.result formed.size now.knows now.plain now.plain
+    half_tried old (g.D.SectorDevice.disk c.commit.new.device) known c.commit.new.known state (appended state c.args.bytes.now c.args.adds) _ c.commit.result formed.size now.knows now.plain now.plain now.identity_is now.identity_is
     (c.commit.ensures.tried (half_of state) honest now.knows now.carried tt) refl (c.commit.ensures.knows (half_of state) now.knows) c.commit.ensures.stays
 
 pub returns-in-InHalf-clause-others : goal.returns-in-InHalf-clause-others

@@ -16,7 +16,7 @@ returns-in-InHalf-clause-tried g c = λ state honest is.
     let seq_is : state.seq ≡ state.seq + 0 = omega arith in
     let next_is : half_of (counted state) ≡ record { version = state.version; half = state.half; bytes = state.bytes ++ []; seq = state.seq + 0; opens = one_more state.opens } =
     λ i. record { version = state.version; half = state.half; bytes = sym (append-nil state.bytes) i; seq = seq_is i; opens = one_more state.opens } in
-    half_tried old (g.D.SectorDevice.disk c.commit.new.device) known c.commit.new.known state (counted state) _ c.commit.result formed.size now.knows now.plain now.plain
+    half_tried old (g.D.SectorDevice.disk c.commit.new.device) known c.commit.new.known state (counted state) _ c.commit.result formed.size now.knows now.plain now.plain now.identity_is now.identity_is
     (c.commit.ensures.tried (half_of state) honest now.knows now.carried tt) next_is (knows_by c.commit.new.known c.commit.result next_is (c.commit.ensures.knows (half_of state) now.knows)) c.commit.ensures.stays
 
 pub returns-in-InHalf-clause-others : goal.returns-in-InHalf-clause-others

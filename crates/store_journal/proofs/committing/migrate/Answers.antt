@@ -16,5 +16,5 @@ returns-clause-tried g c = λ state honest is.
     let seq_is : state.seq ≡ state.seq + 0 = omega arith in
     let next_is : half_of (migrated state c.args.target.now) ≡ record { version = 2; half = 1 - state.half; bytes = c.args.target.now ++ []; seq = state.seq + 0; opens = one_more state.opens } =
     λ i. record { version = 2; half = 1 - state.half; bytes = sym (append-nil c.args.target.now) i; seq = seq_is i; opens = one_more state.opens } in
-    half_tried old (g.D.SectorDevice.disk c.commit.new.device) known c.commit.new.known state (migrated state c.args.target.now) _ c.commit.result formed.size now.knows now.plain refl
+    half_tried old (g.D.SectorDevice.disk c.commit.new.device) known c.commit.new.known state (migrated state c.args.target.now) _ c.commit.result formed.size now.knows now.plain refl now.identity_is now.identity_is
     (c.commit.ensures.tried (half_of state) honest now.knows now.carried tt) next_is (knows_by c.commit.new.known c.commit.result next_is (c.commit.ensures.knows (half_of state) now.knows)) c.commit.ensures.stays

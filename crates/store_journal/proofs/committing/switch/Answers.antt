@@ -25,7 +25,7 @@ returns-in-InHalf-clause-tried g c = λ state n honest is copied.
     let version : known.commit.format ≡ state.version = ap (λ (m : Commit). m.format) now.knows.commit_is in
     let next_is : half_of (replaced state target c.args.adds) ≡ record { version = known.commit.format; half = 1 - state.half; bytes = target ++ []; seq = state.seq + c.args.adds; opens = state.opens } =
     λ i. record { version = sym version i; half = 1 - state.half; bytes = sym (append-nil target) i; seq = state.seq + c.args.adds; opens = state.opens } in
-    half_tried old (g.D.SectorDevice.disk c.commit.new.device) known c.commit.new.known state (replaced state target c.args.adds) _ c.commit.result formed.size now.knows now.plain now.plain
+    half_tried old (g.D.SectorDevice.disk c.commit.new.device) known c.commit.new.known state (replaced state target c.args.adds) _ c.commit.result formed.size now.knows now.plain now.plain now.identity_is now.identity_is
     (c.commit.ensures.tried (half_of state) honest now.knows now.carried (half_copied old.seen known state n target now.knows there)) next_is (knows_by c.commit.new.known c.commit.result next_is (c.commit.ensures.knows (half_of state) now.knows)) c.commit.ensures.stays
 
 pub returns-in-InHalf-clause-others : goal.returns-in-InHalf-clause-others

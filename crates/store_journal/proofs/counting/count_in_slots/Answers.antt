@@ -23,8 +23,8 @@ returns-in-None-clause-tried g c = λ state honest is.
     let formed = c.requires.formed.formed in
     let left = subst (λ (a : Option Awaiting). next_of a known.slot < number_end) c.in-None.is c.requires.number in
     let seq_is : state.seq ≡ state.seq + 0 = omega arith in
-    let next_is : counted state ≡ record { version = state.version; rides = state.rides; half = state.half; bytes = state.bytes ++ []; seq = state.seq + 0; opens = one_more state.opens } =
-    λ i. record { version = state.version; rides = state.rides; half = state.half; bytes = sym (append-nil state.bytes) i; seq = seq_is i; opens = one_more state.opens } in
+    let next_is : counted state ≡ record { version = state.version; rides = state.rides; half = state.half; bytes = state.bytes ++ []; seq = state.seq + 0; opens = one_more state.opens; identity = state.identity } =
+    λ i. record { version = state.version; rides = state.rides; half = state.half; bytes = sym (append-nil state.bytes) i; seq = seq_is i; opens = one_more state.opens; identity = state.identity } in
     subst (λ (a : Option Awaiting). Tried old new (InSlots c.append.new.known a) state (counted state) c.append.result) (sym c.in-None.is)
     (append_tried known c.append.new.known state [] 0 c.saturating_add-opens.result (one_more state.opens) (counted state) now.knows (c.saturating_add-opens.ensures ∙ ap (λ (s : Slot). one_more s.opens) now.knows.slot_is) next_is old new c.append.new.known.slot.check
     (g.met.D.SectorDevice.torn_coherent c.args.device.now honest) (g.met.D.SectorDevice.coherent c.append.new.device new_honest) (g.met.D.SectorDevice.torn_coherent c.append.new.device new_honest) same.size formed (omega (arith, left)) now

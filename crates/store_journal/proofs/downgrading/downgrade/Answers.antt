@@ -24,10 +24,10 @@ returns-clause-tried g c = λ state honest is.
     let now = in_slots c.in-InSlots.awaits settled (subst (λ (h : Held). IsOf old h state) c.in-InSlots.is is) in
     let was : known.slot.half ≡ state.half = ap (λ (s : Slot). s.half) now.knows.slot_is in
     let other : 1 ≡ 1 - state.half = omega (arith, zeroth, was) in
-    let same : half_state_in (commit_turned known.slot (length target)) target ≡ half_of (turned false state target) =
+    let same : half_state_in (commit_turned known.slot (length target)) target ≡ half_of (turned false 0 state target) =
     λ i. record { version = 2; half = other i; bytes = target; seq = (now.knows.slot_is i).seq; opens = (now.knows.slot_is i).opens } in
     record {
-      any_moment = subst (λ (b : Bool). LeavesOnly (model b old) (model b new) (EitherCarried state (turned false state target))) (sym now.rides_is) (made.any_moment state honest now);
-      done = record { plain = refl; knows = subst (HalfKnows half) same made.knows; carried = made.done state honest now };
+      any_moment = subst (λ (b : Bool). LeavesOnly (model b old) (model b new) (EitherCarried state (turned false 0 state target))) (sym now.rides_is) (made.any_moment state honest now);
+      done = record { plain = refl; identity_is = refl; knows = subst (HalfKnows half) same made.knows; carried = made.done state honest now };
       stays = tt;
     }

@@ -27,7 +27,7 @@ returns-in-Ok-format_slots-clause-ok g c =
       fresh = λ honest. fresh (c.format_slots.ensures.same.honest.1 honest);
       empty = λ honest.
           let was = c.format_slots.ensures.same.honest.1 honest in
-          all_carry [] 0 0 new (g.met.D.SectorDevice.torn_coherent c.format_slots.new.device honest) (omega (arith, size, sized.at_least)) (omega (arith, size, sized.at_most))
+          all_carry [] 0 0 c.args.identity new (g.met.D.SectorDevice.torn_coherent c.format_slots.new.device honest) (omega (arith, size, sized.at_least)) (omega (arith, size, sized.at_most))
           (λ torn told image left.
           (c.in-Ok-format_slots.ensures.formatted (Some torn) told.noticed was
           (λ before stays marked. fresh was (subst IsMarked (c.in-Ok.ensures.alone was before (torn, subst (λ (n : ℕ). IsTold n torn) c.format_slots.ensures.same.size told, stays)) marked))).done image left);

@@ -40,8 +40,8 @@ returns-in-Ok-convert-clause-any_moment g c = λ state honest is.
     let coherent_new = g.met.D.SectorDevice.coherent c.convert.new.device honest in
     let end : number + 2 ≤ number_end = omega (arith, c.in_ok-number.ensures.odd.1) in
     let converting = (c.convert.ensures.converted None can).any_moment in
-    joined old mid new (EitherCarried state (turned true state target)) (looked_moment old mid known state (turned true state target) (first.keeps was) is)
-    (upgrade_moment mid new known state target number coherent coherent_new size c.requires.half c.requires.between end now can.alone converting (c.convert.ensures.sector_0 None was))
+    joined old mid new (EitherCarried state (turned true c.args.identity state target)) (looked_moment old mid known state (turned true c.args.identity state target) (first.keeps was) is)
+    (upgrade_moment mid new known state c.args.identity target number coherent coherent_new size c.requires.half c.requires.between end now can.alone converting (c.convert.ensures.sector_0 None was))
 
 pub returns-in-Ok-convert-clause-stays : goal.returns-in-Ok-convert-clause-stays
 returns-in-Ok-convert-clause-stays g c = λ state honest is.
@@ -61,7 +61,7 @@ returns-in-Ok-convert-clause-stays g c = λ state honest is.
     let coherent_new = g.met.D.SectorDevice.coherent c.convert.new.device honest in
     let end : number + 2 ≤ number_end = omega (arith, c.in_ok-number.ensures.odd.1) in
     let converting = (c.convert.ensures.converted None can).any_moment in
-    upgrade_stays mid new known state target number coherent coherent_new size c.requires.half c.requires.between end now can.alone converting
+    upgrade_stays mid new known state c.args.identity target number coherent coherent_new size c.requires.half c.requires.between end now can.alone converting
 
 pub returns-in-Err-convert-clause-any_moment : goal.returns-in-Err-convert-clause-any_moment
 returns-in-Err-convert-clause-any_moment g c = λ state honest is.
@@ -81,8 +81,8 @@ returns-in-Err-convert-clause-any_moment g c = λ state honest is.
     let coherent_new = g.met.D.SectorDevice.coherent c.convert.new.device honest in
     let end : number + 2 ≤ number_end = omega (arith, c.in_ok-number.ensures.odd.1) in
     let converting = (c.convert.ensures.converted None can).any_moment in
-    joined old mid new (EitherCarried state (turned true state target)) (looked_moment old mid known state (turned true state target) (first.keeps was) is)
-    (upgrade_moment mid new known state target number coherent coherent_new size c.requires.half c.requires.between end now can.alone converting (c.convert.ensures.sector_0 None was))
+    joined old mid new (EitherCarried state (turned true c.args.identity state target)) (looked_moment old mid known state (turned true c.args.identity state target) (first.keeps was) is)
+    (upgrade_moment mid new known state c.args.identity target number coherent coherent_new size c.requires.half c.requires.between end now can.alone converting (c.convert.ensures.sector_0 None was))
 
 pub returns-in-Err-convert-clause-stays : goal.returns-in-Err-convert-clause-stays
 returns-in-Err-convert-clause-stays g c = λ state honest is.
@@ -102,7 +102,7 @@ returns-in-Err-convert-clause-stays g c = λ state honest is.
     let coherent_new = g.met.D.SectorDevice.coherent c.convert.new.device honest in
     let end : number + 2 ≤ number_end = omega (arith, c.in_ok-number.ensures.odd.1) in
     let converting = (c.convert.ensures.converted None can).any_moment in
-    upgrade_stays mid new known state target number coherent coherent_new size c.requires.half c.requires.between end now can.alone converting
+    upgrade_stays mid new known state c.args.identity target number coherent coherent_new size c.requires.half c.requires.between end now can.alone converting
 
 pub returns-in-Ok-convert-clause-done : goal.returns-in-Ok-convert-clause-done
 returns-in-Ok-convert-clause-done g c = λ state honest is.
@@ -122,8 +122,8 @@ returns-in-Ok-convert-clause-done g c = λ state honest is.
     let blocks = ap (λ (m : Slot). m.blocks) made in
     let slot_is = there.0 ∙ made in
     let tail_is = subst (λ (n : ℕ). take (length target - 4096 * n) slots.tail.items ≡ drop (4096 * n) target) blocks c.in-Ok.ensures.tail in
-    let knows = knows_whole slots (formatted target known.commit.seq known.commit.opens) known.commit.sectors (number + 1) slot_is (there.1 ∙ ap (λ (m : Slot). m.check) made) refl tail_is in
-    upgrade_done new known slots state target number is.knows.commit_is c.requires.half c.in_ok-number.ensures.odd.0 slot_is knows
+    let knows = knows_whole slots (formatted target known.commit.seq known.commit.opens c.args.identity) known.commit.sectors (number + 1) slot_is (there.1 ∙ ap (λ (m : Slot). m.check) made) refl tail_is in
+    upgrade_done new known slots state c.args.identity target number is.knows.commit_is c.requires.half c.in_ok-number.ensures.odd.0 slot_is knows
     (λ torn told image left. (c.in-Ok-convert.ensures.converted (Some torn) (c.in_ok-number.ensures.can (Some torn) told.noticed was)).done image left)
 
 pub returns-in-Err-convert-clause-refused : goal.returns-in-Err-convert-clause-refused

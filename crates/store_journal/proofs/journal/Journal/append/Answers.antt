@@ -58,7 +58,7 @@ returns-in-Ok-clause-ok g c =
     let more = length c.args.bytes.now in
     rw (← c.self.view_is)
     (became j new next ((numbers_of j.held).used + more) (length (view_of j).bytes + more) (append_calls (numbers_of j.held).rides (length (view_of j).bytes) more) (numbers_of c.append.new.held).blocks
-    c.in-Ok.ensures.numbers (ap (λ (n : ℕ). n + more) (sym (used_is j))) refl works
+    c.in-Ok.ensures.numbers (ap (λ (n : ℕ). n + more) (sym (used_is j))) refl refl works
     (λ honest.
     let now = c.append.ensures.same.honest.0 honest in
     reads_of new_disk (g.met.D.SectorDevice.coherent c.append.new.device now) (g.met.D.SectorDevice.torn_coherent c.append.new.device now) c.append.new.held next c.append.ensures.formed

@@ -45,7 +45,7 @@ returns-in-Ok-clause-ok g c =
     (record {
       worked = works;
       became = (became j new next ((numbers_of j.held).used) (length (view_of j).bytes) (count_calls (numbers_of j.held).rides (numbers_of j.held).settled (length (view_of j).bytes) (numbers_of j.held).blocks) (numbers_of c.count_open.new.held).blocks
-          c.in-Ok.ensures.numbers (ap (λ (n : ℕ). n) (sym (used_is j))) refl works
+          c.in-Ok.ensures.numbers (ap (λ (n : ℕ). n) (sym (used_is j))) refl refl works
           (λ honest.
           let now = c.count_open.ensures.same.honest.0 honest in
           reads_of new_disk (g.met.D.SectorDevice.coherent c.count_open.new.device now) (g.met.D.SectorDevice.torn_coherent c.count_open.new.device now) c.count_open.new.held next c.count_open.ensures.formed

@@ -24,7 +24,7 @@ pub invariant_of-self : goal.invariant_of-self
 invariant_of-self g c =
     let j = c.self.inside in
     let new = after {G = g.D.SectorDevice} c.downgrade.new.device c.downgrade.new.held j.broken 0 c.downgrade.ensures.formed (none_copied c.downgrade.new.held) in
-    sound_after new (turned false (carried_of (view_of j)) c.args.target.now) g.met.D.SectorDevice.coherent g.met.D.SectorDevice.torn_coherent
+    sound_after new (turned false 0 (carried_of (view_of j)) c.args.target.now) g.met.D.SectorDevice.coherent g.met.D.SectorDevice.torn_coherent
     (λ honest works. let was = c.downgrade.ensures.same.honest.1 honest in (c.in-Ok.ensures.tried (carried_of (view_of j)) was (c.self.invariant was works)).done)
 
 pub returns-in-Ok-clause-kept : goal.returns-in-Ok-clause-kept
@@ -43,7 +43,7 @@ returns-in-Ok-clause-ok g c =
     (downgraded_to j new target c.in-Ok.ensures.numbers works works refl
     (λ honest.
     let now = c.downgrade.ensures.same.honest.0 honest in
-    reads_of (g.D.SectorDevice.disk c.downgrade.new.device) (g.met.D.SectorDevice.coherent c.downgrade.new.device now) (g.met.D.SectorDevice.torn_coherent c.downgrade.new.device now) c.downgrade.new.held (turned false (carried_of (view_of j)) target) c.downgrade.ensures.formed
+    reads_of (g.D.SectorDevice.disk c.downgrade.new.device) (g.met.D.SectorDevice.coherent c.downgrade.new.device now) (g.met.D.SectorDevice.torn_coherent c.downgrade.new.device now) c.downgrade.new.held (turned false 0 (carried_of (view_of j)) target) c.downgrade.ensures.formed
     (c.in-Ok.ensures.tried (carried_of (view_of j)) honest (c.self.invariant honest works)).done)
     c.in-Ok.ensures.charges)
 

@@ -36,7 +36,7 @@ returns-in-Ok-clause-ok g c =
     (record {
       worked = works;
       became = (became j new next (length c.args.target.now) (length c.args.target.now) (sectors_of (length c.args.target.now) + 3) 0
-          c.in-Ok.ensures.numbers refl (ap (λ (v : JournalView g.row.D.Denot). v.rides) c.self.view_is ∙ c.requires.plain) works
+          c.in-Ok.ensures.numbers refl (ap (λ (v : JournalView g.row.D.Denot). v.rides) c.self.view_is ∙ c.requires.plain) refl works
           (λ honest.
           let now = c.migrate.ensures.same.honest.0 honest in
           reads_of new_disk (g.met.D.SectorDevice.coherent c.migrate.new.device now) (g.met.D.SectorDevice.torn_coherent c.migrate.new.device now) c.migrate.new.held next c.migrate.ensures.formed

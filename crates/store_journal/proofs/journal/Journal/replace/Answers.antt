@@ -44,7 +44,7 @@ returns-in-Ok-clause-ok g c =
     (record {
       worked = works;
       became = (became j new next (length c.args.target.now) (length c.args.target.now) (switch_calls (numbers_of j.held).rides (length c.args.target.now)) (numbers_of c.switch.new.held).blocks
-          c.in-Ok.ensures.numbers refl refl works
+          c.in-Ok.ensures.numbers refl refl refl works
           (λ honest.
           let now = c.switch.ensures.same.honest.0 honest in
           reads_of new_disk (g.met.D.SectorDevice.coherent c.switch.new.device now) (g.met.D.SectorDevice.torn_coherent c.switch.new.device now) c.switch.new.held next c.switch.ensures.formed

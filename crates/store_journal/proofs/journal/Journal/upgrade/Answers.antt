@@ -15,7 +15,7 @@ pub invariant_of-self : goal.invariant_of-self
 invariant_of-self g c =
     let j = c.self.inside in
     let new = after {G = g.D.SectorDevice} c.upgrade.new.device c.upgrade.new.held j.broken 0 c.upgrade.ensures.formed (none_copied c.upgrade.new.held) in
-    sound_after new (turned true (carried_of (view_of j)) c.args.target.now) g.met.D.SectorDevice.coherent g.met.D.SectorDevice.torn_coherent
+    sound_after new (turned true c.args.identity (carried_of (view_of j)) c.args.target.now) g.met.D.SectorDevice.coherent g.met.D.SectorDevice.torn_coherent
     (λ honest works. let was = c.upgrade.ensures.same.honest honest in (c.in-Ok.ensures.tried (carried_of (view_of j)) honest (c.self.invariant was works)).done)
 
 pub returns-in-Ok-clause-kept : goal.returns-in-Ok-clause-kept
@@ -31,10 +31,10 @@ returns-in-Ok-clause-ok g c =
     let works = (ap (λ (v : JournalView g.row.D.Denot). v.broken) c.self.view_is ∙ sym c.is_broken.ensures.broken ∙ c.if-is_broken.false) in
     let new = after {G = g.D.SectorDevice} c.upgrade.new.device c.upgrade.new.held j.broken 0 c.upgrade.ensures.formed (none_copied c.upgrade.new.held) in
     rw (← c.self.view_is)
-    (upgraded_to j new target (numbers_of c.upgrade.new.held).next (numbers_of c.upgrade.new.held).blocks c.in-Ok.ensures.numbers c.in-Ok.ensures.next works works refl (λ honest. c.in-Ok.ensures.leaves honest)
+    (upgraded_to j new c.args.identity target (numbers_of c.upgrade.new.held).next (numbers_of c.upgrade.new.held).blocks c.in-Ok.ensures.numbers c.in-Ok.ensures.next works works refl (λ honest. c.in-Ok.ensures.leaves honest)
     (λ honest.
     let was = c.upgrade.ensures.same.honest honest in
-    reads_of (g.D.SectorDevice.disk c.upgrade.new.device) (g.met.D.SectorDevice.coherent c.upgrade.new.device honest) (g.met.D.SectorDevice.torn_coherent c.upgrade.new.device honest) c.upgrade.new.held (turned true (carried_of (view_of j)) target) c.upgrade.ensures.formed
+    reads_of (g.D.SectorDevice.disk c.upgrade.new.device) (g.met.D.SectorDevice.coherent c.upgrade.new.device honest) (g.met.D.SectorDevice.torn_coherent c.upgrade.new.device honest) c.upgrade.new.held (turned true c.args.identity (carried_of (view_of j)) target) c.upgrade.ensures.formed
     (c.in-Ok.ensures.tried (carried_of (view_of j)) honest (c.self.invariant was works)).done)
     c.in-Ok.ensures.made)
 
