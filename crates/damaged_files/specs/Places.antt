@@ -7,10 +7,10 @@ use Rattle.damaged_files.specs.declared.place.Place.{Place}
 abbrev pub sector_at : ℕ → ℕ
 sector_at n = min n 0xffff_ffff_ffff_ffff
 
--- of the byte `at` of a tail, in the slot that begins with this sector: the first sector has 440 bytes of it, after the numbers, and each other one 484
+-- of the byte `at` of a tail, in the slot that begins with this sector: the first sector has 424 bytes of it, after the numbers, and each other one 484
 abbrev pub place_in_slot : ℕ → ℕ → Place
 place_in_slot slot at =
-    if nat_lt at 440 then record { sector = slot; byte = 72 + at } else record { sector = sector_at (slot + (1 + (at - 440) / 484)); byte = 28 + (at - 440) % 484 }
+    if nat_lt at 424 then record { sector = slot; byte = 88 + at } else record { sector = sector_at (slot + (1 + (at - 424) / 484)); byte = 28 + (at - 424) % 484 }
 
 -- of the byte `at` of a part: in its half, or after that in the slot that has its tail
 abbrev pub place_of : Part → ℕ → Place

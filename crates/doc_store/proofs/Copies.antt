@@ -3,7 +3,7 @@ use Rattle.std.proofs.Common.{◌≡◌, inl, inr, ⊎_elim, ℕ, List, Bool, le
 use Rattle.sector_device.specs.Disk.{Disk, Image, LeavesOnly}
 use Rattle.sector_device.proofs.Moments.{leaves_weaker}
 use Rattle.half_journal.specs.States.{one_more}
-use Rattle.store_journal.specs.Carries.{Carried, Carries}
+use Rattle.store_journal.specs.Carries.{Carried, Carries, identity_in}
 use Rattle.store_journal.specs.Filling.{Filled, NoneOrAll, filled}
 use Rattle.store_journal.specs.Models.{model}
 use Rattle.store_journal.proofs.Unique.{carries_one}
@@ -26,17 +26,17 @@ use Rattle.doc_store.proofs.Opened.{one_state}
 pub good_in : (profile : Profile) (s : State) → Good s → AreWithin profile s.documents → Good (in_profile profile s)
 good_in profile s g within = record { distinct = g.distinct; storable = g.storable; offered = within.offered; few = within.few; counted = g.counted; revised = g.revised }
 
-module _ (format : Format) (a : Account) (good : Good a.state) (within : AreWithin (profile_in (rides_in format)) a.state.documents) where
+module _ (format : Format) (identity : ℕ) (a : Account) (good : Good a.state) (within : AreWithin (profile_in (rides_in format)) a.state.documents) where
   abbrev S : State
   S = in_profile (profile_in (rides_in format)) a.state
 
   abbrev R : Bool
   R = rides_in format
 
-  copy_of : (image : Image) → Carries (copied_of format a) image → IsCopyOf format a image
+  copy_of : (image : Image) → Carries (copied_of format identity a) image → IsCopyOf format identity a image
   copy_of image carries = record {
     stands = record {
-      carried = copied_of format a;
+      carried = copied_of format identity a;
       carries = carries;
       seq_is = refl;
       profile_is = refl;
@@ -47,26 +47,27 @@ module _ (format : Format) (a : Account) (good : Good a.state) (within : AreWith
 
   -- with the bytes of its snapshot, and its numbers as it tells them
   module _ (bytes : List ℕ) (status : Status) (rides : Bool) (bytes_are : bytes ≡ snapshot_bytes a.state.documents) (status_is : status ≡ status_of a) (rides_is : rides ≡ rides_in format) (old new : Disk) where
-    carried_is : filled rides bytes status.seq status.opens ≡ copied_of format a
-    carried_is = λ i. filled (rides_is i) (bytes_are i) (status_is i).seq (status_is i).opens
+    carried_is : filled rides bytes status.seq status.opens identity ≡ copied_of format identity a
+    carried_is = λ i. filled (rides_is i) (bytes_are i) (status_is i).seq (status_is i).opens identity
 
-    pub copied : (used : ℕ) → used ≡ length bytes → Filled old new (filled rides bytes status.seq status.opens) → IsCopied format old new a used
+    pub copied : (used : ℕ) → used ≡ length bytes → Filled old new (filled rides bytes status.seq status.opens identity) → IsCopied format identity old new a used
     copied used is all =
         let whole = subst (Filled old new) carried_is all in
         record { filled_so = whole; used_is = is ∙ ap length bytes_are; copies = λ honest image left. copy_of image (whole.carries honest image left) }
 
-    pub none_or_copy : LeavesOnly (model rides old) (model rides new) (NoneOrAll rides old (Carries (filled rides bytes status.seq status.opens))) → LeavesOnly (model R old) (model R new) (NoneOrAll R old (IsCopyOf format a))
+    pub none_or_copy : LeavesOnly (model rides old) (model rides new) (NoneOrAll rides old (Carries (filled rides bytes status.seq status.opens identity))) → LeavesOnly (model R old) (model R new) (NoneOrAll R old (IsCopyOf format identity a))
     none_or_copy leaves =
-        leaves_weaker (model R old) (model R new) (NoneOrAll R old (Carries (copied_of format a))) (NoneOrAll R old (IsCopyOf format a))
+        leaves_weaker (model R old) (model R new) (NoneOrAll R old (Carries (copied_of format identity a))) (NoneOrAll R old (IsCopyOf format identity a))
         (λ image. ⊎_elim inl (λ h. inr (h.0, ⊎_elim inl (λ carries. inr (copy_of image carries)) h.1)))
         (subst (λ (c : Carried). LeavesOnly (model R old) (model R new) (NoneOrAll R old (Carries c))) carried_is
-        (subst (λ (b : Bool). LeavesOnly (model b old) (model b new) (NoneOrAll b old (Carries (filled rides bytes status.seq status.opens)))) rides_is leaves))
+        (subst (λ (b : Bool). LeavesOnly (model b old) (model b new) (NoneOrAll b old (Carries (filled rides bytes status.seq status.opens identity)))) rides_is leaves))
 
-pub opens_alike : (format : Format) (a opened : Account) (image : Image) → IsCopyOf format a image → IsOpenedFrom image opened
-    → (opened.state ≡ in_profile (profile_in (rides_in format)) a.state) × (opened.rides ≡ rides_in format) × (opened.opens ≡ one_more a.opens)
-opens_alike format a opened image copy from =
-    let same : from.stands.carried ≡ copied_of format a = carries_one image from.stands.carried (copied_of format a) from.stands.carries (subst (λ (c : Carried). Carries c image) copy.carried_is copy.stands.carries) in (
+pub opens_alike : (format : Format) (identity : ℕ) (a opened : Account) (image : Image) → IsCopyOf format identity a image → IsOpenedFrom image opened
+    → (opened.state ≡ in_profile (profile_in (rides_in format)) a.state) × (opened.rides ≡ rides_in format) × (opened.opens ≡ one_more a.opens) × (opened.identity ≡ identity_in (rides_in format) identity)
+opens_alike format identity a opened image copy from =
+    let same : from.stands.carried ≡ copied_of format identity a = carries_one image from.stands.carried (copied_of format identity a) from.stands.carries (subst (λ (c : Carried). Carries c image) copy.carried_is copy.stands.carries) in (
       one_state image opened.state (in_profile (profile_in (rides_in format)) a.state) from.stands copy.stands,
       from.opened_as.rides_is ∙ ap (λ (c : Carried). c.rides) same,
       from.opened_as.opens_is ∙ ap (λ (c : Carried). one_more c.opens) same,
+      from.opened_as.identity_is ∙ ap (λ (c : Carried). c.identity) same,
     )

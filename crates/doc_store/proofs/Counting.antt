@@ -75,6 +75,7 @@ module _ {D : Type 0} (disk : D → Disk) (old new : JournalView D) (bytes : Lis
           half = is.half;
           seq = is.seq;
           opens = is.opens;
+          identity = is.identity;
           sectors = is.sectors;
           works = is.works;
           settled = is.settled;

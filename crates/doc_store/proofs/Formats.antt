@@ -6,7 +6,7 @@ use Rattle.sector_device.specs.Disk.{Disk, Image, IsCoherent, LeavesOnly}
 use Rattle.sector_device.proofs.Charges.{failed_joined, failed_more, made_joined}
 use Rattle.sector_device.proofs.Moments.{joined, leaves_weaker, started}
 use Rattle.store_journal.specs.Calls.{Broke}
-use Rattle.store_journal.specs.Carries.{Carried, Carries, EitherCarried, switched, turned}
+use Rattle.store_journal.specs.Carries.{Carried, Carries, EitherCarried, identity_in, switched, turned}
 use Rattle.store_journal.specs.JournalView.{JournalView, IsKept, carried_of}
 use Rattle.store_journal.specs.Models.{model}
 use Rattle.store_journal.specs.Turning.{Downgraded, Halted, Unwritten, Upgraded}
@@ -32,9 +32,9 @@ use Rattle.doc_store.specs.declared.format.Format.TheVariants.{Three, Two}
 use Rattle.store_journal.specs.Writes.{downgrade_calls, upgrade_calls}
 
 -- an image that carries bytes of format 2 that hold the account's state
-image_of : (c : Carried) (a : Account) → c.version ≡ 2 → c.rides ≡ a.rides → c.half ≡ a.half → length c.bytes ≡ a.used → c.opens ≡ a.opens → c.seq ≡ a.state.seq → profile_in a.rides ≡ a.state.profile
+image_of : (c : Carried) (a : Account) → c.version ≡ 2 → c.rides ≡ a.rides → c.half ≡ a.half → length c.bytes ≡ a.used → c.opens ≡ a.opens → c.identity ≡ a.identity → c.seq ≡ a.state.seq → profile_in a.rides ≡ a.state.profile
     → Holds a.state.profile 2 a.state.seq c.bytes a.state.documents → (image : Image) → Carries c image → IsImageOf a image
-image_of c a version rides half used opens seq profile holds image carries = record {
+image_of c a version rides half used opens identity seq profile holds image carries = record {
   stands = record {
     carried = c;
     carries = carries;
@@ -47,10 +47,11 @@ image_of c a version rides half used opens seq profile holds image carries = rec
   half_is = half;
   used_is = used;
   opens_is = opens;
+  identity_is = identity;
 }
 
 -- a journal that went over to another format: the target in its other half
-pub record WentOver {D : Type 0} (disk : D → Disk) (before now : JournalView D) (rides : Bool) (target : List ℕ) : Type 0 where
+pub record WentOver {D : Type 0} (disk : D → Disk) (before now : JournalView D) (rides : Bool) (identity : ℕ) (target : List ℕ) : Type 0 where
   pub kept : IsKept (disk now.device) now
   pub bytes : (disk now.device).honest → now.bytes ≡ target
   pub used : length now.bytes ≡ length target
@@ -59,12 +60,13 @@ pub record WentOver {D : Type 0} (disk : D → Disk) (before now : JournalView D
   pub half : now.half ≡ 1 - before.half
   pub seq : now.seq ≡ before.seq
   pub opens : now.opens ≡ before.opens
+  pub identity_is : now.identity ≡ identity_in rides identity
   pub sectors : now.sectors ≡ before.sectors
   pub works : now.broken ≡ false
   pub settled : now.settled ≡ true
 
-pub over_up : {D : Type 0} (disk : D → Disk) (before now : JournalView D) (target : List ℕ) → IsKept (disk now.device) now → Upgraded (disk before.device) (disk now.device) before now target → WentOver disk before now true target
-over_up disk before now target kept is = record {
+pub over_up : {D : Type 0} (disk : D → Disk) (before now : JournalView D) (identity : ℕ) (target : List ℕ) → IsKept (disk now.device) now → Upgraded (disk before.device) (disk now.device) before now identity target → WentOver disk before now true identity target
+over_up disk before now identity target kept is = record {
   kept = kept;
   bytes = is.bytes;
   used = is.used;
@@ -73,13 +75,14 @@ over_up disk before now target kept is = record {
   half = is.half;
   seq = is.seq;
   opens = is.opens;
+  identity_is = is.identity_is;
   sectors = is.sectors;
   works = is.works;
   settled = is.settled;
 }
 
 pub over_down : {D : Type 0} (disk : D → Disk) (before now : JournalView D) (target : List ℕ) → IsKept (disk now.device) now → ((disk before.device).honest ↔ (disk now.device).honest) → Downgraded (disk before.device) (disk now.device) before now target
-    → WentOver disk before now false target
+    → WentOver disk before now false 0 target
 over_down disk before now target kept same is = record {
   kept = kept;
   bytes = λ honest. is.bytes (same.1 honest);
@@ -89,6 +92,7 @@ over_down disk before now target kept same is = record {
   half = is.half;
   seq = is.seq;
   opens = is.opens;
+  identity_is = is.identity;
   sectors = is.sectors;
   works = is.works;
   settled = is.settled;
@@ -107,7 +111,7 @@ module _ {D : Type 0} (disk : D → Disk) (before : JournalView D) (state : Stat
   account = with_copy (account_of before state) k
 
   as_it_was : (disk before.device).honest → (image : Image) → Carries (carried_of before) image → IsImageOf account image
-  as_it_was honest image carries = image_of (carried_of before) account held.version refl refl refl refl held.seq held.profile (held.held honest) image carries
+  as_it_was honest image carries = image_of (carried_of before) account held.version refl refl refl refl refl held.seq held.profile (held.held honest) image carries
 
   -- each image of a store that works is its account's
   pub images_are : before.broken ≡ false → (disk before.device).honest → (image : Image) → (model before.rides (disk before.device)).left image → IsImageOf account image
@@ -132,7 +136,7 @@ module _ {D : Type 0} (disk : D → Disk) (before : JournalView D) (state : Stat
 
   either_snapped : (disk before.device).honest → (image : Image) → EitherCarried (carried_of before) (switched (carried_of before) target) image → OneOf account (account_with_snapshot account) image
   either_snapped honest image (inl carries) = inl (as_it_was honest image carries)
-  either_snapped honest image (inr carries) = inr (image_of (switched (carried_of before) target) (account_with_snapshot account) held.version refl refl refl refl held.seq held.profile holds_here image carries)
+  either_snapped honest image (inr carries) = inr (image_of (switched (carried_of before) target) (account_with_snapshot account) held.version refl refl refl refl refl held.seq held.profile holds_here image carries)
 
   pub snapped_moments : (now : JournalView D) → (disk before.device).honest → LeavesOnly (model before.rides (disk before.device)) (model before.rides (disk now.device)) (EitherCarried (carried_of before) (switched (carried_of before) target))
       → LeavesOnly (model before.rides (disk before.device)) (model before.rides (disk now.device)) (OneOf account (account_with_snapshot account))
@@ -157,16 +161,16 @@ module _ {D : Type 0} (disk : D → Disk) (before : JournalView D) (state : Stat
   pub holds_down : AreWithin profile.Two state.documents → Holds (profile_in false) 2 state.seq target state.documents
   holds_down within = let lowered = in_profile profile.Two state in snapshot_holds lowered state.seq refl (remakes_all framed_storable lowered (good_in profile.Two state held.good within))
 
-  module _ (rides : Bool) (holds : Holds (profile_in rides) 2 state.seq target state.documents) where
-    either_over : (disk before.device).honest → (image : Image) → EitherCarried (carried_of before) (turned rides (carried_of before) target) image → OneOf account (account_over rides account) image
+  module _ (rides : Bool) (identity : ℕ) (holds : Holds (profile_in rides) 2 state.seq target state.documents) where
+    either_over : (disk before.device).honest → (image : Image) → EitherCarried (carried_of before) (turned rides identity (carried_of before) target) image → OneOf account (account_over rides identity account) image
     either_over honest image (inl carries) = inl (as_it_was honest image carries)
-    either_over honest image (inr carries) = inr (image_of (turned rides (carried_of before) target) (account_over rides account) refl refl refl refl refl held.seq refl holds image carries)
+    either_over honest image (inr carries) = inr (image_of (turned rides identity (carried_of before) target) (account_over rides identity account) refl refl refl refl refl refl held.seq refl holds image carries)
 
-    pub over_moments : (now : JournalView D) → (disk before.device).honest → LeavesOnly (model before.rides (disk before.device)) (model before.rides (disk now.device)) (EitherCarried (carried_of before) (turned rides (carried_of before) target))
-        → LeavesOnly (model before.rides (disk before.device)) (model before.rides (disk now.device)) (OneOf account (account_over rides account))
-    over_moments now honest leaves = leaves_weaker (model before.rides (disk before.device)) (model before.rides (disk now.device)) (EitherCarried (carried_of before) (turned rides (carried_of before) target)) (OneOf account (account_over rides account)) (either_over honest) leaves
+    pub over_moments : (now : JournalView D) → (disk before.device).honest → LeavesOnly (model before.rides (disk before.device)) (model before.rides (disk now.device)) (EitherCarried (carried_of before) (turned rides identity (carried_of before) target))
+        → LeavesOnly (model before.rides (disk before.device)) (model before.rides (disk now.device)) (OneOf account (account_over rides identity account))
+    over_moments now honest leaves = leaves_weaker (model before.rides (disk before.device)) (model before.rides (disk now.device)) (EitherCarried (carried_of before) (turned rides identity (carried_of before) target)) (OneOf account (account_over rides identity account)) (either_over honest) leaves
 
-    module _ (now : JournalView D) (is : WentOver disk before now rides target) where
+    module _ (now : JournalView D) (is : WentOver disk before now rides identity target) where
       pub over_held : Good (in_profile (profile_in rides) state) → IsHeld (disk now.device) now (in_profile (profile_in rides) state)
       over_held good = record {
         kept = is.kept;
@@ -178,13 +182,14 @@ module _ {D : Type 0} (disk : D → Disk) (before : JournalView D) (state : Stat
         held = λ honest. subst (λ (l : List ℕ). Holds (profile_in rides) 2 state.seq l state.documents) (sym (is.bytes honest)) holds;
       }
 
-      pub over_is : before.broken ≡ false → with_copy (account_of now (in_profile (profile_in rides) state)) None ≡ account_over rides account
+      pub over_is : before.broken ≡ false → with_copy (account_of now (in_profile (profile_in rides) state)) None ≡ account_over rides identity account
       over_is works = λ i. record {
         state = in_profile (profile_in rides) state;
         used = is.used i;
         half = is.half i;
         rides = is.rides_is i;
         opens = is.opens i;
+        identity = is.identity_is i;
         sectors = is.sectors i;
         broken = (is.works ∙ sym works) i;
         copy = None;
@@ -216,10 +221,10 @@ halted_held disk before now state calls held back kept is = record {
 }
 
 pub unwritten_is : {D : Type 0} (disk : D → Disk) (before now : JournalView D) (state : State) → before.broken ≡ false → Unwritten (disk before.device) (disk now.device) before now → account_of now state ≡ account_of before state
-unwritten_is disk before now state works is = λ i. record { state = state; used = is.stays.used i; half = is.stays.half i; rides = is.stays.rides i; opens = is.stays.opens i; sectors = is.stays.sectors i; broken = (is.works ∙ sym works) i; copy = None }
+unwritten_is disk before now state works is = λ i. record { state = state; used = is.stays.used i; half = is.stays.half i; rides = is.stays.rides i; opens = is.stays.opens i; identity = is.stays.identity i; sectors = is.stays.sectors i; broken = (is.works ∙ sym works) i; copy = None }
 
 pub halted_is : {D : Type 0} (disk : D → Disk) (before now : JournalView D) (state : State) (calls : ℕ) → Halted (disk before.device) (disk now.device) calls before now → account_of now state ≡ account_broken (account_of before state)
-halted_is disk before now state calls is = λ i. record { state = state; used = is.stays.used i; half = is.stays.half i; rides = is.stays.rides i; opens = is.stays.opens i; sectors = is.stays.sectors i; broken = is.broken i; copy = None }
+halted_is disk before now state calls is = λ i. record { state = state; used = is.stays.used i; half = is.stays.half i; rides = is.stays.rides i; opens = is.stays.opens i; identity = is.stays.identity i; sectors = is.stays.sectors i; broken = is.broken i; copy = None }
 
 -- ---- the half from which a format gives way
 
@@ -275,14 +280,14 @@ ready_half a fits = ⊎_elim (λ is. ap (λ (b : Account). b.half) (ready_is a i
 pub ready_moments : (old new : Disk) (a d : Account) → LeavesOnly (model a.rides old) (model a.rides new) (OneOf a (account_ready a)) → LeavesOnly (model a.rides old) (model a.rides new) (OneOfThree a d)
 ready_moments old new a d leaves = leaves_weaker (model a.rides old) (model a.rides new) (OneOf a (account_ready a)) (OneOfThree a d) (λ image is. ⊎_elim (λ was. inl was) (λ now. inr (inl now)) is) leaves
 
-module _ (old mid new : Disk) (a b : Account) (rides : Bool) (ready : b ≡ account_ready a) where
-  pub turned_moments : LeavesOnly (model a.rides old) (model a.rides mid) (OneOf a (account_ready a)) → LeavesOnly (model b.rides mid) (model b.rides new) (OneOf b (account_over rides b))
-      → LeavesOnly (model a.rides old) (model a.rides new) (OneOfThree a (account_turned rides a))
+module _ (old mid new : Disk) (a b : Account) (rides : Bool) (identity : ℕ) (ready : b ≡ account_ready a) where
+  pub turned_moments : LeavesOnly (model a.rides old) (model a.rides mid) (OneOf a (account_ready a)) → LeavesOnly (model b.rides mid) (model b.rides new) (OneOf b (account_over rides identity b))
+      → LeavesOnly (model a.rides old) (model a.rides new) (OneOfThree a (account_turned rides identity a))
   turned_moments first second =
-      joined (model a.rides old) (model a.rides mid) (model a.rides new) (OneOfThree a (account_turned rides a)) (ready_moments old mid a (account_turned rides a) first)
-      (leaves_weaker (model a.rides mid) (model a.rides new) (OneOf (account_ready a) (account_turned rides a)) (OneOfThree a (account_turned rides a)) (λ image is. inr is)
-      (subst (λ (r : Bool). LeavesOnly (model r mid) (model r new) (OneOf (account_ready a) (account_turned rides a))) (ready_rides a)
-      (subst (λ (x : Account). LeavesOnly (model x.rides mid) (model x.rides new) (OneOf x (account_over rides x))) ready second)))
+      joined (model a.rides old) (model a.rides mid) (model a.rides new) (OneOfThree a (account_turned rides identity a)) (ready_moments old mid a (account_turned rides identity a) first)
+      (leaves_weaker (model a.rides mid) (model a.rides new) (OneOf (account_ready a) (account_turned rides identity a)) (OneOfThree a (account_turned rides identity a)) (λ image is. inr is)
+      (subst (λ (r : Bool). LeavesOnly (model r mid) (model r new) (OneOf (account_ready a) (account_turned rides identity a))) (ready_rides a)
+      (subst (λ (x : Account). LeavesOnly (model x.rides mid) (model x.rides new) (OneOf x (account_over rides identity x))) ready second)))
 
   pub turned_failed : (calls : ℕ → ℕ) → Made old mid (calls_to_ready a) → Failed mid new (calls (snapshot_size b)) → Failed old new (calls_to_ready a + calls (snapshot_size a))
   turned_failed calls made failed = failed_joined old mid new (calls_to_ready a) (calls (snapshot_size a)) (calls_to_ready a + calls (snapshot_size a)) (omega arith) made
@@ -302,11 +307,11 @@ two_of a is = ap (λ (b : Bool). if b then Three else Two) is
 differ : Three ≡ Two → ⊥
 differ e = let numbers : 3 ≡ 2 = ap number_of e in omega (arith, numbers)
 
-pub in_two : (a : Account) → a.rides ≡ true → account_in Two a ≡ account_turned false a
-in_two a is = ap (λ (f : Format). account_between f Two a) (three_of a is)
+pub in_two : (identity : ℕ) (a : Account) → a.rides ≡ true → account_in Two identity a ≡ account_turned false 0 a
+in_two identity a is = ap (λ (f : Format). account_between f Two identity a) (three_of a is)
 
-pub in_three : (a : Account) → a.rides ≡ false → account_in Three a ≡ account_turned true a
-in_three a is = ap (λ (f : Format). account_between f Three a) (two_of a is)
+pub in_three : (identity : ℕ) (a : Account) → a.rides ≡ false → account_in Three identity a ≡ account_turned true identity a
+in_three identity a is = ap (λ (f : Format). account_between f Three identity a) (two_of a is)
 
 pub calls_two : (a : Account) → a.rides ≡ true → calls_to Two a ≡ calls_to_ready a + downgrade_calls (snapshot_size a)
 calls_two a is = ap (λ (f : Format). calls_between f Two a) (three_of a is)
@@ -315,9 +320,9 @@ pub calls_three : (a : Account) → a.rides ≡ false → calls_to Three a ≡ c
 calls_three a is = ap (λ (f : Format). calls_between f Three a) (two_of a is)
 
 -- it has the format already
-pub in_same : (format : Format) (a : Account) → a.rides ≡ rides_in format → account_in format a ≡ a
-in_same Two a is = ap (λ (f : Format). account_between f Two a) (two_of a is)
-in_same Three a is = ap (λ (f : Format). account_between f Three a) (three_of a is)
+pub in_same : (format : Format) (identity : ℕ) (a : Account) → a.rides ≡ rides_in format → account_in format identity a ≡ a
+in_same Two identity a is = ap (λ (f : Format). account_between f Two identity a) (two_of a is)
+in_same Three identity a is = ap (λ (f : Format). account_between f Three identity a) (three_of a is)
 
 pub calls_same : (format : Format) (a : Account) → a.rides ≡ rides_in format → calls_to format a ≡ 0
 calls_same Two a is = ap (λ (f : Format). calls_between f Two a) (two_of a is)
@@ -327,15 +332,15 @@ calls_same Three a is = ap (λ (f : Format). calls_between f Three a) (three_of 
 abbrev pub WasHit : Account → Account → Refusal → Type 0
 WasHit old new x = (x ≡ plain DEVICE) × ((new ≡ account_broken old) ⊎ (new ≡ account_broken (account_ready old)))
 
-pub raised_answers : (old new : Account) (r : Result (Unit {0}) Refusal) → old.broken ≡ false → old.rides ≡ false → OnOk r (new ≡ account_turned true old)
-    → IfErr r (λ x. WasHit old new x ⊎ (StaysAs Three old x × (new ≡ old)) ⊎ (((x ≡ plain MEMORY) ⊎ (x ≡ plain SEQ_END)) × (new ≡ account_ready old))) → FormatAnswers old Three r new
-raised_answers old new (Ok u) works rides ok err = (works, ok ∙ sym (in_three old rides))
-raised_answers old new (Err x) works rides ok (inl hit) = inl (hit.0, works, (λ same. differ (sym same ∙ two_of old rides)), hit.1)
-raised_answers old new (Err x) works rides ok (inr (inl stays)) = inr (inr (inl (stays.0, works, (λ same. differ (sym same ∙ two_of old rides)), stays.1)))
-raised_answers old new (Err x) works rides ok (inr (inr way)) = inr (inr (inr (way.0, works, two_of old rides, refl, way.1)))
+pub raised_answers : (identity : ℕ) (old new : Account) (r : Result (Unit {0}) Refusal) → old.broken ≡ false → old.rides ≡ false → OnOk r (new ≡ account_turned true identity old)
+    → IfErr r (λ x. WasHit old new x ⊎ (StaysAs Three old x × (new ≡ old)) ⊎ (((x ≡ plain MEMORY) ⊎ (x ≡ plain SEQ_END)) × (new ≡ account_ready old))) → FormatAnswers old Three identity r new
+raised_answers identity old new (Ok u) works rides ok err = (works, ok ∙ sym (in_three identity old rides))
+raised_answers identity old new (Err x) works rides ok (inl hit) = inl (hit.0, works, (λ same. differ (sym same ∙ two_of old rides)), hit.1)
+raised_answers identity old new (Err x) works rides ok (inr (inl stays)) = inr (inr (inl (stays.0, works, (λ same. differ (sym same ∙ two_of old rides)), stays.1)))
+raised_answers identity old new (Err x) works rides ok (inr (inr way)) = inr (inr (inr (way.0, works, two_of old rides, refl, way.1)))
 
-pub lowered_answers : (old new : Account) (r : Result (Unit {0}) Refusal) → old.broken ≡ false → old.rides ≡ true → OnOk r (new ≡ account_turned false old)
-    → IfErr r (λ x. WasHit old new x ⊎ (StaysAs Two old x × (new ≡ old))) → FormatAnswers old Two r new
-lowered_answers old new (Ok u) works rides ok err = (works, ok ∙ sym (in_two old rides))
-lowered_answers old new (Err x) works rides ok (inl hit) = inl (hit.0, works, (λ same. differ (sym (three_of old rides) ∙ same)), hit.1)
-lowered_answers old new (Err x) works rides ok (inr stays) = inr (inr (inl (stays.0, works, (λ same. differ (sym (three_of old rides) ∙ same)), stays.1)))
+pub lowered_answers : (identity : ℕ) (old new : Account) (r : Result (Unit {0}) Refusal) → old.broken ≡ false → old.rides ≡ true → OnOk r (new ≡ account_turned false 0 old)
+    → IfErr r (λ x. WasHit old new x ⊎ (StaysAs Two old x × (new ≡ old))) → FormatAnswers old Two identity r new
+lowered_answers identity old new (Ok u) works rides ok err = (works, ok ∙ sym (in_two identity old rides))
+lowered_answers identity old new (Err x) works rides ok (inl hit) = inl (hit.0, works, (λ same. differ (sym (three_of old rides) ∙ same)), hit.1)
+lowered_answers identity old new (Err x) works rides ok (inr stays) = inr (inr (inl (stays.0, works, (λ same. differ (sym (three_of old rides) ∙ same)), stays.1)))

@@ -112,6 +112,7 @@ broke_is old new before now state calls broke = λ i. record {
   half = broke.stays.half i;
   rides = broke.stays.rides i;
   opens = broke.stays.opens i;
+  identity = broke.stays.identity i;
   sectors = broke.stays.sectors i;
   broken = broke.broken i;
   copy = None;
@@ -227,9 +228,9 @@ module _ {D : Type 0} (disk : D → Disk) (coherent : AreCoherent disk) (before 
       fits_at : (copy_at a).target ≤ capacity_of a.rides a.sectors
       fits_at = subst (λ (x : Copy). x.target ≤ capacity_of before.rides before.sectors) (sym at) fits
 
-      turned : standing_after (count_of t) most ≡ length t.bytes → (image : Image) → StandsAs (record { state = state; used = length t.bytes; half = 1 - before.half; rides = before.rides; sectors = before.sectors }) image
+      turned : standing_after (count_of t) most ≡ length t.bytes → (image : Image) → StandsAs (record { state = state; used = length t.bytes; half = 1 - before.half; rides = before.rides; identity = before.identity; sectors = before.sectors }) image
           → EndsWith [] (extent_of (account_stepped a most)) image
       turned whole image new =
           let there = turned_is a most fits_at (subst (λ (x : Copy). standing_after x most ≡ x.target) (sym at) whole) in
           subst (λ (b : Account). EndsWith [] (extent_of b) image) (sym there) (ends_somehow (extent_of (stepped_by a most true true)) image
-          (subst (λ (x : Copy). StandsAs (record { state = state; used = x.target; half = 1 - before.half; rides = before.rides; sectors = before.sectors }) image) (sym at) new))
+          (subst (λ (x : Copy). StandsAs (record { state = state; used = x.target; half = 1 - before.half; rides = before.rides; identity = before.identity; sectors = before.sectors }) image) (sym at) new))

@@ -71,6 +71,7 @@ module _ {D : Type 0} (old new : Disk) (before now : JournalView D) (state : Sta
       half = sealed.half i;
       rides = sealed.rides i;
       opens = sealed.opens i;
+      identity = sealed.identity i;
       sectors = sealed.sectors i;
       broken = (sealed.works ∙ sym sealed.worked) i;
       copy = None;

@@ -20,7 +20,7 @@ use Rattle.doc_store.proofs.Rides.{AreOf, run_rides}
 -- all that is left is in format 2, and needs no room
 pub in_format_2 : (l : Extent) (image : Image) → StandsAs l image → LacksRoom image → ⊥
 in_format_2 l image stands lacks =
-    let now : Carried = record { version = 2; rides = l.rides; half = l.half; bytes = stands.bytes; seq = l.state.seq; opens = stands.opens } in
+    let now : Carried = record { version = 2; rides = l.rides; half = l.half; bytes = stands.bytes; seq = l.state.seq; opens = stands.opens; identity = l.identity } in
     let same : lacks.stands.carried ≡ now = carries_one image lacks.stands.carried now lacks.stands.carries stands.carries in
     let contrary : 1 ≡ 2 = sym lacks.version_is ∙ ap (λ (c : Carried). c.version) same in
     absurd (omega (arith, contrary))

@@ -12,9 +12,9 @@ coded_copy = code_by (ℕ × ℕ) (coded× coded_ℕ coded_ℕ) (λ c. (c.target
 -- as pairs of its fields
 abbrev pub coded_account : Coded Account
 coded_account =
-    code_by ((State × (ℕ × (ℕ × Bool))) × ((ℕ × ℕ) × (Bool × Option Copy))) (coded× (coded× coded_state (coded× coded_ℕ (coded× coded_ℕ coded_bool))) (coded× (coded× coded_ℕ coded_ℕ) (coded× coded_bool (coded_option coded_copy))))
-    (λ a. ((a.state, (a.used, (a.half, a.rides))), ((a.opens, a.sectors), (a.broken, a.copy))))
-    (λ p. record { state = p.0.0; used = p.0.1.0; half = p.0.1.1.0; rides = p.0.1.1.1; opens = p.1.0.0; sectors = p.1.0.1; broken = p.1.1.0; copy = p.1.1.1 }) (λ _. refl)
+    code_by ((State × (ℕ × (ℕ × Bool))) × ((ℕ × (ℕ × ℕ)) × (Bool × Option Copy))) (coded× (coded× coded_state (coded× coded_ℕ (coded× coded_ℕ coded_bool))) (coded× (coded× coded_ℕ (coded× coded_ℕ coded_ℕ)) (coded× coded_bool (coded_option coded_copy))))
+    (λ a. ((a.state, (a.used, (a.half, a.rides))), ((a.opens, (a.identity, a.sectors)), (a.broken, a.copy))))
+    (λ p. record { state = p.0.0; used = p.0.1.0; half = p.0.1.1.0; rides = p.0.1.1.1; opens = p.1.0.0; identity = p.1.0.1.0; sectors = p.1.0.1.1; broken = p.1.1.0; copy = p.1.1.1 }) (λ _. refl)
 
 -- as the pair of the device and the account
 abbrev pub coded_store : {D : Type 0} → Coded D → Coded (StoreView D)

@@ -1,5 +1,5 @@
 -- The status of a store; its format, and what brings it to another.
-use Rattle.std.specs.Prelude.{length, ◌≡◌, ◌≢◌, ◌⊎◌, ◌+◌, ◌-◌, ◌≤◌, ℕ, Bool, true, false, None, Result, Ok, Err, if◌then◌else◌, nat_eq}
+use Rattle.std.specs.Prelude.{length, ◌≡◌, ◌≢◌, ◌⊎◌, ◌+◌, ◌-◌, ◌≤◌, ℕ, Bool, true, false, None, Some, Result, Ok, Err, if◌then◌else◌, nat_eq}
 use Rattle.store_journal.specs.Layout.{FitsBetween, capacity_of}
 use Rattle.store_commits.specs.Account.{Account, account_broken}
 use Rattle.doc_store.specs.declared.status.Status.{Status}
@@ -14,6 +14,7 @@ use Rattle.store_commits.specs.Images.{Stands, profile_in}
 use Rattle.store_commits.specs.Snapshot.{account_with_snapshot, calls_of_snapshot, snapshot_size}
 use Rattle.doc_store.specs.declared.format.Format.{Format}
 use Rattle.doc_store.specs.declared.format.Format.TheVariants.{Two, Three}
+use Rattle.store_journal.specs.Carries.{identity_in}
 use Rattle.store_journal.specs.Writes.{downgrade_calls, upgrade_calls}
 
 -- the account, without the documents themselves
@@ -22,6 +23,7 @@ status_of a = record {
   documents = length a.state.documents;
   seq = a.state.seq;
   opens = a.opens;
+  identity = if a.rides then Some a.identity else None;
   used = a.used;
   capacity = capacity_of a.rides a.sectors;
   sectors = a.sectors;
@@ -54,23 +56,23 @@ account_ready a = if nat_eq a.half (half_from a.rides) then record a { copy = No
 abbrev pub calls_to_ready : Account → ℕ
 calls_to_ready a = if nat_eq a.half (half_from a.rides) then 0 else calls_of_snapshot a
 
--- the account in another format, and its profile: with the bytes of a snapshot, in the other half
-abbrev pub account_over : Bool → Account → Account
-account_over rides a = record (account_with_snapshot a) { state = in_profile (profile_in rides) a.state; rides = rides }
+-- the account in another format, in format 3 with this identity, and its profile: with the bytes of a snapshot, in the other half
+abbrev pub account_over : Bool → ℕ → Account → Account
+account_over rides identity a = record (account_with_snapshot a) { state = in_profile (profile_in rides) a.state; rides = rides; identity = identity_in rides identity }
 
 -- so from the half from which its format gives way
-abbrev pub account_turned : Bool → Account → Account
-account_turned rides a = account_over rides (account_ready a)
+abbrev pub account_turned : Bool → ℕ → Account → Account
+account_turned rides identity a = account_over rides identity (account_ready a)
 
--- the account from a format in another, or as it is
-abbrev pub account_between : Format → Format → Account → Account
-account_between Two Three a = account_turned true a
-account_between Three Two a = account_turned false a
-account_between from to a = a
+-- the account from a format in another, to format 3 with this identity, or as it is
+abbrev pub account_between : Format → Format → ℕ → Account → Account
+account_between Two Three identity a = account_turned true identity a
+account_between Three Two identity a = account_turned false 0 a
+account_between from to identity a = a
 
 -- the account in a format
-abbrev pub account_in : Format → Account → Account
-account_in format a = account_between (format_of a) format a
+abbrev pub account_in : Format → ℕ → Account → Account
+account_in format identity a = account_between (format_of a) format identity a
 
 -- the calls of the device from a format to another
 abbrev pub calls_between : Format → Format → Account → ℕ
@@ -103,15 +105,15 @@ StaysAs format a r =
 -- The answer: the store works, and is in that format now. Or a fault of the device hit it on its way to another format: it is broken, no copy runs, and
 -- at most it has come to the half from which that goes. Or it was broken before, or stays in its format, and nothing has changed; or it came to that half, and
 -- there memory was refused, or older slots on the device leave no number.
-abbrev pub FormatAnswers : Account → Format → Result (Unit {0}) Refusal → Account → Type 0
-FormatAnswers old format (Ok _) new = (old.broken ≡ false) × (new ≡ account_in format old)
-FormatAnswers old format (Err r) new =
+abbrev pub FormatAnswers : Account → Format → ℕ → Result (Unit {0}) Refusal → Account → Type 0
+FormatAnswers old format identity (Ok _) new = (old.broken ≡ false) × (new ≡ account_in format identity old)
+FormatAnswers old format identity (Err r) new =
     ((r ≡ plain DEVICE) × (old.broken ≡ false) × (format_of old ≢ format) × ((new ≡ account_broken old) ⊎ (new ≡ account_broken (account_ready old))))
     ⊎ ((r ≡ plain BROKEN) × (old.broken ≡ true) × (new ≡ old))
     ⊎ (StaysAs format old r × (old.broken ≡ false) × (format_of old ≢ format) × (new ≡ old))
     ⊎ (((r ≡ plain MEMORY) ⊎ (r ≡ plain SEQ_END)) × (old.broken ≡ false) × (format_of old ≡ Two) × (format ≡ Three) × (new ≡ account_ready old))
 
--- the image holds the account's state, in its format, in as many bytes of the same half, and was opened as often
+-- the image holds the account's state, in its format, in as many bytes of the same half, was opened as often, and has its identity
 pub record IsImageOf (a : Account) (image : Image) : Type 0 where
   pub stands : Stands a.state image
   pub version_is : stands.carried.version ≡ 2
@@ -119,6 +121,7 @@ pub record IsImageOf (a : Account) (image : Image) : Type 0 where
   pub half_is : stands.carried.half ≡ a.half
   pub used_is : length stands.carried.bytes ≡ a.used
   pub opens_is : stands.carried.opens ≡ a.opens
+  pub identity_is : stands.carried.identity ≡ a.identity
 
 -- the image of one of two accounts, or of an account, of it in the half from which its format gives way, or of a third
 abbrev pub OneOf : Account → Account → Image → Type 0
@@ -128,5 +131,5 @@ abbrev pub OneOfThree : Account → Account → Image → Type 0
 OneOfThree a b image = IsImageOf a image ⊎ IsImageOf (account_ready a) image ⊎ IsImageOf b image
 
 -- that of the account in its format, or on the way, or in the other
-abbrev pub InEither : Account → Format → Image → Type 0
-InEither a format = OneOfThree a (account_in format a)
+abbrev pub InEither : Account → Format → ℕ → Image → Type 0
+InEither a format identity = OneOfThree a (account_in format identity a)

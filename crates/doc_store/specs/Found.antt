@@ -29,7 +29,7 @@ pub record WasFound {D : Type 0} (disk : D → Disk) (device : D) (journal : Jou
   pub works : journal.broken ≡ false
   pub fresh : journal.rides ≡ true → journal.settled ≡ false
   -- in format 3 a slot names whole blocks of them, and has room for the others
-  pub tail : journal.rides ≡ true → (4096 * journal.blocks ≤ length bytes) × (length bytes ≤ 4096 * journal.blocks + 15444)
+  pub tail : journal.rides ≡ true → (4096 * journal.blocks ≤ length bytes) × (length bytes ≤ 4096 * journal.blocks + 15428)
   pub seq_is : state.seq ≡ journal.seq
   pub profile_is : profile_in journal.rides ≡ state.profile
   pub good : Good state

@@ -24,7 +24,7 @@ use store_commits::creations;
 use store_journal::format_with;
 
 impl<D: SectorDevice> Store<D> {
-    /// Makes `device`, of whatever size, a store in that format of the same documents, in their order, with their schemas and
+    /// Makes `device`, of whatever size, a store in that format, in format 3 with this identity, of the same documents, in their order, with their schemas and
     /// revisions, of the same number of accepted changes, and opened as often; and answers the number of used bytes there. A crash at
     /// any moment leaves no store on it, or all of this; in format 3 also if it tears blocks of sectors. The store itself is
     /// only read, and its device isn't called; one that is broken is copied as it was last committed.
@@ -34,20 +34,32 @@ impl<D: SectorDevice> Store<D> {
     /// of it doesn't hold the frames of the documents' creations; else `ALREADY_A_STORE` if its sector 0 begins as a commit
     /// sector does, and in format 3 also if another slot begins so. `DEVICE` if it failed. All but `DEVICE` leave what it
     /// held. `MEMORY` may come in place of any other, before it is called.
-    pub fn copy_to<E: SectorDevice>(&self, device: &mut E, format: Format) -> Result<u64, Refusal>
-        ensures copied { IfOk result (IsCopied format (E.disk device.old) (E.disk device.new) self.now.account) }
+    pub fn copy_to<E: SectorDevice>(
+        &self,
+        device: &mut E,
+        format: Format,
+        identity: u128,
+    ) -> Result<u64, Refusal>
+        ensures copied { IfOk result (IsCopied format identity (E.disk device.old) (E.disk device.new) self.now.account) }
         ensures refused { IfErr result (λ refusal. refusal ≢ plain MEMORY → refusal ≢ plain TOO_MANY → refusal ≢ plain NEWER_SCHEMA
-            → (refusal ≡ plain refusal.number) × FillRefusal (E.disk device.old) (E.disk device.new) (copied_of format self.now.account) refusal.number) }
+            → (refusal ≡ plain refusal.number) × FillRefusal (E.disk device.old) (E.disk device.new) (copied_of format identity self.now.account) refusal.number) }
         ensures beyond { IfErr result (λ refusal. (refusal ≡ plain TOO_MANY) ⊎ (refusal ≡ plain NEWER_SCHEMA)
             → (format ≡ FormatTwo) × AreBeyond Two self.now.account.state.documents refusal × (device.new ≡ device.old)) }
         ensures memory { IfErr result (λ refusal. refusal ≡ plain MEMORY → device.new ≡ device.old) }
         ensures any_moment { (E.disk device.new).honest → LeavesOnly (model (rides_in format) (E.disk device.old)) (model (rides_in format) (E.disk device.new))
-            (NoneOrAll (rides_in format) (E.disk device.old) (IsCopyOf format self.now.account)) }
+            (NoneOrAll (rides_in format) (E.disk device.old) (IsCopyOf format identity self.now.account)) }
         ensures same { IsSameRead (E.disk device.old) (E.disk device.new) }
     {
         let status = self.status();
         let frames = self.snapshot_in(format)?;
-        match format_with(device, &frames, status.seq, status.opens, format.rides()) {
+        match format_with(
+            device,
+            &frames,
+            status.seq,
+            status.opens,
+            format.rides(),
+            identity,
+        ) {
             Ok(()) => Ok(frames.len() as u64),
             Err(fault) => Err(Refusal::plain(fault.number)),
         }

@@ -34,7 +34,7 @@ use store_journal::geometry::capacity;
 pub enum Format {
     /// Format 2: each commit waits for two syncs.
     Two,
-    /// Format 3: a commit of at most 11,349 bytes waits for one sync, and a crash may tear blocks of sectors.
+    /// Format 3: a commit of at most 11,333 bytes waits for one sync, and a crash may tear blocks of sectors.
     Three,
 }
 
@@ -72,8 +72,9 @@ impl<D: SectorDevice> Store<D> {
         }
     }
 
-    /// Brings the store to a format. The documents, their revisions and the number of accepted changes stay. A store in
-    /// that format already makes no call of its device.
+    /// Brings the store to a format. The documents, their revisions and the number of accepted changes stay. From format 2
+    /// to 3 it takes this identity, on the way back it loses its own. A store in that format already makes no call of its
+    /// device, and keeps the identity that it has.
     ///
     /// It goes from half 1 of format 2 to half 0 of format 3, and back. A store in the other half is brought there by a
     /// snapshot first, and a snapshot is what it has then; a copy that runs is dropped. To format 3 each schema stays,
@@ -85,13 +86,13 @@ impl<D: SectorDevice> Store<D> {
     /// also come once the store is in half 1.
     ///
     /// `BROKEN` if the device failed before; then nothing changes. `DEVICE` if it failed in this call.
-    pub fn set_format(&mut self, format: Format) -> Result<(), Refusal>
-        ensures answer { FormatAnswers self.old.account format result self.new.account }
+    pub fn set_format(&mut self, format: Format, identity: u128) -> Result<(), Refusal>
+        ensures answer { FormatAnswers self.old.account format identity result self.new.account }
         ensures made { OnOk result (Made (D.disk self.old.device) (D.disk self.new.device) (calls_to format self.old.account)) }
         ensures failed { IfErr result (λ refusal. refusal.number ≡ DEVICE
             → Failed (D.disk self.old.device) (D.disk self.new.device) (calls_to format self.old.account)) }
         ensures any_moment { (D.disk self.new.device).honest → self.old.account.broken ≡ false
-            → LeavesOnly (model self.old.account.rides (D.disk self.old.device)) (model self.old.account.rides (D.disk self.new.device)) (InEither self.old.account format) }
+            → LeavesOnly (model self.old.account.rides (D.disk self.old.device)) (model self.old.account.rides (D.disk self.new.device)) (InEither self.old.account format identity) }
         ensures done { OnOk result ((D.disk self.new.device).honest → (image : Image) → (model self.new.account.rides (D.disk self.new.device)).left image → IsImageOf self.new.account image) }
         ensures standing { IsStanding (D.disk self.new.device) self.new.account }
         ensures honest { (D.disk self.new.device).honest → (D.disk self.old.device).honest }
@@ -107,15 +108,15 @@ impl<D: SectorDevice> Store<D> {
         }
         match format {
             Format::Two => self.lower(),
-            Format::Three => self.raise(),
+            Format::Three => self.raise(identity),
         }
     }
 
     // Brings a store in format 2, which works, to format 3.
-    fn raise(&mut self) -> Result<(), Refusal>
+    fn raise(&mut self, identity: u128) -> Result<(), Refusal>
         requires works { self.old.account.broken ≡ false }
         requires two { self.old.account.rides ≡ false }
-        ensures ok { OnOk result (self.new.account ≡ account_turned true self.old.account) }
+        ensures ok { OnOk result (self.new.account ≡ account_turned true identity self.old.account) }
         ensures err { IfErr result (λ refusal.
             ((refusal ≡ plain DEVICE) × ((self.new.account ≡ account_broken self.old.account) ⊎ (self.new.account ≡ account_broken (account_ready self.old.account))))
             ⊎ (StaysAs FormatThree self.old.account refusal × (self.new ≡ self.old))
@@ -123,7 +124,7 @@ impl<D: SectorDevice> Store<D> {
         ensures made { OnOk result (Made (D.disk self.old.device) (D.disk self.new.device) (calls_to_ready self.old.account + upgrade_calls (snapshot_size self.old.account))) }
         ensures failed { IfErr result (λ refusal. refusal.number ≡ DEVICE → Failed (D.disk self.old.device) (D.disk self.new.device) (calls_to_ready self.old.account + upgrade_calls (snapshot_size self.old.account))) }
         ensures any_moment { (D.disk self.new.device).honest
-            → LeavesOnly (model self.old.account.rides (D.disk self.old.device)) (model self.old.account.rides (D.disk self.new.device)) (OneOfThree self.old.account (account_turned true self.old.account)) }
+            → LeavesOnly (model self.old.account.rides (D.disk self.old.device)) (model self.old.account.rides (D.disk self.new.device)) (OneOfThree self.old.account (account_turned true identity self.old.account)) }
         ensures done { OnOk result ((D.disk self.new.device).honest → (image : Image) → (model self.new.account.rides (D.disk self.new.device)).left image → IsImageOf self.new.account image) }
         ensures standing { IsStanding (D.disk self.new.device) self.new.account }
         ensures honest { (D.disk self.new.device).honest → (D.disk self.old.device).honest }
@@ -132,21 +133,21 @@ impl<D: SectorDevice> Store<D> {
         self.know_images();
         let frames = self.way_up()?;
         self.make_ready(&frames)?;
-        self.turn_up(&frames)
+        self.turn_up(&frames, identity)
     }
 
     // Brings a store in format 3, which works, to format 2.
     fn lower(&mut self) -> Result<(), Refusal>
         requires works { self.old.account.broken ≡ false }
         requires three { self.old.account.rides ≡ true }
-        ensures ok { OnOk result (self.new.account ≡ account_turned false self.old.account) }
+        ensures ok { OnOk result (self.new.account ≡ account_turned false 0 self.old.account) }
         ensures err { IfErr result (λ refusal.
             ((refusal ≡ plain DEVICE) × ((self.new.account ≡ account_broken self.old.account) ⊎ (self.new.account ≡ account_broken (account_ready self.old.account))))
             ⊎ (StaysAs FormatTwo self.old.account refusal × (self.new ≡ self.old))) }
         ensures made { OnOk result (Made (D.disk self.old.device) (D.disk self.new.device) (calls_to_ready self.old.account + downgrade_calls (snapshot_size self.old.account))) }
         ensures failed { IfErr result (λ refusal. refusal.number ≡ DEVICE → Failed (D.disk self.old.device) (D.disk self.new.device) (calls_to_ready self.old.account + downgrade_calls (snapshot_size self.old.account))) }
         ensures any_moment { (D.disk self.new.device).honest
-            → LeavesOnly (model self.old.account.rides (D.disk self.old.device)) (model self.old.account.rides (D.disk self.new.device)) (OneOfThree self.old.account (account_turned false self.old.account)) }
+            → LeavesOnly (model self.old.account.rides (D.disk self.old.device)) (model self.old.account.rides (D.disk self.new.device)) (OneOfThree self.old.account (account_turned false 0 self.old.account)) }
         ensures done { OnOk result ((D.disk self.new.device).honest → (image : Image) → (model self.new.account.rides (D.disk self.new.device)).left image → IsImageOf self.new.account image) }
         ensures standing { IsStanding (D.disk self.new.device) self.new.account }
         ensures honest { (D.disk self.new.device).honest → (D.disk self.old.device).honest }
@@ -158,8 +159,8 @@ impl<D: SectorDevice> Store<D> {
         self.turn_down(&frames)
     }
 
-    // For the prover alone: what the images hold, and that the half is one of two.
-    fn know_images(&self)
+    /// For the prover alone: who calls it knows from there on what the images hold, and that the half is one of two.
+    pub fn know_images(&self)
         ensures still { (D.disk self.now.device).honest → self.now.account.broken ≡ false
             → LeavesOnly (model self.now.account.rides (D.disk self.now.device)) (model self.now.account.rides (D.disk self.now.device)) (IsImageOf self.now.account) }
         ensures standing { IsStanding (D.disk self.now.device) self.now.account }
@@ -247,19 +248,19 @@ impl<D: SectorDevice> Store<D> {
     }
 
     // Brings a store in half 1 of format 2, which works, to format 3.
-    fn turn_up(&mut self, snapshot: &[u8]) -> Result<(), Refusal>
+    fn turn_up(&mut self, snapshot: &[u8], identity: u128) -> Result<(), Refusal>
         requires works { self.old.account.broken ≡ false }
         requires two { self.old.account.rides ≡ false }
         requires half { self.old.account.half ≡ 1 }
         requires snapshot { snapshot.now ≡ snapshot_bytes self.old.account.state.documents }
         requires between { FitsBetween self.old.account.sectors (length snapshot.now) }
-        ensures ok { OnOk result (self.new.account ≡ account_over true self.old.account) }
+        ensures ok { OnOk result (self.new.account ≡ account_over true identity self.old.account) }
         ensures err { IfErr result (λ refusal. ((refusal ≡ plain DEVICE) × (self.new.account ≡ account_broken self.old.account))
             ⊎ (((refusal ≡ plain MEMORY) ⊎ (refusal ≡ plain SEQ_END)) × (self.new.account ≡ record self.old.account { copy = None }))) }
         ensures made { OnOk result (Made (D.disk self.old.device) (D.disk self.new.device) (upgrade_calls (snapshot_size self.old.account))) }
         ensures failed { IfErr result (λ refusal. refusal.number ≡ DEVICE → Failed (D.disk self.old.device) (D.disk self.new.device) (upgrade_calls (snapshot_size self.old.account))) }
         ensures any_moment { (D.disk self.new.device).honest → LeavesOnly (model self.old.account.rides (D.disk self.old.device)) (model self.old.account.rides (D.disk self.new.device))
-            (OneOf self.old.account (account_over true self.old.account)) }
+            (OneOf self.old.account (account_over true identity self.old.account)) }
         ensures done { OnOk result ((D.disk self.new.device).honest → (image : Image) → (model self.new.account.rides (D.disk self.new.device)).left image → IsImageOf self.new.account image) }
         ensures standing { IsStanding (D.disk self.new.device) self.new.account }
         ensures honest { (D.disk self.new.device).honest → (D.disk self.old.device).honest }
@@ -267,7 +268,7 @@ impl<D: SectorDevice> Store<D> {
     {
         earlier_profiles_stay();
         self.copy = None;
-        upgrade(self.alloc, &mut self.journal, snapshot)?;
+        upgrade(self.alloc, &mut self.journal, identity, snapshot)?;
         self.machine.set_profile(Profile::Three);
         Ok(())
     }
@@ -281,12 +282,12 @@ impl<D: SectorDevice> Store<D> {
         requires within { AreWithin Two self.old.account.state.documents }
         requires between { FitsBetween self.old.account.sectors self.old.account.used }
         requires fits { length snapshot.now ≤ capacity_of false self.old.account.sectors }
-        ensures ok { OnOk result (self.new.account ≡ account_over false self.old.account) }
+        ensures ok { OnOk result (self.new.account ≡ account_over false 0 self.old.account) }
         ensures err { IfErr result (λ refusal. (refusal ≡ plain DEVICE) × (self.new.account ≡ account_broken self.old.account)) }
         ensures made { OnOk result (Made (D.disk self.old.device) (D.disk self.new.device) (downgrade_calls (snapshot_size self.old.account))) }
         ensures failed { IfErr result (λ refusal. refusal.number ≡ DEVICE → Failed (D.disk self.old.device) (D.disk self.new.device) (downgrade_calls (snapshot_size self.old.account))) }
         ensures any_moment { (D.disk self.old.device).honest → LeavesOnly (model self.old.account.rides (D.disk self.old.device)) (model self.old.account.rides (D.disk self.new.device))
-            (OneOf self.old.account (account_over false self.old.account)) }
+            (OneOf self.old.account (account_over false 0 self.old.account)) }
         ensures done { OnOk result ((D.disk self.new.device).honest → (image : Image) → (model self.new.account.rides (D.disk self.new.device)).left image → IsImageOf self.new.account image) }
         ensures standing { IsStanding (D.disk self.new.device) self.new.account }
         ensures honest { (D.disk self.old.device).honest ↔ (D.disk self.new.device).honest }
@@ -324,22 +325,23 @@ fn half_of(rides: bool) -> u32
 fn upgrade<D: SectorDevice>(
     alloc: Global,
     journal: &mut Journal<D>,
+    identity: u128,
     target: &[u8],
 ) -> Result<(), Refusal>
     requires works { journal.old.broken ≡ false }
     requires plain { journal.old.rides ≡ false }
     requires half { journal.old.half ≡ 1 }
     requires between { FitsBetween journal.old.sectors (length target.now) }
-    ensures ok { OnOk result (Upgraded (D.disk journal.old.device) (D.disk journal.new.device) journal.old journal.new target.now) }
+    ensures ok { OnOk result (Upgraded (D.disk journal.old.device) (D.disk journal.new.device) journal.old journal.new identity target.now) }
     ensures err { IfErr result (λ refusal.
         (((refusal ≡ plain MEMORY) ⊎ (refusal ≡ plain SEQ_END)) × Unwritten (D.disk journal.old.device) (D.disk journal.new.device) journal.old journal.new)
         ⊎ ((refusal ≡ plain DEVICE) × Halted (D.disk journal.old.device) (D.disk journal.new.device) (upgrade_calls (length target.now)) journal.old journal.new)) }
     ensures any_moment { (D.disk journal.new.device).honest → LeavesOnly (model journal.old.rides (D.disk journal.old.device)) (model journal.old.rides (D.disk journal.new.device))
-        (EitherCarried (carried_of journal.old) (turned true (carried_of journal.old) target.now)) }
+        (EitherCarried (carried_of journal.old) (turned true identity (carried_of journal.old) target.now)) }
     ensures honest { (D.disk journal.new.device).honest → (D.disk journal.old.device).honest }
     ensures kept { IsKept (D.disk journal.new.device) journal.new }
 {
-    match journal.upgrade(alloc, target) {
+    match journal.upgrade(alloc, identity, target) {
         Ok(()) => Ok(()),
         Err(fault) => Err(Refusal::plain(fault.number)),
     }
@@ -357,7 +359,7 @@ fn downgrade<D: SectorDevice>(journal: &mut Journal<D>, target: &[u8]) -> Result
     ensures err { IfErr result (λ refusal. (refusal ≡ plain DEVICE)
         × Broke (D.disk journal.old.device) (D.disk journal.new.device) (downgrade_calls (length target.now)) journal.old journal.new) }
     ensures any_moment { (D.disk journal.old.device).honest → LeavesOnly (model journal.old.rides (D.disk journal.old.device)) (model journal.old.rides (D.disk journal.new.device))
-        (EitherCarried (carried_of journal.old) (turned false (carried_of journal.old) target.now)) }
+        (EitherCarried (carried_of journal.old) (turned false 0 (carried_of journal.old) target.now)) }
     ensures honest { (D.disk journal.old.device).honest ↔ (D.disk journal.new.device).honest }
     ensures kept { IsKept (D.disk journal.new.device) journal.new }
 {

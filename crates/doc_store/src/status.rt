@@ -9,6 +9,8 @@ pub struct Status {
     pub seq: u64,
     /// How often the device was opened, this time included.
     pub opens: u64,
+    /// The identity of the store in format 3, which no other store has. Format 2 has none.
+    pub identity: Option<u128>,
     /// The bytes of the half that counts that hold frames.
     pub used: u64,
     /// The bytes of a half.

@@ -21,6 +21,7 @@ use Rattle.doc_changes.specs.Refusals.{plain}
 use Rattle.doc_changes.specs.State.{Document, State, find}
 use Rattle.doc_changes.specs.declared.refusal.Refusal.{Refusal}
 use Rattle.doc_machine.specs.Queries.{nodes_in}
+use Rattle.doc_store.specs.Formats.{status_of}
 use Rattle.store_commits.specs.Account.{Account}
 use Rattle.store_commits.specs.Run.{Event}
 use Rattle.store_commits.specs.declared.event.Reply.{Reply}
@@ -28,7 +29,8 @@ use Rattle.protocol.specs.declared.limits.TheConstants.{REPLY_BYTES}
 use Rattle.protocol.specs.Request.{Request, Asks, IsAskedBy, IsInRange, change, get, get_schema, rev, query, list, status, snapshot, pump, seal, object_of}
 use Rattle.protocol.specs.Reply.{change_reply, names_reply, node_object, nodes_reply, refusal_reply, revision_reply, texts, told_by, value_reply, with_number}
 use Rattle.serve_lines.specs.Kept.{AsksFor, Has, HaveOwnNames, IsRefusal, LineTells, Refuses, Shows, Tells}
-use Rattle.serve_lines.specs.Session.{AnswersOther, Finds, Replies, Selects, found_reply, reply_to_rev, selected_reply}
+use Rattle.serve_lines.specs.Session.{AnswersOther, Finds, Replies, Selects, found_reply, id_of, reply_to_rev, selected_reply}
+use Rattle.serve_lines.proofs.Statuses.{tells_seq}
 
 true_false : true ≡ false → ⊥
 true_false h = cc h
@@ -220,7 +222,7 @@ request_tells old new (get_schema name) events said reply h = schema_answered ol
 request_tells old new (rev name) events said reply h = revision_answered old.state name reply (document_at old.state name) refl h.0
 request_tells old new (query name path) events said reply h = query_answered old.state name path reply h.0 h.1 h.2
 request_tells old new list events said reply h = inl h.0
-request_tells old new status events said reply h = inl (ap (resolve (codes "seq" ∷ [])) h.0, ap (resolve (codes "documents" ∷ [])) h.0)
+request_tells old new status events said reply h = inl (ap (resolve (codes "seq" ∷ [])) h.0 ∙ tells_seq (status_of old) (id_of (status_of old)), ap (resolve (codes "documents" ∷ [])) h.0)
 
 memory_tells : (s : State) (line : List ℕ) (reply : Doc) → reply ≡ refusal_reply (plain MEMORY) → LineTells s line reply
 memory_tells s line reply is = inr (inr (inl (refuses_by reply (plain MEMORY) is)))

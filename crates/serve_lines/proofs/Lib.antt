@@ -5,6 +5,7 @@ mod One
 pub mod Pausing
 pub mod Reading
 pub mod Shown
+pub mod Statuses
 pub mod Telling
 mod Answering
 mod Numbering

@@ -26,4 +26,4 @@ pub use options::Options;
 pub use protocol::{Reply, ReplyRoom};
 pub use serving::{ServeFault, Served, serve};
 pub use session::Session;
-pub use status::status_line;
+pub use status::{identity_text, send_id, status_line};

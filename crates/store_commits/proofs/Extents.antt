@@ -18,12 +18,12 @@ pub count : {D : Type 0} (rides : Bool) (disk : Disk) (journal : JournalView D) 
 count rides disk journal coherent kept honest image left = sym kept.size ∙ sym (model_sectors rides disk) ∙ sym ((coherent honest).shape image left).count
 
 -- bytes of format 2 that hold the state, as many and in that half
-pub stands_as : (l : Extent) (c : Carried) → c.version ≡ 2 → c.rides ≡ l.rides → c.half ≡ l.half → c.seq ≡ l.state.seq → profile_in l.rides ≡ l.state.profile → Holds l.state.profile 2 l.state.seq c.bytes l.state.documents → l.used ≡ length c.bytes
+pub stands_as : (l : Extent) (c : Carried) → c.version ≡ 2 → c.rides ≡ l.rides → c.half ≡ l.half → c.seq ≡ l.state.seq → c.identity ≡ l.identity → profile_in l.rides ≡ l.state.profile → Holds l.state.profile 2 l.state.seq c.bytes l.state.documents → l.used ≡ length c.bytes
     → (image : Image) → l.sectors ≡ length image → Carries c image → StandsAs l image
-stands_as l c version rides half seq profile holds used image sectors carries = record {
+stands_as l c version rides half seq identity profile holds used image sectors carries = record {
   bytes = c.bytes;
   opens = c.opens;
-  carries = subst (λ (d : Carried). Carries d image) (λ i. record { version = version i; rides = rides i; half = half i; bytes = c.bytes; seq = seq i; opens = c.opens }) carries;
+  carries = subst (λ (d : Carried). Carries d image) (λ i. record { version = version i; rides = rides i; half = half i; bytes = c.bytes; seq = seq i; opens = c.opens; identity = identity i }) carries;
   profile_is = profile;
   holds = holds;
   used_is = used;
@@ -34,7 +34,7 @@ stands_as l c version rides half seq profile holds used image sectors carries = 
 pub as_it_was : {D : Type 0} (disk : Disk) (journal : JournalView D) (state : State) → IsHeld disk journal state → (image : Image) → journal.sectors ≡ length image → disk.honest → Carries (carried_of journal) image
     → StandsAs (extent_of (account_of journal state)) image
 as_it_was disk journal state held image count_is honest carries =
-    stands_as (extent_of (account_of journal state)) (carried_of journal) held.version refl refl held.seq held.profile (held.held honest) refl image count_is carries
+    stands_as (extent_of (account_of journal state)) (carried_of journal) held.version refl refl held.seq refl held.profile (held.held honest) refl image count_is carries
 
 -- each image of a store that works is as its account
 pub standing_as : {D : Type 0} (disk : Disk) (journal : JournalView D) (state : State) (k : Option Copy) → (disk.honest → IsCoherent (model journal.rides disk)) → IsHeld disk journal state → IsStandingAs disk (with_copy (account_of journal state) k)
@@ -62,20 +62,20 @@ module _ {D : Type 0} (disk : D → Disk) (coherent : AreCoherent disk) (before 
   counted honest image left = sym sectors ∙ count before.rides (disk now.device) now (coherent before.rides now.device) kept honest image left
 
   -- the bytes as they were, or other bytes that hold a state
-  pub either_as : (c : Carried) (l : Extent) → ((disk before.device).honest → Holds l.state.profile 2 l.state.seq c.bytes l.state.documents) → c.version ≡ before.version → c.rides ≡ l.rides → c.half ≡ l.half → c.seq ≡ l.state.seq → profile_in l.rides ≡ l.state.profile
+  pub either_as : (c : Carried) (l : Extent) → ((disk before.device).honest → Holds l.state.profile 2 l.state.seq c.bytes l.state.documents) → c.version ≡ before.version → c.rides ≡ l.rides → c.half ≡ l.half → c.seq ≡ l.state.seq → c.identity ≡ before.identity → l.identity ≡ before.identity → profile_in l.rides ≡ l.state.profile
       → l.used ≡ length c.bytes → l.sectors ≡ before.sectors → (front ending : List ℕ) → c.bytes ≡ front ++ ending → ((disk before.device).honest → LeavesOnly (model before.rides (disk before.device)) (model before.rides (disk now.device)) (EitherCarried (carried_of before) c))
       → (disk now.device).honest → (image : Image) → (model before.rides (disk now.device)).left image → StandsAs (extent_of (account_of before state)) image ⊎ EndsWith ending l image
   unfolding stands_as
-  either_as c l holds version rides half seq profile used size front ending ends leaves honest image left =
+  either_as c l holds version rides half seq identity as_it_is profile used size front ending ends leaves honest image left =
       let h = same.1 honest in
       let count_is = counted honest image left in
       ⊎_elim (λ old. inl (as_it_was (disk before.device) before state held image count_is h old))
-      (λ new. inr (record { stands = stands_as l c (version ∙ held.version) rides half seq profile (holds h) used image (size ∙ count_is) new; front = front; ends = ends }))
+      (λ new. inr (record { stands = stands_as l c (version ∙ held.version) rides half seq (identity ∙ sym as_it_is) profile (holds h) used image (size ∙ count_is) new; front = front; ends = ends }))
       (left_now (model before.rides (disk before.device)) (model before.rides (disk now.device)) (EitherCarried (carried_of before) c) (coherent before.rides now.device honest) (leaves h) image left)
 
   -- a target in the other half
   pub switched_as : (target : List ℕ) → Holds state.profile 2 state.seq target state.documents
       → ((disk before.device).honest → LeavesOnly (model before.rides (disk before.device)) (model before.rides (disk now.device)) (EitherCarried (carried_of before) (switched (carried_of before) target)))
       → (disk now.device).honest → (image : Image) → (model before.rides (disk now.device)).left image
-      → StandsAs (extent_of (account_of before state)) image ⊎ EndsWith target (record { state = state; used = length target; half = 1 - before.half; rides = before.rides; sectors = before.sectors }) image
-  switched_as target holds = either_as (switched (carried_of before) target) (record { state = state; used = length target; half = 1 - before.half; rides = before.rides; sectors = before.sectors }) (λ _. holds) refl refl refl held.seq held.profile refl refl [] target refl
+      → StandsAs (extent_of (account_of before state)) image ⊎ EndsWith target (record { state = state; used = length target; half = 1 - before.half; rides = before.rides; identity = before.identity; sectors = before.sectors }) image
+  switched_as target holds = either_as (switched (carried_of before) target) (record { state = state; used = length target; half = 1 - before.half; rides = before.rides; identity = before.identity; sectors = before.sectors }) (λ _. holds) refl refl refl held.seq refl refl held.profile refl refl [] target refl

@@ -91,7 +91,7 @@ module _ {D : Type 0} (disk : D → Disk) (coherent : AreCoherent disk) (before 
       }
 
       account_then : account_of now (after_in state t) ≡ made
-      account_then = λ i. record { state = after_in state t; used = ok.used i; half = ok.half i; rides = ok.rides i; opens = ok.opens i; sectors = ok.sectors i; broken = (ok.works ∙ sym works) i; copy = None }
+      account_then = λ i. record { state = after_in state t; used = ok.used i; half = ok.half i; rides = ok.rides i; opens = ok.opens i; identity = ok.identity i; sectors = ok.sectors i; broken = (ok.works ∙ sym works) i; copy = None }
 
       moved_done : Moved disk before state now None (t ∷ []) [] (passed (to_replace d t) ∷ [])
       moved_done = record {
@@ -130,7 +130,7 @@ module _ {D : Type 0} (disk : D → Disk) (coherent : AreCoherent disk) (before 
           record {
             failed = broke.failed;
             leaves = λ honest image left. ⊎_elim (λ old. inl (broken_as d (account_of now state) image new_is old)) (λ new. inr new)
-                (either_as disk coherent before now state stored.held is.honest is.kept broke.stays.sectors (replaced (carried_of before) target adds) (extent_of made) (λ _. holds) refl refl refl seq_then profile_then refl refl [] target refl
+                (either_as disk coherent before now state stored.held is.honest is.kept broke.stays.sectors (replaced (carried_of before) target adds) (extent_of made) (λ _. holds) refl refl refl seq_then refl refl profile_then refl refl [] target refl
                 is.any_moment honest image (subst (λ (r : Bool). (model r (disk now.device)).left image) broke.stays.rides left));
           },
           refl,

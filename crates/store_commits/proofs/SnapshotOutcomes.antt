@@ -50,7 +50,7 @@ module _ {D : Type 0} (old new : Disk) (before now : JournalView D) (state : Sta
 
   -- the account of the journal then
   pub snapped_is : (k : Option Copy) → before.broken ≡ false → Switched old new before now target (sectors_of (length target) + switch_calls before.rides (length target)) → account_of now state ≡ account_with_snapshot (with_copy (account_of before state) k)
-  snapped_is k works counts = λ i. record { state = state; used = counts.used i; half = counts.half i; rides = counts.rides i; opens = counts.opens i; sectors = counts.sectors i; broken = (counts.works ∙ sym works) i; copy = None }
+  snapped_is k works counts = λ i. record { state = state; used = counts.used i; half = counts.half i; rides = counts.rides i; opens = counts.opens i; identity = counts.identity i; sectors = counts.sectors i; broken = (counts.works ∙ sym works) i; copy = None }
 
 -- ---- either way
 

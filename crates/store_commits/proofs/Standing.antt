@@ -51,7 +51,7 @@ module _ {D : Type 0} (old new : Disk) (before now : JournalView D) (state : Sta
   }
 
   pub broke_is : account_of now state ≡ account_broken (account_of before state)
-  broke_is = λ i. record { state = state; used = broke.stays.used i; half = broke.stays.half i; rides = broke.stays.rides i; opens = broke.stays.opens i; sectors = broke.stays.sectors i; broken = broke.broken i; copy = None }
+  broke_is = λ i. record { state = state; used = broke.stays.used i; half = broke.stays.half i; rides = broke.stays.rides i; opens = broke.stays.opens i; identity = broke.stays.identity i; sectors = broke.stays.sectors i; broken = broke.broken i; copy = None }
 
 -- a store works, or it doesn't
 pub not_both : {P : Type 0} (broken : Bool) → broken ≡ false → broken ≡ true → P

@@ -58,7 +58,7 @@ pub either_of : {D : Type 0} (disk : D → Disk) (before mid now : JournalView D
     → LeavesOnly (model mid.rides (disk mid.device)) (model mid.rides (disk now.device)) (EitherCarried (carried_of mid) (next (carried_of mid)))
     → LeavesOnly (model before.rides (disk before.device)) (model before.rides (disk now.device)) (EitherCarried (carried_of before) (next (carried_of before)))
 either_of disk before mid now next stays honest first second =
-    let same : carried_of mid ≡ carried_of before = λ i. record { version = stays.version i; rides = stays.rides i; half = stays.half i; bytes = stays.bytes honest i; seq = stays.seq i; opens = stays.opens i } in
+    let same : carried_of mid ≡ carried_of before = λ i. record { version = stays.version i; rides = stays.rides i; half = stays.half i; bytes = stays.bytes honest i; seq = stays.seq i; opens = stays.opens i; identity = stays.identity i } in
     joined (model before.rides (disk before.device)) (model before.rides (disk mid.device)) (model before.rides (disk now.device)) (EitherCarried (carried_of before) (next (carried_of before)))
     (leaves_weaker (model before.rides (disk before.device)) (model before.rides (disk mid.device)) (Carries (carried_of before)) (EitherCarried (carried_of before) (next (carried_of before))) (λ image carries. inl carries) first)
     (subst (λ (c : Carried). LeavesOnly (model c.rides (disk mid.device)) (model c.rides (disk now.device)) (EitherCarried c (next c))) same second)
@@ -82,6 +82,7 @@ broke_behind old mid new before middle now last calls stays same is failed = rec
     rides = is.stays.rides ∙ stays.rides;
     half = is.stays.half ∙ stays.half;
     opens = is.stays.opens ∙ stays.opens;
+    identity = is.stays.identity ∙ stays.identity;
     sectors = is.stays.sectors ∙ stays.sectors;
     settled = is.stays.settled ∙ stays.settled;
     next = is.stays.next ∙ stays.next;
@@ -124,6 +125,7 @@ module _ {D : Type 0} (disk : D → Disk) (before mid now : JournalView D) (targ
       version = is.version ∙ step.stays.version;
       rides = is.rides ∙ step.stays.rides;
       opens = is.opens ∙ step.stays.opens;
+      identity = is.identity ∙ step.stays.identity;
       sectors = is.sectors ∙ step.stays.sectors;
       works = is.works;
       settled = is.settled;
@@ -144,6 +146,7 @@ module _ {D : Type 0} (disk : D → Disk) (before mid now : JournalView D) (targ
       version = is.version ∙ step.stays.version;
       rides = is.rides ∙ step.stays.rides;
       opens = is.opens ∙ step.stays.opens;
+      identity = is.identity ∙ step.stays.identity;
       sectors = is.sectors ∙ step.stays.sectors;
       works = is.works;
       settled = is.settled;

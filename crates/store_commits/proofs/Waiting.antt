@@ -180,6 +180,7 @@ module _ {D : Type 0} (disk : D → Disk) (coherent : AreCoherent disk) (before 
             half = ok.half i;
             rides = ok.rides i;
             opens = ok.opens i;
+            identity = ok.identity i;
             sectors = ok.sectors i;
             broken = (ok.works ∙ sym works) i;
             copy = (copy_then copy ∙ ap (copy_with (copy_of copy)) size) i;
@@ -221,10 +222,10 @@ module _ {D : Type 0} (disk : D → Disk) (coherent : AreCoherent disk) (before 
 
       -- what it would have made
       abbrev made_as : Extent
-      made_as = record { state = after_each state cs; used = length (before.bytes ++ frames); half = before.half; rides = before.rides; sectors = before.sectors }
+      made_as = record { state = after_each state cs; used = length (before.bytes ++ frames); half = before.half; rides = before.rides; identity = before.identity; sectors = before.sectors }
 
       made_is : made_as ≡ extent_of (account_committed a slots)
-      made_is = (λ i. record { state = after_each state cs; used = (length-append before.bytes frames ∙ ap (λ (n : ℕ). length before.bytes + n) size) i; half = before.half; rides = before.rides; sectors = before.sectors })
+      made_is = (λ i. record { state = after_each state cs; used = (length-append before.bytes frames ∙ ap (λ (n : ℕ). length before.bytes + n) size) i; half = before.half; rides = before.rides; identity = before.identity; sectors = before.sectors })
           ∙ ap extent_of (sym (committed_is a slots))
 
       pub moved_in_doubt : Moved disk before state now None [] cs (failed (to_append a slots) (account_of now state) ∷ [])
@@ -238,7 +239,7 @@ module _ {D : Type 0} (disk : D → Disk) (coherent : AreCoherent disk) (before 
           record {
             failed = subst (Failed (disk before.device) (disk now.device)) calls_are broke.failed;
             leaves = λ honest image left. ⊎_elim (λ old. inl (broken_as a (account_of now state) image new_is old)) (λ new. inr (subst (λ (l : Extent). EndsWith frames l image) made_is new))
-                (either_as disk coherent before now state stored.held is.honest is.kept broke.stays.sectors (appended (carried_of before) frames adds) made_as more refl refl refl seq_then profile_then refl refl before.bytes frames refl is.any_moment honest image (subst (λ (r : Bool). (model r (disk now.device)).left image) broke.stays.rides left));
+                (either_as disk coherent before now state stored.held is.honest is.kept broke.stays.sectors (appended (carried_of before) frames adds) made_as more refl refl refl seq_then refl refl profile_then refl refl before.bytes frames refl is.any_moment honest image (subst (λ (r : Bool). (model r (disk now.device)).left image) broke.stays.rides left));
           },
           refl,
         );

@@ -20,6 +20,8 @@ pub record Account : Type 0 where
   -- the last bytes ride in slots, so that one sync makes small commits durable: format 3, the one of profile 3
   pub rides : Bool
   pub opens : ℕ
+  -- the identity of the store, in format 3; else 0
+  pub identity : ℕ
   pub sectors : ℕ
   -- the device failed
   pub broken : Bool
@@ -42,22 +44,23 @@ pub record StoreView (D : Type 0) : Type 0 where
 abbrev pub IsStanding : Disk → Account → Type 0
 IsStanding disk account = disk.honest → account.broken ≡ false → (image : Image) → (model account.rides disk).left image → Stands account.state image
 
--- a state, how many bytes hold it in which half, whether the last of them ride in slots, and the sectors of the device
+-- a state, how many bytes hold it in which half, whether the last of them ride in slots, the identity of the store, and the sectors of the device
 pub record Extent : Type 0 where
   pub state : State
   pub used : ℕ
   pub half : ℕ
   pub rides : Bool
+  pub identity : ℕ
   pub sectors : ℕ
 
 abbrev pub extent_of : Account → Extent
-extent_of a = record { state = a.state; used = a.used; half = a.half; rides = a.rides; sectors = a.sectors }
+extent_of a = record { state = a.state; used = a.used; half = a.half; rides = a.rides; identity = a.identity; sectors = a.sectors }
 
--- the image has `sectors` sectors, and carries the state in format 2, or 3, in `used` bytes in that half
+-- the image has `sectors` sectors, and carries the state in format 2, or in 3 with that identity, in `used` bytes in that half
 pub record StandsAs (l : Extent) (image : Image) : Type 0 where
   pub bytes : List ℕ
   pub opens : ℕ
-  pub carries : Carries (record { version = 2; rides = l.rides; half = l.half; bytes = bytes; seq = l.state.seq; opens = opens }) image
+  pub carries : Carries (record { version = 2; rides = l.rides; half = l.half; bytes = bytes; seq = l.state.seq; opens = opens; identity = l.identity }) image
   pub profile_is : profile_in l.rides ≡ l.state.profile
   pub holds : Holds l.state.profile 2 l.state.seq bytes l.state.documents
   pub used_is : l.used ≡ length bytes

@@ -38,6 +38,7 @@ account_of journal state = record {
   half = journal.half;
   rides = journal.rides;
   opens = journal.opens;
+  identity = journal.identity;
   sectors = journal.sectors;
   broken = journal.broken;
   copy = None;

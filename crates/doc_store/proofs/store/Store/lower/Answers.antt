@@ -16,7 +16,7 @@ returns-clause-failed g c =
     let new = disk c.turn_down.new.self.device in
     let a = c.args.self.now.account in
     let b = c.make_ready.new.self.account in
-    IfErr-weaker c.turn_down.result _ _ (λ refusal failed device. turned_failed old mid new a b false c.in_ok-make_ready.ensures.ok downgrade_calls c.in_ok-make_ready.ensures.made (failed device)) c.turn_down.ensures.failed
+    IfErr-weaker c.turn_down.result _ _ (λ refusal failed device. turned_failed old mid new a b false 0 c.in_ok-make_ready.ensures.ok downgrade_calls c.in_ok-make_ready.ensures.made (failed device)) c.turn_down.ensures.failed
 
 pub returns-clause-any_moment : goal.returns-clause-any_moment
 returns-clause-any_moment g c = λ honest.
@@ -27,4 +27,4 @@ returns-clause-any_moment g c = λ honest.
     let a = c.args.self.now.account in
     let b = c.make_ready.new.self.account in
     let mid_honest = c.turn_down.ensures.honest.1 honest in
-    turned_moments old mid new a b false c.in_ok-make_ready.ensures.ok (c.make_ready.ensures.any_moment (c.make_ready.ensures.honest.1 mid_honest)) (c.turn_down.ensures.any_moment mid_honest)
+    turned_moments old mid new a b false 0 c.in_ok-make_ready.ensures.ok (c.make_ready.ensures.any_moment (c.make_ready.ensures.honest.1 mid_honest)) (c.turn_down.ensures.any_moment mid_honest)

@@ -16,7 +16,7 @@ returns-clause-failed g c =
     let new = disk c.turn_up.new.self.device in
     let a = c.args.self.now.account in
     let b = c.make_ready.new.self.account in
-    IfErr-weaker c.turn_up.result _ _ (λ refusal failed device. turned_failed old mid new a b true c.in_ok-make_ready.ensures.ok upgrade_calls c.in_ok-make_ready.ensures.made (failed device)) c.turn_up.ensures.failed
+    IfErr-weaker c.turn_up.result _ _ (λ refusal failed device. turned_failed old mid new a b true c.args.identity c.in_ok-make_ready.ensures.ok upgrade_calls c.in_ok-make_ready.ensures.made (failed device)) c.turn_up.ensures.failed
 
 pub returns-clause-any_moment : goal.returns-clause-any_moment
 returns-clause-any_moment g c = λ honest.
@@ -27,4 +27,4 @@ returns-clause-any_moment g c = λ honest.
     let a = c.args.self.now.account in
     let b = c.make_ready.new.self.account in
     let mid_honest = c.turn_up.ensures.honest honest in
-    turned_moments old mid new a b true c.in_ok-make_ready.ensures.ok (c.make_ready.ensures.any_moment (c.make_ready.ensures.honest.1 mid_honest)) (c.turn_up.ensures.any_moment honest)
+    turned_moments old mid new a b true c.args.identity c.in_ok-make_ready.ensures.ok (c.make_ready.ensures.any_moment (c.make_ready.ensures.honest.1 mid_honest)) (c.turn_up.ensures.any_moment honest)

@@ -25,7 +25,7 @@ returns-in-Two-clause-any_moment g c = λ honest works.
     let old = model a.rides (g.D.SectorDevice.disk c.args.self.now.device) in
     let new = model a.rides (g.D.SectorDevice.disk c.lower.new.self.device) in
     let rides : a.rides ≡ true = search (rules, c.rides.ensures, c.rides-2.ensures, c.if-rides.false, c.in-Two.is, c.self.view_is) in
-    subst (λ (f : Format). LeavesOnly old new (InEither a f)) (sym c.in-Two.is) (subst (λ (b : Account). LeavesOnly old new (OneOfThree a b)) (sym (in_two a rides)) (c.lower.ensures.any_moment honest))
+    subst (λ (f : Format). LeavesOnly old new (InEither a f c.args.identity)) (sym c.in-Two.is) (subst (λ (b : Account). LeavesOnly old new (OneOfThree a b)) (sym (in_two c.args.identity a rides)) (c.lower.ensures.any_moment honest))
 
 pub returns-in-Three-clause-any_moment : goal.returns-in-Three-clause-any_moment
 returns-in-Three-clause-any_moment g c = λ honest works.
@@ -33,4 +33,4 @@ returns-in-Three-clause-any_moment g c = λ honest works.
     let old = model a.rides (g.D.SectorDevice.disk c.args.self.now.device) in
     let new = model a.rides (g.D.SectorDevice.disk c.raise.new.self.device) in
     let rides : a.rides ≡ false = search (rules, c.rides.ensures, c.rides-2.ensures, c.if-rides.false, c.in-Three.is, c.self.view_is) in
-    subst (λ (f : Format). LeavesOnly old new (InEither a f)) (sym c.in-Three.is) (subst (λ (b : Account). LeavesOnly old new (OneOfThree a b)) (sym (in_three a rides)) (c.raise.ensures.any_moment honest))
+    subst (λ (f : Format). LeavesOnly old new (InEither a f c.args.identity)) (sym c.in-Three.is) (subst (λ (b : Account). LeavesOnly old new (OneOfThree a b)) (sym (in_three c.args.identity a rides)) (c.raise.ensures.any_moment honest))

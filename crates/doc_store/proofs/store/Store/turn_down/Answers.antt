@@ -21,7 +21,7 @@ returns-in_err-downgrade-clause-any_moment g c =
     let bytes : c.args.snapshot.now ≡ snapshot_bytes state.documents = c.requires.snapshot ∙ ap (λ (v : StoreView g.row.D.Denot). snapshot_bytes v.account.state.documents) (sym c.self.view_is) in
     let within = subst (λ (v : StoreView g.row.D.Denot). AreWithin Two v.account.state.documents) (sym c.self.view_is) c.requires.within in
     let holds = holds_down disk before state k held within in
-    rw (← c.self.view_is) (λ honest. over_moments disk before state k held false holds now honest ((rw bytes at c.downgrade.ensures.any_moment) honest))
+    rw (← c.self.view_is) (λ honest. over_moments disk before state k held false 0 holds now honest ((rw bytes at c.downgrade.ensures.any_moment) honest))
 
 pub returns-clause-any_moment : goal.returns-clause-any_moment
 returns-clause-any_moment g c =
@@ -34,7 +34,7 @@ returns-clause-any_moment g c =
     let bytes : c.args.snapshot.now ≡ snapshot_bytes state.documents = c.requires.snapshot ∙ ap (λ (v : StoreView g.row.D.Denot). snapshot_bytes v.account.state.documents) (sym c.self.view_is) in
     let within = subst (λ (v : StoreView g.row.D.Denot). AreWithin Two v.account.state.documents) (sym c.self.view_is) c.requires.within in
     let holds = holds_down disk before state k held within in
-    rw (← c.self.view_is) (λ honest. over_moments disk before state k held false holds now honest ((rw bytes at c.downgrade.ensures.any_moment) honest))
+    rw (← c.self.view_is) (λ honest. over_moments disk before state k held false 0 holds now honest ((rw bytes at c.downgrade.ensures.any_moment) honest))
 
 pub invariant_of-self-2 : goal.invariant_of-self-2
 invariant_of-self-2 g c =
@@ -51,7 +51,7 @@ invariant_of-self-2 g c =
     let went = over_down disk before now (snapshot_bytes state.documents) told.kept told.honest (rw bytes at c.in_ok-downgrade.ensures.ok) in
     let set = c.set_profile.ensures.set in
     subst (λ (s : State). IsStored (disk now.device) now s None) (sym set)
-    (record { held = over_held disk before state k held false holds now went (subst Good set c.set_profile.ensures.good); copied = tt })
+    (record { held = over_held disk before state k held false 0 holds now went (subst Good set c.set_profile.ensures.good); copied = tt })
 
 pub returns-clause-done : goal.returns-clause-done
 returns-clause-done g c =

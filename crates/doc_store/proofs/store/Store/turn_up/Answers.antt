@@ -23,7 +23,7 @@ returns-in_err-upgrade-clause-any_moment g c =
     let held = c.self.invariant.held in
     let bytes : c.args.snapshot.now ≡ snapshot_bytes state.documents = c.requires.snapshot ∙ ap (λ (v : StoreView g.row.D.Denot). snapshot_bytes v.account.state.documents) (sym c.self.view_is) in
     let holds = holds_up disk before state k held c.earlier_profiles_stay.ensures.changes in
-    rw (← c.self.view_is) (λ honest. over_moments disk before state k held true holds now (c.upgrade.ensures.honest honest) ((rw bytes at c.upgrade.ensures.any_moment) honest))
+    rw (← c.self.view_is) (λ honest. over_moments disk before state k held true c.args.identity holds now (c.upgrade.ensures.honest honest) ((rw bytes at c.upgrade.ensures.any_moment) honest))
 
 pub returns-clause-any_moment : goal.returns-clause-any_moment
 returns-clause-any_moment g c =
@@ -35,7 +35,7 @@ returns-clause-any_moment g c =
     let held = c.self.invariant.held in
     let bytes : c.args.snapshot.now ≡ snapshot_bytes state.documents = c.requires.snapshot ∙ ap (λ (v : StoreView g.row.D.Denot). snapshot_bytes v.account.state.documents) (sym c.self.view_is) in
     let holds = holds_up disk before state k held c.earlier_profiles_stay.ensures.changes in
-    rw (← c.self.view_is) (λ honest. over_moments disk before state k held true holds now (c.upgrade.ensures.honest honest) ((rw bytes at c.upgrade.ensures.any_moment) honest))
+    rw (← c.self.view_is) (λ honest. over_moments disk before state k held true c.args.identity holds now (c.upgrade.ensures.honest honest) ((rw bytes at c.upgrade.ensures.any_moment) honest))
 
 pub invariant_of-self-2 : goal.invariant_of-self-2
 invariant_of-self-2 g c =
@@ -48,10 +48,10 @@ invariant_of-self-2 g c =
     let bytes : c.args.snapshot.now ≡ snapshot_bytes state.documents = c.requires.snapshot ∙ ap (λ (v : StoreView g.row.D.Denot). snapshot_bytes v.account.state.documents) (sym c.self.view_is) in
     let holds = holds_up disk before state k held c.earlier_profiles_stay.ensures.changes in
     let told = c.upgrade.ensures in
-    let went = over_up disk before now (snapshot_bytes state.documents) told.kept (rw bytes at c.in_ok-upgrade.ensures.ok) in
+    let went = over_up disk before now c.args.identity (snapshot_bytes state.documents) told.kept (rw bytes at c.in_ok-upgrade.ensures.ok) in
     let set = c.set_profile.ensures.set in
     subst (λ (s : State). IsStored (disk now.device) now s None) (sym set)
-    (record { held = over_held disk before state k held true holds now went (subst Good set c.set_profile.ensures.good); copied = tt })
+    (record { held = over_held disk before state k held true c.args.identity holds now went (subst Good set c.set_profile.ensures.good); copied = tt })
 
 pub returns-clause-done : goal.returns-clause-done
 returns-clause-done g c =

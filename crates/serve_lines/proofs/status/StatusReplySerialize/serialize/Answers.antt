@@ -1,6 +1,8 @@
-use Rattle.std.proofs.Common.{subst, ℕ, codes}
+use Rattle.std.proofs.Common.{◌∙◌, subst, ℕ, Some, codes}
+use Rattle.serde.specs.Event.{Logs, map_begins}
 use Rattle.std.proofs.lemmas.Result.{on_ok_weaker}
-use Rattle.serve_lines.specs.Session.{SendsNumber}
+use Rattle.serve_lines.specs.Session.{SendsNumber, members_after, shown_id}
+use Rattle.serve_lines.proofs.Statuses.{members_are, sends_with}
 use Rattle.serve_lines.proofs.status.StatusReplySerialize.serialize.Goals as goal
 
 pub returns : goal.returns
@@ -13,9 +15,11 @@ returns g c =
     let sectors = c.in_ok-send_number-5.ensures in
     let seq = c.in_ok-send_number-6.ensures in
     let used = c.in_ok-send_number-7.ensures in
+    let status = c.args.self.now.status.now in
+    let id = shown_id status c.args.self.now.id.now in
     on_ok_weaker c.end_map.result (λ end. (
       log c.begin_map.new.self,
-      c.in_ok-begin_map.ensures,
+      subst (λ (n : ℕ). Logs (log c.args.out.now) (log c.begin_map.new.self) (map_begins (Some n))) (c.members_of.ensures ∙ members_are status status.identity c.args.self.now.id.now) c.in_ok-begin_map.ensures,
       (
         log c.key.new.self,
         log c.bool.new.self,
@@ -36,7 +40,7 @@ returns g c =
               log c.send_number-3.new.out,
               half.key,
               half.value,
-              (
+              sends_with id (members_after status) (log c.send_number-3.new.out) (log c.send_shown.new.out) (log c.end_map.new.self) c.in_ok-send_shown.ensures (
                 log c.key-2.new.self,
                 log c.bool-2.new.self,
                 c.in_ok-key-2.ensures,
