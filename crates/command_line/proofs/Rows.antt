@@ -17,8 +17,8 @@ use Rattle.clap.proofs.OnLiterals.{clap_on_literals}
 use Rattle.clap.proofs.ValueTestLemmas.{Accepts-accepts}
 use Rattle.command_line.proofs.Walks.{IsPlain, Steps, Goes, gone, goes, held, standing, plain_passes, plain_stands, value_passes, value_stands}
 use Rattle.command_line.specs.declared.limits.TheConstants.{MIN_SECTORS, MAX_SECTORS, MAX_MEMORY_SECTORS, MIN_FORMAT, MAX_FORMAT, MAX_BATCH, MAX_PUMP}
-use Rattle.command_line.specs.Call.{Asked, format, serve, check, repair, copy, upgrade, mem, deep, salvage, dump, InRange, IsGiven, IsModeGiven, IsNoOption, IsRowOf, flag_words}
-use Rattle.command_line.specs.Options.{app, HoldsFile, HoldsFlag, HoldsMode, HoldsNew, MayHold, Means, MeansWhy, Spells, flag_text}
+use Rattle.command_line.specs.Call.{Asked, format, serve, check, repair, copy, upgrade, mem, deep, salvage, dump, InRange, IsGiven, IsIdentityGiven, IsModeGiven, IsNoOption, IsRowOf, flag_words}
+use Rattle.command_line.specs.Options.{app, HoldsFile, HoldsFlag, HoldsIdentity, HoldsMode, HoldsNew, MayHold, Means, MeansWhy, Spells, flag_text}
 
 pub simple : is_simple app ≡ true
 simple = refl
@@ -253,123 +253,219 @@ dump_read file false h =
     let read = read_by (file ∷ codes "--read-only" ∷ []) (codes "dump") dump_built (standing (given (codes "file") file ∷ flag_row (codes "read-only") true ∷ []) None idle 2) refl refl refl walked refl refl refl in
     record { rows = _; met = read.0; taken = read.1; holds = (refl, refl, refl) }
 
-copy_read : (file new sectors : Text) (version : Option Text) (why : Bool) → IsPlain file → IsPlain new → IsChecked MIN_SECTORS MAX_SECTORS sectors → IfSome version (IsChecked MIN_FORMAT MAX_FORMAT)
-    → Read (codes "copy" ∷ file ∷ new ∷ codes "--sectors" ∷ sectors ∷ option_words (codes "--format") version ++ flag_words (codes "--why") why) (codes "copy")
-    (λ rows. HoldsFile file rows × HoldsNew new rows × (one_of (codes "sectors") rows ≡ Some sectors) × (one_of (codes "format") rows ≡ version) × (first_of (codes "format") rows ≡ version) × HoldsFlag (codes "why") why rows)
+copy_read : (file new sectors : Text) (version identity : Option Text) (why : Bool) → IsPlain file → IsPlain new → IsChecked MIN_SECTORS MAX_SECTORS sectors → IfSome version (IsChecked MIN_FORMAT MAX_FORMAT) → IfSome identity IsPlain
+    → Read (codes "copy" ∷ file ∷ new ∷ codes "--sectors" ∷ sectors ∷ option_words (codes "--format") version ++ option_words (codes "--id") identity ++ flag_words (codes "--why") why) (codes "copy")
+    (λ rows. HoldsFile file rows × HoldsNew new rows × (one_of (codes "sectors") rows ≡ Some sectors) × (one_of (codes "format") rows ≡ version) × (first_of (codes "format") rows ≡ version) × (first_of (codes "id") rows ≡ identity) × HoldsFlag (codes "why") why rows)
 unfolding clap_on_literals
-copy_read file new sectors (Some version) true h k s v =
+copy_read file new sectors (Some version) (Some identity) true h k s v d =
+    let walked = goes (plain_step copy_built None 1 file h refl) (goes (plain_step copy_built (Some (codes "file", file ∷ [])) 2 new k refl) (goes (met copy_built (standing (given (codes "file") file ∷ []) (Some (codes "new", new ∷ [])) idle 3) (codes "--sectors") refl) (goes (value_step copy_built (given (codes "file") file ∷ given (codes "new") new ∷ []) (codes "sectors") 3 sectors s.0) (goes (met copy_built (standing (given (codes "file") file ∷ given (codes "new") new ∷ []) (Some (codes "sectors", sectors ∷ [])) idle 3) (codes "--format") (simp s.1)) (goes (value_step copy_built (given (codes "file") file ∷ given (codes "new") new ∷ given (codes "sectors") sectors ∷ []) (codes "format") 3 version v.0) (goes (met copy_built (standing (given (codes "file") file ∷ given (codes "new") new ∷ given (codes "sectors") sectors ∷ []) (Some (codes "format", version ∷ [])) idle 3) (codes "--id") (simp v.1)) (goes (value_step copy_built (given (codes "file") file ∷ given (codes "new") new ∷ given (codes "sectors") sectors ∷ given (codes "format") version ∷ []) (codes "id") 3 identity d) (goes (met copy_built (standing (given (codes "file") file ∷ given (codes "new") new ∷ given (codes "sectors") sectors ∷ given (codes "format") version ∷ []) (Some (codes "id", identity ∷ [])) idle 3) (codes "--why") refl) (gone copy_built (standing (given (codes "file") file ∷ given (codes "new") new ∷ given (codes "sectors") sectors ∷ given (codes "format") version ∷ given (codes "id") identity ∷ flag_row (codes "why") true ∷ []) None idle 3)))))))))) in
+    let read = read_by (file ∷ new ∷ codes "--sectors" ∷ sectors ∷ codes "--format" ∷ version ∷ codes "--id" ∷ identity ∷ codes "--why" ∷ []) (codes "copy") copy_built (standing (given (codes "file") file ∷ given (codes "new") new ∷ given (codes "sectors") sectors ∷ given (codes "format") version ∷ given (codes "id") identity ∷ flag_row (codes "why") true ∷ []) None idle 3) refl refl refl walked refl refl refl in
+    record { rows = _; met = read.0; taken = read.1; holds = (refl, refl, refl, refl, refl, refl, refl) }
+copy_read file new sectors (Some version) (Some identity) false h k s v d =
+    let walked = goes (plain_step copy_built None 1 file h refl) (goes (plain_step copy_built (Some (codes "file", file ∷ [])) 2 new k refl) (goes (met copy_built (standing (given (codes "file") file ∷ []) (Some (codes "new", new ∷ [])) idle 3) (codes "--sectors") refl) (goes (value_step copy_built (given (codes "file") file ∷ given (codes "new") new ∷ []) (codes "sectors") 3 sectors s.0) (goes (met copy_built (standing (given (codes "file") file ∷ given (codes "new") new ∷ []) (Some (codes "sectors", sectors ∷ [])) idle 3) (codes "--format") (simp s.1)) (goes (value_step copy_built (given (codes "file") file ∷ given (codes "new") new ∷ given (codes "sectors") sectors ∷ []) (codes "format") 3 version v.0) (goes (met copy_built (standing (given (codes "file") file ∷ given (codes "new") new ∷ given (codes "sectors") sectors ∷ []) (Some (codes "format", version ∷ [])) idle 3) (codes "--id") (simp v.1)) (goes (value_step copy_built (given (codes "file") file ∷ given (codes "new") new ∷ given (codes "sectors") sectors ∷ given (codes "format") version ∷ []) (codes "id") 3 identity d) (gone copy_built (standing (given (codes "file") file ∷ given (codes "new") new ∷ given (codes "sectors") sectors ∷ given (codes "format") version ∷ []) (Some (codes "id", identity ∷ [])) idle 3))))))))) in
+    let read = read_by (file ∷ new ∷ codes "--sectors" ∷ sectors ∷ codes "--format" ∷ version ∷ codes "--id" ∷ identity ∷ []) (codes "copy") copy_built (standing (given (codes "file") file ∷ given (codes "new") new ∷ given (codes "sectors") sectors ∷ given (codes "format") version ∷ []) (Some (codes "id", identity ∷ [])) idle 3) refl refl refl walked refl refl refl in
+    record { rows = _; met = read.0; taken = read.1; holds = (refl, refl, refl, refl, refl, refl, refl) }
+copy_read file new sectors (Some version) None true h k s v d =
     let walked = goes (plain_step copy_built None 1 file h refl) (goes (plain_step copy_built (Some (codes "file", file ∷ [])) 2 new k refl) (goes (met copy_built (standing (given (codes "file") file ∷ []) (Some (codes "new", new ∷ [])) idle 3) (codes "--sectors") refl) (goes (value_step copy_built (given (codes "file") file ∷ given (codes "new") new ∷ []) (codes "sectors") 3 sectors s.0) (goes (met copy_built (standing (given (codes "file") file ∷ given (codes "new") new ∷ []) (Some (codes "sectors", sectors ∷ [])) idle 3) (codes "--format") (simp s.1)) (goes (value_step copy_built (given (codes "file") file ∷ given (codes "new") new ∷ given (codes "sectors") sectors ∷ []) (codes "format") 3 version v.0) (goes (met copy_built (standing (given (codes "file") file ∷ given (codes "new") new ∷ given (codes "sectors") sectors ∷ []) (Some (codes "format", version ∷ [])) idle 3) (codes "--why") (simp v.1)) (gone copy_built (standing (given (codes "file") file ∷ given (codes "new") new ∷ given (codes "sectors") sectors ∷ given (codes "format") version ∷ flag_row (codes "why") true ∷ []) None idle 3)))))))) in
     let read = read_by (file ∷ new ∷ codes "--sectors" ∷ sectors ∷ codes "--format" ∷ version ∷ codes "--why" ∷ []) (codes "copy") copy_built (standing (given (codes "file") file ∷ given (codes "new") new ∷ given (codes "sectors") sectors ∷ given (codes "format") version ∷ flag_row (codes "why") true ∷ []) None idle 3) refl refl refl walked refl refl refl in
-    record { rows = _; met = read.0; taken = read.1; holds = (refl, refl, refl, refl, refl, refl) }
-copy_read file new sectors (Some version) false h k s v =
+    record { rows = _; met = read.0; taken = read.1; holds = (refl, refl, refl, refl, refl, refl, refl) }
+copy_read file new sectors (Some version) None false h k s v d =
     let walked = goes (plain_step copy_built None 1 file h refl) (goes (plain_step copy_built (Some (codes "file", file ∷ [])) 2 new k refl) (goes (met copy_built (standing (given (codes "file") file ∷ []) (Some (codes "new", new ∷ [])) idle 3) (codes "--sectors") refl) (goes (value_step copy_built (given (codes "file") file ∷ given (codes "new") new ∷ []) (codes "sectors") 3 sectors s.0) (goes (met copy_built (standing (given (codes "file") file ∷ given (codes "new") new ∷ []) (Some (codes "sectors", sectors ∷ [])) idle 3) (codes "--format") (simp s.1)) (goes (value_step copy_built (given (codes "file") file ∷ given (codes "new") new ∷ given (codes "sectors") sectors ∷ []) (codes "format") 3 version v.0) (gone copy_built (standing (given (codes "file") file ∷ given (codes "new") new ∷ given (codes "sectors") sectors ∷ []) (Some (codes "format", version ∷ [])) idle 3))))))) in
     let read = read_by (file ∷ new ∷ codes "--sectors" ∷ sectors ∷ codes "--format" ∷ version ∷ []) (codes "copy") copy_built (standing (given (codes "file") file ∷ given (codes "new") new ∷ given (codes "sectors") sectors ∷ []) (Some (codes "format", version ∷ [])) idle 3) refl refl refl walked (simp v.1) refl refl in
-    record { rows = _; met = read.0; taken = read.1; holds = (refl, refl, refl, refl, refl, refl) }
-copy_read file new sectors None true h k s v =
+    record { rows = _; met = read.0; taken = read.1; holds = (refl, refl, refl, refl, refl, refl, refl) }
+copy_read file new sectors None (Some identity) true h k s v d =
+    let walked = goes (plain_step copy_built None 1 file h refl) (goes (plain_step copy_built (Some (codes "file", file ∷ [])) 2 new k refl) (goes (met copy_built (standing (given (codes "file") file ∷ []) (Some (codes "new", new ∷ [])) idle 3) (codes "--sectors") refl) (goes (value_step copy_built (given (codes "file") file ∷ given (codes "new") new ∷ []) (codes "sectors") 3 sectors s.0) (goes (met copy_built (standing (given (codes "file") file ∷ given (codes "new") new ∷ []) (Some (codes "sectors", sectors ∷ [])) idle 3) (codes "--id") (simp s.1)) (goes (value_step copy_built (given (codes "file") file ∷ given (codes "new") new ∷ given (codes "sectors") sectors ∷ []) (codes "id") 3 identity d) (goes (met copy_built (standing (given (codes "file") file ∷ given (codes "new") new ∷ given (codes "sectors") sectors ∷ []) (Some (codes "id", identity ∷ [])) idle 3) (codes "--why") refl) (gone copy_built (standing (given (codes "file") file ∷ given (codes "new") new ∷ given (codes "sectors") sectors ∷ given (codes "id") identity ∷ flag_row (codes "why") true ∷ []) None idle 3)))))))) in
+    let read = read_by (file ∷ new ∷ codes "--sectors" ∷ sectors ∷ codes "--id" ∷ identity ∷ codes "--why" ∷ []) (codes "copy") copy_built (standing (given (codes "file") file ∷ given (codes "new") new ∷ given (codes "sectors") sectors ∷ given (codes "id") identity ∷ flag_row (codes "why") true ∷ []) None idle 3) refl refl refl walked refl refl refl in
+    record { rows = _; met = read.0; taken = read.1; holds = (refl, refl, refl, refl, refl, refl, refl) }
+copy_read file new sectors None (Some identity) false h k s v d =
+    let walked = goes (plain_step copy_built None 1 file h refl) (goes (plain_step copy_built (Some (codes "file", file ∷ [])) 2 new k refl) (goes (met copy_built (standing (given (codes "file") file ∷ []) (Some (codes "new", new ∷ [])) idle 3) (codes "--sectors") refl) (goes (value_step copy_built (given (codes "file") file ∷ given (codes "new") new ∷ []) (codes "sectors") 3 sectors s.0) (goes (met copy_built (standing (given (codes "file") file ∷ given (codes "new") new ∷ []) (Some (codes "sectors", sectors ∷ [])) idle 3) (codes "--id") (simp s.1)) (goes (value_step copy_built (given (codes "file") file ∷ given (codes "new") new ∷ given (codes "sectors") sectors ∷ []) (codes "id") 3 identity d) (gone copy_built (standing (given (codes "file") file ∷ given (codes "new") new ∷ given (codes "sectors") sectors ∷ []) (Some (codes "id", identity ∷ [])) idle 3))))))) in
+    let read = read_by (file ∷ new ∷ codes "--sectors" ∷ sectors ∷ codes "--id" ∷ identity ∷ []) (codes "copy") copy_built (standing (given (codes "file") file ∷ given (codes "new") new ∷ given (codes "sectors") sectors ∷ []) (Some (codes "id", identity ∷ [])) idle 3) refl refl refl walked refl refl refl in
+    record { rows = _; met = read.0; taken = read.1; holds = (refl, refl, refl, refl, refl, refl, refl) }
+copy_read file new sectors None None true h k s v d =
     let walked = goes (plain_step copy_built None 1 file h refl) (goes (plain_step copy_built (Some (codes "file", file ∷ [])) 2 new k refl) (goes (met copy_built (standing (given (codes "file") file ∷ []) (Some (codes "new", new ∷ [])) idle 3) (codes "--sectors") refl) (goes (value_step copy_built (given (codes "file") file ∷ given (codes "new") new ∷ []) (codes "sectors") 3 sectors s.0) (goes (met copy_built (standing (given (codes "file") file ∷ given (codes "new") new ∷ []) (Some (codes "sectors", sectors ∷ [])) idle 3) (codes "--why") (simp s.1)) (gone copy_built (standing (given (codes "file") file ∷ given (codes "new") new ∷ given (codes "sectors") sectors ∷ flag_row (codes "why") true ∷ []) None idle 3)))))) in
     let read = read_by (file ∷ new ∷ codes "--sectors" ∷ sectors ∷ codes "--why" ∷ []) (codes "copy") copy_built (standing (given (codes "file") file ∷ given (codes "new") new ∷ given (codes "sectors") sectors ∷ flag_row (codes "why") true ∷ []) None idle 3) refl refl refl walked refl refl refl in
-    record { rows = _; met = read.0; taken = read.1; holds = (refl, refl, refl, refl, refl, refl) }
-copy_read file new sectors None false h k s v =
+    record { rows = _; met = read.0; taken = read.1; holds = (refl, refl, refl, refl, refl, refl, refl) }
+copy_read file new sectors None None false h k s v d =
     let walked = goes (plain_step copy_built None 1 file h refl) (goes (plain_step copy_built (Some (codes "file", file ∷ [])) 2 new k refl) (goes (met copy_built (standing (given (codes "file") file ∷ []) (Some (codes "new", new ∷ [])) idle 3) (codes "--sectors") refl) (goes (value_step copy_built (given (codes "file") file ∷ given (codes "new") new ∷ []) (codes "sectors") 3 sectors s.0) (gone copy_built (standing (given (codes "file") file ∷ given (codes "new") new ∷ []) (Some (codes "sectors", sectors ∷ [])) idle 3))))) in
     let read = read_by (file ∷ new ∷ codes "--sectors" ∷ sectors ∷ []) (codes "copy") copy_built (standing (given (codes "file") file ∷ given (codes "new") new ∷ []) (Some (codes "sectors", sectors ∷ [])) idle 3) refl refl refl walked (simp s.1) refl refl in
-    record { rows = _; met = read.0; taken = read.1; holds = (refl, refl, refl, refl, refl, refl) }
+    record { rows = _; met = read.0; taken = read.1; holds = (refl, refl, refl, refl, refl, refl, refl) }
 
-upgrade_read : (file : Text) (version : Option Text) (why : Bool) → IsPlain file → IfSome version (IsChecked MIN_FORMAT MAX_FORMAT)
-    → Read (codes "upgrade" ∷ file ∷ option_words (codes "--format") version ++ flag_words (codes "--why") why) (codes "upgrade")
-    (λ rows. HoldsFile file rows × (one_of (codes "format") rows ≡ version) × (first_of (codes "format") rows ≡ version) × HoldsFlag (codes "why") why rows)
+upgrade_read : (file : Text) (version identity : Option Text) (why : Bool) → IsPlain file → IfSome version (IsChecked MIN_FORMAT MAX_FORMAT) → IfSome identity IsPlain
+    → Read (codes "upgrade" ∷ file ∷ option_words (codes "--format") version ++ option_words (codes "--id") identity ++ flag_words (codes "--why") why) (codes "upgrade")
+    (λ rows. HoldsFile file rows × (one_of (codes "format") rows ≡ version) × (first_of (codes "format") rows ≡ version) × (first_of (codes "id") rows ≡ identity) × HoldsFlag (codes "why") why rows)
 unfolding clap_on_literals
-upgrade_read file (Some version) true h v =
+upgrade_read file (Some version) (Some identity) true h v d =
+    let walked = goes (plain_step upgrade_built None 1 file h refl) (goes (met upgrade_built (standing [] (Some (codes "file", file ∷ [])) idle 2) (codes "--format") refl) (goes (value_step upgrade_built (given (codes "file") file ∷ []) (codes "format") 2 version v.0) (goes (met upgrade_built (standing (given (codes "file") file ∷ []) (Some (codes "format", version ∷ [])) idle 2) (codes "--id") (simp v.1)) (goes (value_step upgrade_built (given (codes "file") file ∷ given (codes "format") version ∷ []) (codes "id") 2 identity d) (goes (met upgrade_built (standing (given (codes "file") file ∷ given (codes "format") version ∷ []) (Some (codes "id", identity ∷ [])) idle 2) (codes "--why") refl) (gone upgrade_built (standing (given (codes "file") file ∷ given (codes "format") version ∷ given (codes "id") identity ∷ flag_row (codes "why") true ∷ []) None idle 2))))))) in
+    let read = read_by (file ∷ codes "--format" ∷ version ∷ codes "--id" ∷ identity ∷ codes "--why" ∷ []) (codes "upgrade") upgrade_built (standing (given (codes "file") file ∷ given (codes "format") version ∷ given (codes "id") identity ∷ flag_row (codes "why") true ∷ []) None idle 2) refl refl refl walked refl refl refl in
+    record { rows = _; met = read.0; taken = read.1; holds = (refl, refl, refl, refl, refl) }
+upgrade_read file (Some version) (Some identity) false h v d =
+    let walked = goes (plain_step upgrade_built None 1 file h refl) (goes (met upgrade_built (standing [] (Some (codes "file", file ∷ [])) idle 2) (codes "--format") refl) (goes (value_step upgrade_built (given (codes "file") file ∷ []) (codes "format") 2 version v.0) (goes (met upgrade_built (standing (given (codes "file") file ∷ []) (Some (codes "format", version ∷ [])) idle 2) (codes "--id") (simp v.1)) (goes (value_step upgrade_built (given (codes "file") file ∷ given (codes "format") version ∷ []) (codes "id") 2 identity d) (gone upgrade_built (standing (given (codes "file") file ∷ given (codes "format") version ∷ []) (Some (codes "id", identity ∷ [])) idle 2)))))) in
+    let read = read_by (file ∷ codes "--format" ∷ version ∷ codes "--id" ∷ identity ∷ []) (codes "upgrade") upgrade_built (standing (given (codes "file") file ∷ given (codes "format") version ∷ []) (Some (codes "id", identity ∷ [])) idle 2) refl refl refl walked refl refl refl in
+    record { rows = _; met = read.0; taken = read.1; holds = (refl, refl, refl, refl, refl) }
+upgrade_read file (Some version) None true h v d =
     let walked = goes (plain_step upgrade_built None 1 file h refl) (goes (met upgrade_built (standing [] (Some (codes "file", file ∷ [])) idle 2) (codes "--format") refl) (goes (value_step upgrade_built (given (codes "file") file ∷ []) (codes "format") 2 version v.0) (goes (met upgrade_built (standing (given (codes "file") file ∷ []) (Some (codes "format", version ∷ [])) idle 2) (codes "--why") (simp v.1)) (gone upgrade_built (standing (given (codes "file") file ∷ given (codes "format") version ∷ flag_row (codes "why") true ∷ []) None idle 2))))) in
     let read = read_by (file ∷ codes "--format" ∷ version ∷ codes "--why" ∷ []) (codes "upgrade") upgrade_built (standing (given (codes "file") file ∷ given (codes "format") version ∷ flag_row (codes "why") true ∷ []) None idle 2) refl refl refl walked refl refl refl in
-    record { rows = _; met = read.0; taken = read.1; holds = (refl, refl, refl, refl) }
-upgrade_read file (Some version) false h v =
+    record { rows = _; met = read.0; taken = read.1; holds = (refl, refl, refl, refl, refl) }
+upgrade_read file (Some version) None false h v d =
     let walked = goes (plain_step upgrade_built None 1 file h refl) (goes (met upgrade_built (standing [] (Some (codes "file", file ∷ [])) idle 2) (codes "--format") refl) (goes (value_step upgrade_built (given (codes "file") file ∷ []) (codes "format") 2 version v.0) (gone upgrade_built (standing (given (codes "file") file ∷ []) (Some (codes "format", version ∷ [])) idle 2)))) in
     let read = read_by (file ∷ codes "--format" ∷ version ∷ []) (codes "upgrade") upgrade_built (standing (given (codes "file") file ∷ []) (Some (codes "format", version ∷ [])) idle 2) refl refl refl walked (simp v.1) refl refl in
-    record { rows = _; met = read.0; taken = read.1; holds = (refl, refl, refl, refl) }
-upgrade_read file None true h v =
+    record { rows = _; met = read.0; taken = read.1; holds = (refl, refl, refl, refl, refl) }
+upgrade_read file None (Some identity) true h v d =
+    let walked = goes (plain_step upgrade_built None 1 file h refl) (goes (met upgrade_built (standing [] (Some (codes "file", file ∷ [])) idle 2) (codes "--id") refl) (goes (value_step upgrade_built (given (codes "file") file ∷ []) (codes "id") 2 identity d) (goes (met upgrade_built (standing (given (codes "file") file ∷ []) (Some (codes "id", identity ∷ [])) idle 2) (codes "--why") refl) (gone upgrade_built (standing (given (codes "file") file ∷ given (codes "id") identity ∷ flag_row (codes "why") true ∷ []) None idle 2))))) in
+    let read = read_by (file ∷ codes "--id" ∷ identity ∷ codes "--why" ∷ []) (codes "upgrade") upgrade_built (standing (given (codes "file") file ∷ given (codes "id") identity ∷ flag_row (codes "why") true ∷ []) None idle 2) refl refl refl walked refl refl refl in
+    record { rows = _; met = read.0; taken = read.1; holds = (refl, refl, refl, refl, refl) }
+upgrade_read file None (Some identity) false h v d =
+    let walked = goes (plain_step upgrade_built None 1 file h refl) (goes (met upgrade_built (standing [] (Some (codes "file", file ∷ [])) idle 2) (codes "--id") refl) (goes (value_step upgrade_built (given (codes "file") file ∷ []) (codes "id") 2 identity d) (gone upgrade_built (standing (given (codes "file") file ∷ []) (Some (codes "id", identity ∷ [])) idle 2)))) in
+    let read = read_by (file ∷ codes "--id" ∷ identity ∷ []) (codes "upgrade") upgrade_built (standing (given (codes "file") file ∷ []) (Some (codes "id", identity ∷ [])) idle 2) refl refl refl walked refl refl refl in
+    record { rows = _; met = read.0; taken = read.1; holds = (refl, refl, refl, refl, refl) }
+upgrade_read file None None true h v d =
     let walked = goes (plain_step upgrade_built None 1 file h refl) (goes (met upgrade_built (standing [] (Some (codes "file", file ∷ [])) idle 2) (codes "--why") refl) (gone upgrade_built (standing (given (codes "file") file ∷ flag_row (codes "why") true ∷ []) None idle 2))) in
     let read = read_by (file ∷ codes "--why" ∷ []) (codes "upgrade") upgrade_built (standing (given (codes "file") file ∷ flag_row (codes "why") true ∷ []) None idle 2) refl refl refl walked refl refl refl in
-    record { rows = _; met = read.0; taken = read.1; holds = (refl, refl, refl, refl) }
-upgrade_read file None false h v =
+    record { rows = _; met = read.0; taken = read.1; holds = (refl, refl, refl, refl, refl) }
+upgrade_read file None None false h v d =
     let walked = goes (plain_step upgrade_built None 1 file h refl) (gone upgrade_built (standing [] (Some (codes "file", file ∷ [])) idle 2)) in
     let read = read_by (file ∷ []) (codes "upgrade") upgrade_built (standing [] (Some (codes "file", file ∷ [])) idle 2) refl refl refl walked refl refl refl in
-    record { rows = _; met = read.0; taken = read.1; holds = (refl, refl, refl, refl) }
+    record { rows = _; met = read.0; taken = read.1; holds = (refl, refl, refl, refl, refl) }
 
 -- what is found for the arguments of `format`
-abbrev FoundFormat : Text → Text → Option Text → Option Text → Bool → Bool → List Row → Type 0
-FoundFormat file sectors version mode sparse why rows =
+abbrev FoundFormat : Text → Text → Option Text → Option Text → Option Text → Bool → Bool → List Row → Type 0
+FoundFormat file sectors version mode identity sparse why rows =
     HoldsFile file rows × (one_of (codes "sectors") rows ≡ Some sectors) × (one_of (codes "format") rows ≡ version) × (first_of (codes "format") rows ≡ version)
-    × (first_of (codes "mode") rows ≡ mode) × HoldsFlag (codes "sparse") sparse rows × HoldsFlag (codes "why") why rows
+    × (first_of (codes "mode") rows ≡ mode) × (first_of (codes "id") rows ≡ identity) × HoldsFlag (codes "sparse") sparse rows × HoldsFlag (codes "why") why rows
 
-format_read : (file sectors : Text) (version mode : Option Text) (sparse why : Bool) → IsPlain file → IsChecked MIN_SECTORS MAX_SECTORS sectors
-    → IfSome version (IsChecked MIN_FORMAT MAX_FORMAT) → IfSome mode IsPlain
-    → Read (codes "format" ∷ file ∷ codes "--sectors" ∷ sectors ∷ option_words (codes "--format") version ++ option_words (codes "--mode") mode
-    ++ flag_words (codes "--sparse") sparse ++ flag_words (codes "--why") why) (codes "format") (FoundFormat file sectors version mode sparse why)
+format_read : (file sectors : Text) (version mode identity : Option Text) (sparse why : Bool) → IsPlain file → IsChecked MIN_SECTORS MAX_SECTORS sectors
+    → IfSome version (IsChecked MIN_FORMAT MAX_FORMAT) → IfSome mode IsPlain → IfSome identity IsPlain
+    → Read (codes "format" ∷ file ∷ codes "--sectors" ∷ sectors ∷ option_words (codes "--format") version ++ option_words (codes "--mode") mode ++ option_words (codes "--id") identity
+    ++ flag_words (codes "--sparse") sparse ++ flag_words (codes "--why") why) (codes "format") (FoundFormat file sectors version mode identity sparse why)
 unfolding clap_on_literals
-format_read file sectors (Some version) (Some mode) true true h s v m =
+format_read file sectors (Some version) (Some mode) (Some identity) true true h s v m d =
+    let walked = goes (plain_step format_built None 1 file h refl) (goes (met format_built (standing [] (Some (codes "file", file ∷ [])) idle 2) (codes "--sectors") refl) (goes (value_step format_built (given (codes "file") file ∷ []) (codes "sectors") 2 sectors s.0) (goes (met format_built (standing (given (codes "file") file ∷ []) (Some (codes "sectors", sectors ∷ [])) idle 2) (codes "--format") (simp s.1)) (goes (value_step format_built (given (codes "file") file ∷ given (codes "sectors") sectors ∷ []) (codes "format") 2 version v.0) (goes (met format_built (standing (given (codes "file") file ∷ given (codes "sectors") sectors ∷ []) (Some (codes "format", version ∷ [])) idle 2) (codes "--mode") (simp v.1)) (goes (value_step format_built (given (codes "file") file ∷ given (codes "sectors") sectors ∷ given (codes "format") version ∷ []) (codes "mode") 2 mode m) (goes (met format_built (standing (given (codes "file") file ∷ given (codes "sectors") sectors ∷ given (codes "format") version ∷ []) (Some (codes "mode", mode ∷ [])) idle 2) (codes "--id") refl) (goes (value_step format_built (given (codes "file") file ∷ given (codes "sectors") sectors ∷ given (codes "format") version ∷ given (codes "mode") mode ∷ []) (codes "id") 2 identity d) (goes (met format_built (standing (given (codes "file") file ∷ given (codes "sectors") sectors ∷ given (codes "format") version ∷ given (codes "mode") mode ∷ []) (Some (codes "id", identity ∷ [])) idle 2) (codes "--sparse") refl) (goes (met format_built (standing (given (codes "file") file ∷ given (codes "sectors") sectors ∷ given (codes "format") version ∷ given (codes "mode") mode ∷ given (codes "id") identity ∷ flag_row (codes "sparse") true ∷ []) None idle 2) (codes "--why") refl) (gone format_built (standing (given (codes "file") file ∷ given (codes "sectors") sectors ∷ given (codes "format") version ∷ given (codes "mode") mode ∷ given (codes "id") identity ∷ flag_row (codes "sparse") true ∷ flag_row (codes "why") true ∷ []) None idle 2)))))))))))) in
+    let read = read_by (file ∷ codes "--sectors" ∷ sectors ∷ codes "--format" ∷ version ∷ codes "--mode" ∷ mode ∷ codes "--id" ∷ identity ∷ codes "--sparse" ∷ codes "--why" ∷ []) (codes "format") format_built (standing (given (codes "file") file ∷ given (codes "sectors") sectors ∷ given (codes "format") version ∷ given (codes "mode") mode ∷ given (codes "id") identity ∷ flag_row (codes "sparse") true ∷ flag_row (codes "why") true ∷ []) None idle 2) refl refl refl walked refl refl refl in
+    record { rows = _; met = read.0; taken = read.1; holds = (refl, refl, refl, refl, refl, refl, refl, refl) }
+format_read file sectors (Some version) (Some mode) (Some identity) true false h s v m d =
+    let walked = goes (plain_step format_built None 1 file h refl) (goes (met format_built (standing [] (Some (codes "file", file ∷ [])) idle 2) (codes "--sectors") refl) (goes (value_step format_built (given (codes "file") file ∷ []) (codes "sectors") 2 sectors s.0) (goes (met format_built (standing (given (codes "file") file ∷ []) (Some (codes "sectors", sectors ∷ [])) idle 2) (codes "--format") (simp s.1)) (goes (value_step format_built (given (codes "file") file ∷ given (codes "sectors") sectors ∷ []) (codes "format") 2 version v.0) (goes (met format_built (standing (given (codes "file") file ∷ given (codes "sectors") sectors ∷ []) (Some (codes "format", version ∷ [])) idle 2) (codes "--mode") (simp v.1)) (goes (value_step format_built (given (codes "file") file ∷ given (codes "sectors") sectors ∷ given (codes "format") version ∷ []) (codes "mode") 2 mode m) (goes (met format_built (standing (given (codes "file") file ∷ given (codes "sectors") sectors ∷ given (codes "format") version ∷ []) (Some (codes "mode", mode ∷ [])) idle 2) (codes "--id") refl) (goes (value_step format_built (given (codes "file") file ∷ given (codes "sectors") sectors ∷ given (codes "format") version ∷ given (codes "mode") mode ∷ []) (codes "id") 2 identity d) (goes (met format_built (standing (given (codes "file") file ∷ given (codes "sectors") sectors ∷ given (codes "format") version ∷ given (codes "mode") mode ∷ []) (Some (codes "id", identity ∷ [])) idle 2) (codes "--sparse") refl) (gone format_built (standing (given (codes "file") file ∷ given (codes "sectors") sectors ∷ given (codes "format") version ∷ given (codes "mode") mode ∷ given (codes "id") identity ∷ flag_row (codes "sparse") true ∷ []) None idle 2))))))))))) in
+    let read = read_by (file ∷ codes "--sectors" ∷ sectors ∷ codes "--format" ∷ version ∷ codes "--mode" ∷ mode ∷ codes "--id" ∷ identity ∷ codes "--sparse" ∷ []) (codes "format") format_built (standing (given (codes "file") file ∷ given (codes "sectors") sectors ∷ given (codes "format") version ∷ given (codes "mode") mode ∷ given (codes "id") identity ∷ flag_row (codes "sparse") true ∷ []) None idle 2) refl refl refl walked refl refl refl in
+    record { rows = _; met = read.0; taken = read.1; holds = (refl, refl, refl, refl, refl, refl, refl, refl) }
+format_read file sectors (Some version) (Some mode) (Some identity) false true h s v m d =
+    let walked = goes (plain_step format_built None 1 file h refl) (goes (met format_built (standing [] (Some (codes "file", file ∷ [])) idle 2) (codes "--sectors") refl) (goes (value_step format_built (given (codes "file") file ∷ []) (codes "sectors") 2 sectors s.0) (goes (met format_built (standing (given (codes "file") file ∷ []) (Some (codes "sectors", sectors ∷ [])) idle 2) (codes "--format") (simp s.1)) (goes (value_step format_built (given (codes "file") file ∷ given (codes "sectors") sectors ∷ []) (codes "format") 2 version v.0) (goes (met format_built (standing (given (codes "file") file ∷ given (codes "sectors") sectors ∷ []) (Some (codes "format", version ∷ [])) idle 2) (codes "--mode") (simp v.1)) (goes (value_step format_built (given (codes "file") file ∷ given (codes "sectors") sectors ∷ given (codes "format") version ∷ []) (codes "mode") 2 mode m) (goes (met format_built (standing (given (codes "file") file ∷ given (codes "sectors") sectors ∷ given (codes "format") version ∷ []) (Some (codes "mode", mode ∷ [])) idle 2) (codes "--id") refl) (goes (value_step format_built (given (codes "file") file ∷ given (codes "sectors") sectors ∷ given (codes "format") version ∷ given (codes "mode") mode ∷ []) (codes "id") 2 identity d) (goes (met format_built (standing (given (codes "file") file ∷ given (codes "sectors") sectors ∷ given (codes "format") version ∷ given (codes "mode") mode ∷ []) (Some (codes "id", identity ∷ [])) idle 2) (codes "--why") refl) (gone format_built (standing (given (codes "file") file ∷ given (codes "sectors") sectors ∷ given (codes "format") version ∷ given (codes "mode") mode ∷ given (codes "id") identity ∷ flag_row (codes "why") true ∷ []) None idle 2))))))))))) in
+    let read = read_by (file ∷ codes "--sectors" ∷ sectors ∷ codes "--format" ∷ version ∷ codes "--mode" ∷ mode ∷ codes "--id" ∷ identity ∷ codes "--why" ∷ []) (codes "format") format_built (standing (given (codes "file") file ∷ given (codes "sectors") sectors ∷ given (codes "format") version ∷ given (codes "mode") mode ∷ given (codes "id") identity ∷ flag_row (codes "why") true ∷ []) None idle 2) refl refl refl walked refl refl refl in
+    record { rows = _; met = read.0; taken = read.1; holds = (refl, refl, refl, refl, refl, refl, refl, refl) }
+format_read file sectors (Some version) (Some mode) (Some identity) false false h s v m d =
+    let walked = goes (plain_step format_built None 1 file h refl) (goes (met format_built (standing [] (Some (codes "file", file ∷ [])) idle 2) (codes "--sectors") refl) (goes (value_step format_built (given (codes "file") file ∷ []) (codes "sectors") 2 sectors s.0) (goes (met format_built (standing (given (codes "file") file ∷ []) (Some (codes "sectors", sectors ∷ [])) idle 2) (codes "--format") (simp s.1)) (goes (value_step format_built (given (codes "file") file ∷ given (codes "sectors") sectors ∷ []) (codes "format") 2 version v.0) (goes (met format_built (standing (given (codes "file") file ∷ given (codes "sectors") sectors ∷ []) (Some (codes "format", version ∷ [])) idle 2) (codes "--mode") (simp v.1)) (goes (value_step format_built (given (codes "file") file ∷ given (codes "sectors") sectors ∷ given (codes "format") version ∷ []) (codes "mode") 2 mode m) (goes (met format_built (standing (given (codes "file") file ∷ given (codes "sectors") sectors ∷ given (codes "format") version ∷ []) (Some (codes "mode", mode ∷ [])) idle 2) (codes "--id") refl) (goes (value_step format_built (given (codes "file") file ∷ given (codes "sectors") sectors ∷ given (codes "format") version ∷ given (codes "mode") mode ∷ []) (codes "id") 2 identity d) (gone format_built (standing (given (codes "file") file ∷ given (codes "sectors") sectors ∷ given (codes "format") version ∷ given (codes "mode") mode ∷ []) (Some (codes "id", identity ∷ [])) idle 2)))))))))) in
+    let read = read_by (file ∷ codes "--sectors" ∷ sectors ∷ codes "--format" ∷ version ∷ codes "--mode" ∷ mode ∷ codes "--id" ∷ identity ∷ []) (codes "format") format_built (standing (given (codes "file") file ∷ given (codes "sectors") sectors ∷ given (codes "format") version ∷ given (codes "mode") mode ∷ []) (Some (codes "id", identity ∷ [])) idle 2) refl refl refl walked refl refl refl in
+    record { rows = _; met = read.0; taken = read.1; holds = (refl, refl, refl, refl, refl, refl, refl, refl) }
+format_read file sectors (Some version) (Some mode) None true true h s v m d =
     let walked = goes (plain_step format_built None 1 file h refl) (goes (met format_built (standing [] (Some (codes "file", file ∷ [])) idle 2) (codes "--sectors") refl) (goes (value_step format_built (given (codes "file") file ∷ []) (codes "sectors") 2 sectors s.0) (goes (met format_built (standing (given (codes "file") file ∷ []) (Some (codes "sectors", sectors ∷ [])) idle 2) (codes "--format") (simp s.1)) (goes (value_step format_built (given (codes "file") file ∷ given (codes "sectors") sectors ∷ []) (codes "format") 2 version v.0) (goes (met format_built (standing (given (codes "file") file ∷ given (codes "sectors") sectors ∷ []) (Some (codes "format", version ∷ [])) idle 2) (codes "--mode") (simp v.1)) (goes (value_step format_built (given (codes "file") file ∷ given (codes "sectors") sectors ∷ given (codes "format") version ∷ []) (codes "mode") 2 mode m) (goes (met format_built (standing (given (codes "file") file ∷ given (codes "sectors") sectors ∷ given (codes "format") version ∷ []) (Some (codes "mode", mode ∷ [])) idle 2) (codes "--sparse") refl) (goes (met format_built (standing (given (codes "file") file ∷ given (codes "sectors") sectors ∷ given (codes "format") version ∷ given (codes "mode") mode ∷ flag_row (codes "sparse") true ∷ []) None idle 2) (codes "--why") refl) (gone format_built (standing (given (codes "file") file ∷ given (codes "sectors") sectors ∷ given (codes "format") version ∷ given (codes "mode") mode ∷ flag_row (codes "sparse") true ∷ flag_row (codes "why") true ∷ []) None idle 2)))))))))) in
     let read = read_by (file ∷ codes "--sectors" ∷ sectors ∷ codes "--format" ∷ version ∷ codes "--mode" ∷ mode ∷ codes "--sparse" ∷ codes "--why" ∷ []) (codes "format") format_built (standing (given (codes "file") file ∷ given (codes "sectors") sectors ∷ given (codes "format") version ∷ given (codes "mode") mode ∷ flag_row (codes "sparse") true ∷ flag_row (codes "why") true ∷ []) None idle 2) refl refl refl walked refl refl refl in
-    record { rows = _; met = read.0; taken = read.1; holds = (refl, refl, refl, refl, refl, refl, refl) }
-format_read file sectors (Some version) (Some mode) true false h s v m =
+    record { rows = _; met = read.0; taken = read.1; holds = (refl, refl, refl, refl, refl, refl, refl, refl) }
+format_read file sectors (Some version) (Some mode) None true false h s v m d =
     let walked = goes (plain_step format_built None 1 file h refl) (goes (met format_built (standing [] (Some (codes "file", file ∷ [])) idle 2) (codes "--sectors") refl) (goes (value_step format_built (given (codes "file") file ∷ []) (codes "sectors") 2 sectors s.0) (goes (met format_built (standing (given (codes "file") file ∷ []) (Some (codes "sectors", sectors ∷ [])) idle 2) (codes "--format") (simp s.1)) (goes (value_step format_built (given (codes "file") file ∷ given (codes "sectors") sectors ∷ []) (codes "format") 2 version v.0) (goes (met format_built (standing (given (codes "file") file ∷ given (codes "sectors") sectors ∷ []) (Some (codes "format", version ∷ [])) idle 2) (codes "--mode") (simp v.1)) (goes (value_step format_built (given (codes "file") file ∷ given (codes "sectors") sectors ∷ given (codes "format") version ∷ []) (codes "mode") 2 mode m) (goes (met format_built (standing (given (codes "file") file ∷ given (codes "sectors") sectors ∷ given (codes "format") version ∷ []) (Some (codes "mode", mode ∷ [])) idle 2) (codes "--sparse") refl) (gone format_built (standing (given (codes "file") file ∷ given (codes "sectors") sectors ∷ given (codes "format") version ∷ given (codes "mode") mode ∷ flag_row (codes "sparse") true ∷ []) None idle 2))))))))) in
     let read = read_by (file ∷ codes "--sectors" ∷ sectors ∷ codes "--format" ∷ version ∷ codes "--mode" ∷ mode ∷ codes "--sparse" ∷ []) (codes "format") format_built (standing (given (codes "file") file ∷ given (codes "sectors") sectors ∷ given (codes "format") version ∷ given (codes "mode") mode ∷ flag_row (codes "sparse") true ∷ []) None idle 2) refl refl refl walked refl refl refl in
-    record { rows = _; met = read.0; taken = read.1; holds = (refl, refl, refl, refl, refl, refl, refl) }
-format_read file sectors (Some version) (Some mode) false true h s v m =
+    record { rows = _; met = read.0; taken = read.1; holds = (refl, refl, refl, refl, refl, refl, refl, refl) }
+format_read file sectors (Some version) (Some mode) None false true h s v m d =
     let walked = goes (plain_step format_built None 1 file h refl) (goes (met format_built (standing [] (Some (codes "file", file ∷ [])) idle 2) (codes "--sectors") refl) (goes (value_step format_built (given (codes "file") file ∷ []) (codes "sectors") 2 sectors s.0) (goes (met format_built (standing (given (codes "file") file ∷ []) (Some (codes "sectors", sectors ∷ [])) idle 2) (codes "--format") (simp s.1)) (goes (value_step format_built (given (codes "file") file ∷ given (codes "sectors") sectors ∷ []) (codes "format") 2 version v.0) (goes (met format_built (standing (given (codes "file") file ∷ given (codes "sectors") sectors ∷ []) (Some (codes "format", version ∷ [])) idle 2) (codes "--mode") (simp v.1)) (goes (value_step format_built (given (codes "file") file ∷ given (codes "sectors") sectors ∷ given (codes "format") version ∷ []) (codes "mode") 2 mode m) (goes (met format_built (standing (given (codes "file") file ∷ given (codes "sectors") sectors ∷ given (codes "format") version ∷ []) (Some (codes "mode", mode ∷ [])) idle 2) (codes "--why") refl) (gone format_built (standing (given (codes "file") file ∷ given (codes "sectors") sectors ∷ given (codes "format") version ∷ given (codes "mode") mode ∷ flag_row (codes "why") true ∷ []) None idle 2))))))))) in
     let read = read_by (file ∷ codes "--sectors" ∷ sectors ∷ codes "--format" ∷ version ∷ codes "--mode" ∷ mode ∷ codes "--why" ∷ []) (codes "format") format_built (standing (given (codes "file") file ∷ given (codes "sectors") sectors ∷ given (codes "format") version ∷ given (codes "mode") mode ∷ flag_row (codes "why") true ∷ []) None idle 2) refl refl refl walked refl refl refl in
-    record { rows = _; met = read.0; taken = read.1; holds = (refl, refl, refl, refl, refl, refl, refl) }
-format_read file sectors (Some version) (Some mode) false false h s v m =
+    record { rows = _; met = read.0; taken = read.1; holds = (refl, refl, refl, refl, refl, refl, refl, refl) }
+format_read file sectors (Some version) (Some mode) None false false h s v m d =
     let walked = goes (plain_step format_built None 1 file h refl) (goes (met format_built (standing [] (Some (codes "file", file ∷ [])) idle 2) (codes "--sectors") refl) (goes (value_step format_built (given (codes "file") file ∷ []) (codes "sectors") 2 sectors s.0) (goes (met format_built (standing (given (codes "file") file ∷ []) (Some (codes "sectors", sectors ∷ [])) idle 2) (codes "--format") (simp s.1)) (goes (value_step format_built (given (codes "file") file ∷ given (codes "sectors") sectors ∷ []) (codes "format") 2 version v.0) (goes (met format_built (standing (given (codes "file") file ∷ given (codes "sectors") sectors ∷ []) (Some (codes "format", version ∷ [])) idle 2) (codes "--mode") (simp v.1)) (goes (value_step format_built (given (codes "file") file ∷ given (codes "sectors") sectors ∷ given (codes "format") version ∷ []) (codes "mode") 2 mode m) (gone format_built (standing (given (codes "file") file ∷ given (codes "sectors") sectors ∷ given (codes "format") version ∷ []) (Some (codes "mode", mode ∷ [])) idle 2)))))))) in
     let read = read_by (file ∷ codes "--sectors" ∷ sectors ∷ codes "--format" ∷ version ∷ codes "--mode" ∷ mode ∷ []) (codes "format") format_built (standing (given (codes "file") file ∷ given (codes "sectors") sectors ∷ given (codes "format") version ∷ []) (Some (codes "mode", mode ∷ [])) idle 2) refl refl refl walked refl refl refl in
-    record { rows = _; met = read.0; taken = read.1; holds = (refl, refl, refl, refl, refl, refl, refl) }
-format_read file sectors (Some version) None true true h s v m =
+    record { rows = _; met = read.0; taken = read.1; holds = (refl, refl, refl, refl, refl, refl, refl, refl) }
+format_read file sectors (Some version) None (Some identity) true true h s v m d =
+    let walked = goes (plain_step format_built None 1 file h refl) (goes (met format_built (standing [] (Some (codes "file", file ∷ [])) idle 2) (codes "--sectors") refl) (goes (value_step format_built (given (codes "file") file ∷ []) (codes "sectors") 2 sectors s.0) (goes (met format_built (standing (given (codes "file") file ∷ []) (Some (codes "sectors", sectors ∷ [])) idle 2) (codes "--format") (simp s.1)) (goes (value_step format_built (given (codes "file") file ∷ given (codes "sectors") sectors ∷ []) (codes "format") 2 version v.0) (goes (met format_built (standing (given (codes "file") file ∷ given (codes "sectors") sectors ∷ []) (Some (codes "format", version ∷ [])) idle 2) (codes "--id") (simp v.1)) (goes (value_step format_built (given (codes "file") file ∷ given (codes "sectors") sectors ∷ given (codes "format") version ∷ []) (codes "id") 2 identity d) (goes (met format_built (standing (given (codes "file") file ∷ given (codes "sectors") sectors ∷ given (codes "format") version ∷ []) (Some (codes "id", identity ∷ [])) idle 2) (codes "--sparse") refl) (goes (met format_built (standing (given (codes "file") file ∷ given (codes "sectors") sectors ∷ given (codes "format") version ∷ given (codes "id") identity ∷ flag_row (codes "sparse") true ∷ []) None idle 2) (codes "--why") refl) (gone format_built (standing (given (codes "file") file ∷ given (codes "sectors") sectors ∷ given (codes "format") version ∷ given (codes "id") identity ∷ flag_row (codes "sparse") true ∷ flag_row (codes "why") true ∷ []) None idle 2)))))))))) in
+    let read = read_by (file ∷ codes "--sectors" ∷ sectors ∷ codes "--format" ∷ version ∷ codes "--id" ∷ identity ∷ codes "--sparse" ∷ codes "--why" ∷ []) (codes "format") format_built (standing (given (codes "file") file ∷ given (codes "sectors") sectors ∷ given (codes "format") version ∷ given (codes "id") identity ∷ flag_row (codes "sparse") true ∷ flag_row (codes "why") true ∷ []) None idle 2) refl refl refl walked refl refl refl in
+    record { rows = _; met = read.0; taken = read.1; holds = (refl, refl, refl, refl, refl, refl, refl, refl) }
+format_read file sectors (Some version) None (Some identity) true false h s v m d =
+    let walked = goes (plain_step format_built None 1 file h refl) (goes (met format_built (standing [] (Some (codes "file", file ∷ [])) idle 2) (codes "--sectors") refl) (goes (value_step format_built (given (codes "file") file ∷ []) (codes "sectors") 2 sectors s.0) (goes (met format_built (standing (given (codes "file") file ∷ []) (Some (codes "sectors", sectors ∷ [])) idle 2) (codes "--format") (simp s.1)) (goes (value_step format_built (given (codes "file") file ∷ given (codes "sectors") sectors ∷ []) (codes "format") 2 version v.0) (goes (met format_built (standing (given (codes "file") file ∷ given (codes "sectors") sectors ∷ []) (Some (codes "format", version ∷ [])) idle 2) (codes "--id") (simp v.1)) (goes (value_step format_built (given (codes "file") file ∷ given (codes "sectors") sectors ∷ given (codes "format") version ∷ []) (codes "id") 2 identity d) (goes (met format_built (standing (given (codes "file") file ∷ given (codes "sectors") sectors ∷ given (codes "format") version ∷ []) (Some (codes "id", identity ∷ [])) idle 2) (codes "--sparse") refl) (gone format_built (standing (given (codes "file") file ∷ given (codes "sectors") sectors ∷ given (codes "format") version ∷ given (codes "id") identity ∷ flag_row (codes "sparse") true ∷ []) None idle 2))))))))) in
+    let read = read_by (file ∷ codes "--sectors" ∷ sectors ∷ codes "--format" ∷ version ∷ codes "--id" ∷ identity ∷ codes "--sparse" ∷ []) (codes "format") format_built (standing (given (codes "file") file ∷ given (codes "sectors") sectors ∷ given (codes "format") version ∷ given (codes "id") identity ∷ flag_row (codes "sparse") true ∷ []) None idle 2) refl refl refl walked refl refl refl in
+    record { rows = _; met = read.0; taken = read.1; holds = (refl, refl, refl, refl, refl, refl, refl, refl) }
+format_read file sectors (Some version) None (Some identity) false true h s v m d =
+    let walked = goes (plain_step format_built None 1 file h refl) (goes (met format_built (standing [] (Some (codes "file", file ∷ [])) idle 2) (codes "--sectors") refl) (goes (value_step format_built (given (codes "file") file ∷ []) (codes "sectors") 2 sectors s.0) (goes (met format_built (standing (given (codes "file") file ∷ []) (Some (codes "sectors", sectors ∷ [])) idle 2) (codes "--format") (simp s.1)) (goes (value_step format_built (given (codes "file") file ∷ given (codes "sectors") sectors ∷ []) (codes "format") 2 version v.0) (goes (met format_built (standing (given (codes "file") file ∷ given (codes "sectors") sectors ∷ []) (Some (codes "format", version ∷ [])) idle 2) (codes "--id") (simp v.1)) (goes (value_step format_built (given (codes "file") file ∷ given (codes "sectors") sectors ∷ given (codes "format") version ∷ []) (codes "id") 2 identity d) (goes (met format_built (standing (given (codes "file") file ∷ given (codes "sectors") sectors ∷ given (codes "format") version ∷ []) (Some (codes "id", identity ∷ [])) idle 2) (codes "--why") refl) (gone format_built (standing (given (codes "file") file ∷ given (codes "sectors") sectors ∷ given (codes "format") version ∷ given (codes "id") identity ∷ flag_row (codes "why") true ∷ []) None idle 2))))))))) in
+    let read = read_by (file ∷ codes "--sectors" ∷ sectors ∷ codes "--format" ∷ version ∷ codes "--id" ∷ identity ∷ codes "--why" ∷ []) (codes "format") format_built (standing (given (codes "file") file ∷ given (codes "sectors") sectors ∷ given (codes "format") version ∷ given (codes "id") identity ∷ flag_row (codes "why") true ∷ []) None idle 2) refl refl refl walked refl refl refl in
+    record { rows = _; met = read.0; taken = read.1; holds = (refl, refl, refl, refl, refl, refl, refl, refl) }
+format_read file sectors (Some version) None (Some identity) false false h s v m d =
+    let walked = goes (plain_step format_built None 1 file h refl) (goes (met format_built (standing [] (Some (codes "file", file ∷ [])) idle 2) (codes "--sectors") refl) (goes (value_step format_built (given (codes "file") file ∷ []) (codes "sectors") 2 sectors s.0) (goes (met format_built (standing (given (codes "file") file ∷ []) (Some (codes "sectors", sectors ∷ [])) idle 2) (codes "--format") (simp s.1)) (goes (value_step format_built (given (codes "file") file ∷ given (codes "sectors") sectors ∷ []) (codes "format") 2 version v.0) (goes (met format_built (standing (given (codes "file") file ∷ given (codes "sectors") sectors ∷ []) (Some (codes "format", version ∷ [])) idle 2) (codes "--id") (simp v.1)) (goes (value_step format_built (given (codes "file") file ∷ given (codes "sectors") sectors ∷ given (codes "format") version ∷ []) (codes "id") 2 identity d) (gone format_built (standing (given (codes "file") file ∷ given (codes "sectors") sectors ∷ given (codes "format") version ∷ []) (Some (codes "id", identity ∷ [])) idle 2)))))))) in
+    let read = read_by (file ∷ codes "--sectors" ∷ sectors ∷ codes "--format" ∷ version ∷ codes "--id" ∷ identity ∷ []) (codes "format") format_built (standing (given (codes "file") file ∷ given (codes "sectors") sectors ∷ given (codes "format") version ∷ []) (Some (codes "id", identity ∷ [])) idle 2) refl refl refl walked refl refl refl in
+    record { rows = _; met = read.0; taken = read.1; holds = (refl, refl, refl, refl, refl, refl, refl, refl) }
+format_read file sectors (Some version) None None true true h s v m d =
     let walked = goes (plain_step format_built None 1 file h refl) (goes (met format_built (standing [] (Some (codes "file", file ∷ [])) idle 2) (codes "--sectors") refl) (goes (value_step format_built (given (codes "file") file ∷ []) (codes "sectors") 2 sectors s.0) (goes (met format_built (standing (given (codes "file") file ∷ []) (Some (codes "sectors", sectors ∷ [])) idle 2) (codes "--format") (simp s.1)) (goes (value_step format_built (given (codes "file") file ∷ given (codes "sectors") sectors ∷ []) (codes "format") 2 version v.0) (goes (met format_built (standing (given (codes "file") file ∷ given (codes "sectors") sectors ∷ []) (Some (codes "format", version ∷ [])) idle 2) (codes "--sparse") (simp v.1)) (goes (met format_built (standing (given (codes "file") file ∷ given (codes "sectors") sectors ∷ given (codes "format") version ∷ flag_row (codes "sparse") true ∷ []) None idle 2) (codes "--why") refl) (gone format_built (standing (given (codes "file") file ∷ given (codes "sectors") sectors ∷ given (codes "format") version ∷ flag_row (codes "sparse") true ∷ flag_row (codes "why") true ∷ []) None idle 2)))))))) in
     let read = read_by (file ∷ codes "--sectors" ∷ sectors ∷ codes "--format" ∷ version ∷ codes "--sparse" ∷ codes "--why" ∷ []) (codes "format") format_built (standing (given (codes "file") file ∷ given (codes "sectors") sectors ∷ given (codes "format") version ∷ flag_row (codes "sparse") true ∷ flag_row (codes "why") true ∷ []) None idle 2) refl refl refl walked refl refl refl in
-    record { rows = _; met = read.0; taken = read.1; holds = (refl, refl, refl, refl, refl, refl, refl) }
-format_read file sectors (Some version) None true false h s v m =
+    record { rows = _; met = read.0; taken = read.1; holds = (refl, refl, refl, refl, refl, refl, refl, refl) }
+format_read file sectors (Some version) None None true false h s v m d =
     let walked = goes (plain_step format_built None 1 file h refl) (goes (met format_built (standing [] (Some (codes "file", file ∷ [])) idle 2) (codes "--sectors") refl) (goes (value_step format_built (given (codes "file") file ∷ []) (codes "sectors") 2 sectors s.0) (goes (met format_built (standing (given (codes "file") file ∷ []) (Some (codes "sectors", sectors ∷ [])) idle 2) (codes "--format") (simp s.1)) (goes (value_step format_built (given (codes "file") file ∷ given (codes "sectors") sectors ∷ []) (codes "format") 2 version v.0) (goes (met format_built (standing (given (codes "file") file ∷ given (codes "sectors") sectors ∷ []) (Some (codes "format", version ∷ [])) idle 2) (codes "--sparse") (simp v.1)) (gone format_built (standing (given (codes "file") file ∷ given (codes "sectors") sectors ∷ given (codes "format") version ∷ flag_row (codes "sparse") true ∷ []) None idle 2))))))) in
     let read = read_by (file ∷ codes "--sectors" ∷ sectors ∷ codes "--format" ∷ version ∷ codes "--sparse" ∷ []) (codes "format") format_built (standing (given (codes "file") file ∷ given (codes "sectors") sectors ∷ given (codes "format") version ∷ flag_row (codes "sparse") true ∷ []) None idle 2) refl refl refl walked refl refl refl in
-    record { rows = _; met = read.0; taken = read.1; holds = (refl, refl, refl, refl, refl, refl, refl) }
-format_read file sectors (Some version) None false true h s v m =
+    record { rows = _; met = read.0; taken = read.1; holds = (refl, refl, refl, refl, refl, refl, refl, refl) }
+format_read file sectors (Some version) None None false true h s v m d =
     let walked = goes (plain_step format_built None 1 file h refl) (goes (met format_built (standing [] (Some (codes "file", file ∷ [])) idle 2) (codes "--sectors") refl) (goes (value_step format_built (given (codes "file") file ∷ []) (codes "sectors") 2 sectors s.0) (goes (met format_built (standing (given (codes "file") file ∷ []) (Some (codes "sectors", sectors ∷ [])) idle 2) (codes "--format") (simp s.1)) (goes (value_step format_built (given (codes "file") file ∷ given (codes "sectors") sectors ∷ []) (codes "format") 2 version v.0) (goes (met format_built (standing (given (codes "file") file ∷ given (codes "sectors") sectors ∷ []) (Some (codes "format", version ∷ [])) idle 2) (codes "--why") (simp v.1)) (gone format_built (standing (given (codes "file") file ∷ given (codes "sectors") sectors ∷ given (codes "format") version ∷ flag_row (codes "why") true ∷ []) None idle 2))))))) in
     let read = read_by (file ∷ codes "--sectors" ∷ sectors ∷ codes "--format" ∷ version ∷ codes "--why" ∷ []) (codes "format") format_built (standing (given (codes "file") file ∷ given (codes "sectors") sectors ∷ given (codes "format") version ∷ flag_row (codes "why") true ∷ []) None idle 2) refl refl refl walked refl refl refl in
-    record { rows = _; met = read.0; taken = read.1; holds = (refl, refl, refl, refl, refl, refl, refl) }
-format_read file sectors (Some version) None false false h s v m =
+    record { rows = _; met = read.0; taken = read.1; holds = (refl, refl, refl, refl, refl, refl, refl, refl) }
+format_read file sectors (Some version) None None false false h s v m d =
     let walked = goes (plain_step format_built None 1 file h refl) (goes (met format_built (standing [] (Some (codes "file", file ∷ [])) idle 2) (codes "--sectors") refl) (goes (value_step format_built (given (codes "file") file ∷ []) (codes "sectors") 2 sectors s.0) (goes (met format_built (standing (given (codes "file") file ∷ []) (Some (codes "sectors", sectors ∷ [])) idle 2) (codes "--format") (simp s.1)) (goes (value_step format_built (given (codes "file") file ∷ given (codes "sectors") sectors ∷ []) (codes "format") 2 version v.0) (gone format_built (standing (given (codes "file") file ∷ given (codes "sectors") sectors ∷ []) (Some (codes "format", version ∷ [])) idle 2)))))) in
     let read = read_by (file ∷ codes "--sectors" ∷ sectors ∷ codes "--format" ∷ version ∷ []) (codes "format") format_built (standing (given (codes "file") file ∷ given (codes "sectors") sectors ∷ []) (Some (codes "format", version ∷ [])) idle 2) refl refl refl walked (simp v.1) refl refl in
-    record { rows = _; met = read.0; taken = read.1; holds = (refl, refl, refl, refl, refl, refl, refl) }
-format_read file sectors None (Some mode) true true h s v m =
+    record { rows = _; met = read.0; taken = read.1; holds = (refl, refl, refl, refl, refl, refl, refl, refl) }
+format_read file sectors None (Some mode) (Some identity) true true h s v m d =
+    let walked = goes (plain_step format_built None 1 file h refl) (goes (met format_built (standing [] (Some (codes "file", file ∷ [])) idle 2) (codes "--sectors") refl) (goes (value_step format_built (given (codes "file") file ∷ []) (codes "sectors") 2 sectors s.0) (goes (met format_built (standing (given (codes "file") file ∷ []) (Some (codes "sectors", sectors ∷ [])) idle 2) (codes "--mode") (simp s.1)) (goes (value_step format_built (given (codes "file") file ∷ given (codes "sectors") sectors ∷ []) (codes "mode") 2 mode m) (goes (met format_built (standing (given (codes "file") file ∷ given (codes "sectors") sectors ∷ []) (Some (codes "mode", mode ∷ [])) idle 2) (codes "--id") refl) (goes (value_step format_built (given (codes "file") file ∷ given (codes "sectors") sectors ∷ given (codes "mode") mode ∷ []) (codes "id") 2 identity d) (goes (met format_built (standing (given (codes "file") file ∷ given (codes "sectors") sectors ∷ given (codes "mode") mode ∷ []) (Some (codes "id", identity ∷ [])) idle 2) (codes "--sparse") refl) (goes (met format_built (standing (given (codes "file") file ∷ given (codes "sectors") sectors ∷ given (codes "mode") mode ∷ given (codes "id") identity ∷ flag_row (codes "sparse") true ∷ []) None idle 2) (codes "--why") refl) (gone format_built (standing (given (codes "file") file ∷ given (codes "sectors") sectors ∷ given (codes "mode") mode ∷ given (codes "id") identity ∷ flag_row (codes "sparse") true ∷ flag_row (codes "why") true ∷ []) None idle 2)))))))))) in
+    let read = read_by (file ∷ codes "--sectors" ∷ sectors ∷ codes "--mode" ∷ mode ∷ codes "--id" ∷ identity ∷ codes "--sparse" ∷ codes "--why" ∷ []) (codes "format") format_built (standing (given (codes "file") file ∷ given (codes "sectors") sectors ∷ given (codes "mode") mode ∷ given (codes "id") identity ∷ flag_row (codes "sparse") true ∷ flag_row (codes "why") true ∷ []) None idle 2) refl refl refl walked refl refl refl in
+    record { rows = _; met = read.0; taken = read.1; holds = (refl, refl, refl, refl, refl, refl, refl, refl) }
+format_read file sectors None (Some mode) (Some identity) true false h s v m d =
+    let walked = goes (plain_step format_built None 1 file h refl) (goes (met format_built (standing [] (Some (codes "file", file ∷ [])) idle 2) (codes "--sectors") refl) (goes (value_step format_built (given (codes "file") file ∷ []) (codes "sectors") 2 sectors s.0) (goes (met format_built (standing (given (codes "file") file ∷ []) (Some (codes "sectors", sectors ∷ [])) idle 2) (codes "--mode") (simp s.1)) (goes (value_step format_built (given (codes "file") file ∷ given (codes "sectors") sectors ∷ []) (codes "mode") 2 mode m) (goes (met format_built (standing (given (codes "file") file ∷ given (codes "sectors") sectors ∷ []) (Some (codes "mode", mode ∷ [])) idle 2) (codes "--id") refl) (goes (value_step format_built (given (codes "file") file ∷ given (codes "sectors") sectors ∷ given (codes "mode") mode ∷ []) (codes "id") 2 identity d) (goes (met format_built (standing (given (codes "file") file ∷ given (codes "sectors") sectors ∷ given (codes "mode") mode ∷ []) (Some (codes "id", identity ∷ [])) idle 2) (codes "--sparse") refl) (gone format_built (standing (given (codes "file") file ∷ given (codes "sectors") sectors ∷ given (codes "mode") mode ∷ given (codes "id") identity ∷ flag_row (codes "sparse") true ∷ []) None idle 2))))))))) in
+    let read = read_by (file ∷ codes "--sectors" ∷ sectors ∷ codes "--mode" ∷ mode ∷ codes "--id" ∷ identity ∷ codes "--sparse" ∷ []) (codes "format") format_built (standing (given (codes "file") file ∷ given (codes "sectors") sectors ∷ given (codes "mode") mode ∷ given (codes "id") identity ∷ flag_row (codes "sparse") true ∷ []) None idle 2) refl refl refl walked refl refl refl in
+    record { rows = _; met = read.0; taken = read.1; holds = (refl, refl, refl, refl, refl, refl, refl, refl) }
+format_read file sectors None (Some mode) (Some identity) false true h s v m d =
+    let walked = goes (plain_step format_built None 1 file h refl) (goes (met format_built (standing [] (Some (codes "file", file ∷ [])) idle 2) (codes "--sectors") refl) (goes (value_step format_built (given (codes "file") file ∷ []) (codes "sectors") 2 sectors s.0) (goes (met format_built (standing (given (codes "file") file ∷ []) (Some (codes "sectors", sectors ∷ [])) idle 2) (codes "--mode") (simp s.1)) (goes (value_step format_built (given (codes "file") file ∷ given (codes "sectors") sectors ∷ []) (codes "mode") 2 mode m) (goes (met format_built (standing (given (codes "file") file ∷ given (codes "sectors") sectors ∷ []) (Some (codes "mode", mode ∷ [])) idle 2) (codes "--id") refl) (goes (value_step format_built (given (codes "file") file ∷ given (codes "sectors") sectors ∷ given (codes "mode") mode ∷ []) (codes "id") 2 identity d) (goes (met format_built (standing (given (codes "file") file ∷ given (codes "sectors") sectors ∷ given (codes "mode") mode ∷ []) (Some (codes "id", identity ∷ [])) idle 2) (codes "--why") refl) (gone format_built (standing (given (codes "file") file ∷ given (codes "sectors") sectors ∷ given (codes "mode") mode ∷ given (codes "id") identity ∷ flag_row (codes "why") true ∷ []) None idle 2))))))))) in
+    let read = read_by (file ∷ codes "--sectors" ∷ sectors ∷ codes "--mode" ∷ mode ∷ codes "--id" ∷ identity ∷ codes "--why" ∷ []) (codes "format") format_built (standing (given (codes "file") file ∷ given (codes "sectors") sectors ∷ given (codes "mode") mode ∷ given (codes "id") identity ∷ flag_row (codes "why") true ∷ []) None idle 2) refl refl refl walked refl refl refl in
+    record { rows = _; met = read.0; taken = read.1; holds = (refl, refl, refl, refl, refl, refl, refl, refl) }
+format_read file sectors None (Some mode) (Some identity) false false h s v m d =
+    let walked = goes (plain_step format_built None 1 file h refl) (goes (met format_built (standing [] (Some (codes "file", file ∷ [])) idle 2) (codes "--sectors") refl) (goes (value_step format_built (given (codes "file") file ∷ []) (codes "sectors") 2 sectors s.0) (goes (met format_built (standing (given (codes "file") file ∷ []) (Some (codes "sectors", sectors ∷ [])) idle 2) (codes "--mode") (simp s.1)) (goes (value_step format_built (given (codes "file") file ∷ given (codes "sectors") sectors ∷ []) (codes "mode") 2 mode m) (goes (met format_built (standing (given (codes "file") file ∷ given (codes "sectors") sectors ∷ []) (Some (codes "mode", mode ∷ [])) idle 2) (codes "--id") refl) (goes (value_step format_built (given (codes "file") file ∷ given (codes "sectors") sectors ∷ given (codes "mode") mode ∷ []) (codes "id") 2 identity d) (gone format_built (standing (given (codes "file") file ∷ given (codes "sectors") sectors ∷ given (codes "mode") mode ∷ []) (Some (codes "id", identity ∷ [])) idle 2)))))))) in
+    let read = read_by (file ∷ codes "--sectors" ∷ sectors ∷ codes "--mode" ∷ mode ∷ codes "--id" ∷ identity ∷ []) (codes "format") format_built (standing (given (codes "file") file ∷ given (codes "sectors") sectors ∷ given (codes "mode") mode ∷ []) (Some (codes "id", identity ∷ [])) idle 2) refl refl refl walked refl refl refl in
+    record { rows = _; met = read.0; taken = read.1; holds = (refl, refl, refl, refl, refl, refl, refl, refl) }
+format_read file sectors None (Some mode) None true true h s v m d =
     let walked = goes (plain_step format_built None 1 file h refl) (goes (met format_built (standing [] (Some (codes "file", file ∷ [])) idle 2) (codes "--sectors") refl) (goes (value_step format_built (given (codes "file") file ∷ []) (codes "sectors") 2 sectors s.0) (goes (met format_built (standing (given (codes "file") file ∷ []) (Some (codes "sectors", sectors ∷ [])) idle 2) (codes "--mode") (simp s.1)) (goes (value_step format_built (given (codes "file") file ∷ given (codes "sectors") sectors ∷ []) (codes "mode") 2 mode m) (goes (met format_built (standing (given (codes "file") file ∷ given (codes "sectors") sectors ∷ []) (Some (codes "mode", mode ∷ [])) idle 2) (codes "--sparse") refl) (goes (met format_built (standing (given (codes "file") file ∷ given (codes "sectors") sectors ∷ given (codes "mode") mode ∷ flag_row (codes "sparse") true ∷ []) None idle 2) (codes "--why") refl) (gone format_built (standing (given (codes "file") file ∷ given (codes "sectors") sectors ∷ given (codes "mode") mode ∷ flag_row (codes "sparse") true ∷ flag_row (codes "why") true ∷ []) None idle 2)))))))) in
     let read = read_by (file ∷ codes "--sectors" ∷ sectors ∷ codes "--mode" ∷ mode ∷ codes "--sparse" ∷ codes "--why" ∷ []) (codes "format") format_built (standing (given (codes "file") file ∷ given (codes "sectors") sectors ∷ given (codes "mode") mode ∷ flag_row (codes "sparse") true ∷ flag_row (codes "why") true ∷ []) None idle 2) refl refl refl walked refl refl refl in
-    record { rows = _; met = read.0; taken = read.1; holds = (refl, refl, refl, refl, refl, refl, refl) }
-format_read file sectors None (Some mode) true false h s v m =
+    record { rows = _; met = read.0; taken = read.1; holds = (refl, refl, refl, refl, refl, refl, refl, refl) }
+format_read file sectors None (Some mode) None true false h s v m d =
     let walked = goes (plain_step format_built None 1 file h refl) (goes (met format_built (standing [] (Some (codes "file", file ∷ [])) idle 2) (codes "--sectors") refl) (goes (value_step format_built (given (codes "file") file ∷ []) (codes "sectors") 2 sectors s.0) (goes (met format_built (standing (given (codes "file") file ∷ []) (Some (codes "sectors", sectors ∷ [])) idle 2) (codes "--mode") (simp s.1)) (goes (value_step format_built (given (codes "file") file ∷ given (codes "sectors") sectors ∷ []) (codes "mode") 2 mode m) (goes (met format_built (standing (given (codes "file") file ∷ given (codes "sectors") sectors ∷ []) (Some (codes "mode", mode ∷ [])) idle 2) (codes "--sparse") refl) (gone format_built (standing (given (codes "file") file ∷ given (codes "sectors") sectors ∷ given (codes "mode") mode ∷ flag_row (codes "sparse") true ∷ []) None idle 2))))))) in
     let read = read_by (file ∷ codes "--sectors" ∷ sectors ∷ codes "--mode" ∷ mode ∷ codes "--sparse" ∷ []) (codes "format") format_built (standing (given (codes "file") file ∷ given (codes "sectors") sectors ∷ given (codes "mode") mode ∷ flag_row (codes "sparse") true ∷ []) None idle 2) refl refl refl walked refl refl refl in
-    record { rows = _; met = read.0; taken = read.1; holds = (refl, refl, refl, refl, refl, refl, refl) }
-format_read file sectors None (Some mode) false true h s v m =
+    record { rows = _; met = read.0; taken = read.1; holds = (refl, refl, refl, refl, refl, refl, refl, refl) }
+format_read file sectors None (Some mode) None false true h s v m d =
     let walked = goes (plain_step format_built None 1 file h refl) (goes (met format_built (standing [] (Some (codes "file", file ∷ [])) idle 2) (codes "--sectors") refl) (goes (value_step format_built (given (codes "file") file ∷ []) (codes "sectors") 2 sectors s.0) (goes (met format_built (standing (given (codes "file") file ∷ []) (Some (codes "sectors", sectors ∷ [])) idle 2) (codes "--mode") (simp s.1)) (goes (value_step format_built (given (codes "file") file ∷ given (codes "sectors") sectors ∷ []) (codes "mode") 2 mode m) (goes (met format_built (standing (given (codes "file") file ∷ given (codes "sectors") sectors ∷ []) (Some (codes "mode", mode ∷ [])) idle 2) (codes "--why") refl) (gone format_built (standing (given (codes "file") file ∷ given (codes "sectors") sectors ∷ given (codes "mode") mode ∷ flag_row (codes "why") true ∷ []) None idle 2))))))) in
     let read = read_by (file ∷ codes "--sectors" ∷ sectors ∷ codes "--mode" ∷ mode ∷ codes "--why" ∷ []) (codes "format") format_built (standing (given (codes "file") file ∷ given (codes "sectors") sectors ∷ given (codes "mode") mode ∷ flag_row (codes "why") true ∷ []) None idle 2) refl refl refl walked refl refl refl in
-    record { rows = _; met = read.0; taken = read.1; holds = (refl, refl, refl, refl, refl, refl, refl) }
-format_read file sectors None (Some mode) false false h s v m =
+    record { rows = _; met = read.0; taken = read.1; holds = (refl, refl, refl, refl, refl, refl, refl, refl) }
+format_read file sectors None (Some mode) None false false h s v m d =
     let walked = goes (plain_step format_built None 1 file h refl) (goes (met format_built (standing [] (Some (codes "file", file ∷ [])) idle 2) (codes "--sectors") refl) (goes (value_step format_built (given (codes "file") file ∷ []) (codes "sectors") 2 sectors s.0) (goes (met format_built (standing (given (codes "file") file ∷ []) (Some (codes "sectors", sectors ∷ [])) idle 2) (codes "--mode") (simp s.1)) (goes (value_step format_built (given (codes "file") file ∷ given (codes "sectors") sectors ∷ []) (codes "mode") 2 mode m) (gone format_built (standing (given (codes "file") file ∷ given (codes "sectors") sectors ∷ []) (Some (codes "mode", mode ∷ [])) idle 2)))))) in
     let read = read_by (file ∷ codes "--sectors" ∷ sectors ∷ codes "--mode" ∷ mode ∷ []) (codes "format") format_built (standing (given (codes "file") file ∷ given (codes "sectors") sectors ∷ []) (Some (codes "mode", mode ∷ [])) idle 2) refl refl refl walked refl refl refl in
-    record { rows = _; met = read.0; taken = read.1; holds = (refl, refl, refl, refl, refl, refl, refl) }
-format_read file sectors None None true true h s v m =
+    record { rows = _; met = read.0; taken = read.1; holds = (refl, refl, refl, refl, refl, refl, refl, refl) }
+format_read file sectors None None (Some identity) true true h s v m d =
+    let walked = goes (plain_step format_built None 1 file h refl) (goes (met format_built (standing [] (Some (codes "file", file ∷ [])) idle 2) (codes "--sectors") refl) (goes (value_step format_built (given (codes "file") file ∷ []) (codes "sectors") 2 sectors s.0) (goes (met format_built (standing (given (codes "file") file ∷ []) (Some (codes "sectors", sectors ∷ [])) idle 2) (codes "--id") (simp s.1)) (goes (value_step format_built (given (codes "file") file ∷ given (codes "sectors") sectors ∷ []) (codes "id") 2 identity d) (goes (met format_built (standing (given (codes "file") file ∷ given (codes "sectors") sectors ∷ []) (Some (codes "id", identity ∷ [])) idle 2) (codes "--sparse") refl) (goes (met format_built (standing (given (codes "file") file ∷ given (codes "sectors") sectors ∷ given (codes "id") identity ∷ flag_row (codes "sparse") true ∷ []) None idle 2) (codes "--why") refl) (gone format_built (standing (given (codes "file") file ∷ given (codes "sectors") sectors ∷ given (codes "id") identity ∷ flag_row (codes "sparse") true ∷ flag_row (codes "why") true ∷ []) None idle 2)))))))) in
+    let read = read_by (file ∷ codes "--sectors" ∷ sectors ∷ codes "--id" ∷ identity ∷ codes "--sparse" ∷ codes "--why" ∷ []) (codes "format") format_built (standing (given (codes "file") file ∷ given (codes "sectors") sectors ∷ given (codes "id") identity ∷ flag_row (codes "sparse") true ∷ flag_row (codes "why") true ∷ []) None idle 2) refl refl refl walked refl refl refl in
+    record { rows = _; met = read.0; taken = read.1; holds = (refl, refl, refl, refl, refl, refl, refl, refl) }
+format_read file sectors None None (Some identity) true false h s v m d =
+    let walked = goes (plain_step format_built None 1 file h refl) (goes (met format_built (standing [] (Some (codes "file", file ∷ [])) idle 2) (codes "--sectors") refl) (goes (value_step format_built (given (codes "file") file ∷ []) (codes "sectors") 2 sectors s.0) (goes (met format_built (standing (given (codes "file") file ∷ []) (Some (codes "sectors", sectors ∷ [])) idle 2) (codes "--id") (simp s.1)) (goes (value_step format_built (given (codes "file") file ∷ given (codes "sectors") sectors ∷ []) (codes "id") 2 identity d) (goes (met format_built (standing (given (codes "file") file ∷ given (codes "sectors") sectors ∷ []) (Some (codes "id", identity ∷ [])) idle 2) (codes "--sparse") refl) (gone format_built (standing (given (codes "file") file ∷ given (codes "sectors") sectors ∷ given (codes "id") identity ∷ flag_row (codes "sparse") true ∷ []) None idle 2))))))) in
+    let read = read_by (file ∷ codes "--sectors" ∷ sectors ∷ codes "--id" ∷ identity ∷ codes "--sparse" ∷ []) (codes "format") format_built (standing (given (codes "file") file ∷ given (codes "sectors") sectors ∷ given (codes "id") identity ∷ flag_row (codes "sparse") true ∷ []) None idle 2) refl refl refl walked refl refl refl in
+    record { rows = _; met = read.0; taken = read.1; holds = (refl, refl, refl, refl, refl, refl, refl, refl) }
+format_read file sectors None None (Some identity) false true h s v m d =
+    let walked = goes (plain_step format_built None 1 file h refl) (goes (met format_built (standing [] (Some (codes "file", file ∷ [])) idle 2) (codes "--sectors") refl) (goes (value_step format_built (given (codes "file") file ∷ []) (codes "sectors") 2 sectors s.0) (goes (met format_built (standing (given (codes "file") file ∷ []) (Some (codes "sectors", sectors ∷ [])) idle 2) (codes "--id") (simp s.1)) (goes (value_step format_built (given (codes "file") file ∷ given (codes "sectors") sectors ∷ []) (codes "id") 2 identity d) (goes (met format_built (standing (given (codes "file") file ∷ given (codes "sectors") sectors ∷ []) (Some (codes "id", identity ∷ [])) idle 2) (codes "--why") refl) (gone format_built (standing (given (codes "file") file ∷ given (codes "sectors") sectors ∷ given (codes "id") identity ∷ flag_row (codes "why") true ∷ []) None idle 2))))))) in
+    let read = read_by (file ∷ codes "--sectors" ∷ sectors ∷ codes "--id" ∷ identity ∷ codes "--why" ∷ []) (codes "format") format_built (standing (given (codes "file") file ∷ given (codes "sectors") sectors ∷ given (codes "id") identity ∷ flag_row (codes "why") true ∷ []) None idle 2) refl refl refl walked refl refl refl in
+    record { rows = _; met = read.0; taken = read.1; holds = (refl, refl, refl, refl, refl, refl, refl, refl) }
+format_read file sectors None None (Some identity) false false h s v m d =
+    let walked = goes (plain_step format_built None 1 file h refl) (goes (met format_built (standing [] (Some (codes "file", file ∷ [])) idle 2) (codes "--sectors") refl) (goes (value_step format_built (given (codes "file") file ∷ []) (codes "sectors") 2 sectors s.0) (goes (met format_built (standing (given (codes "file") file ∷ []) (Some (codes "sectors", sectors ∷ [])) idle 2) (codes "--id") (simp s.1)) (goes (value_step format_built (given (codes "file") file ∷ given (codes "sectors") sectors ∷ []) (codes "id") 2 identity d) (gone format_built (standing (given (codes "file") file ∷ given (codes "sectors") sectors ∷ []) (Some (codes "id", identity ∷ [])) idle 2)))))) in
+    let read = read_by (file ∷ codes "--sectors" ∷ sectors ∷ codes "--id" ∷ identity ∷ []) (codes "format") format_built (standing (given (codes "file") file ∷ given (codes "sectors") sectors ∷ []) (Some (codes "id", identity ∷ [])) idle 2) refl refl refl walked refl refl refl in
+    record { rows = _; met = read.0; taken = read.1; holds = (refl, refl, refl, refl, refl, refl, refl, refl) }
+format_read file sectors None None None true true h s v m d =
     let walked = goes (plain_step format_built None 1 file h refl) (goes (met format_built (standing [] (Some (codes "file", file ∷ [])) idle 2) (codes "--sectors") refl) (goes (value_step format_built (given (codes "file") file ∷ []) (codes "sectors") 2 sectors s.0) (goes (met format_built (standing (given (codes "file") file ∷ []) (Some (codes "sectors", sectors ∷ [])) idle 2) (codes "--sparse") (simp s.1)) (goes (met format_built (standing (given (codes "file") file ∷ given (codes "sectors") sectors ∷ flag_row (codes "sparse") true ∷ []) None idle 2) (codes "--why") refl) (gone format_built (standing (given (codes "file") file ∷ given (codes "sectors") sectors ∷ flag_row (codes "sparse") true ∷ flag_row (codes "why") true ∷ []) None idle 2)))))) in
     let read = read_by (file ∷ codes "--sectors" ∷ sectors ∷ codes "--sparse" ∷ codes "--why" ∷ []) (codes "format") format_built (standing (given (codes "file") file ∷ given (codes "sectors") sectors ∷ flag_row (codes "sparse") true ∷ flag_row (codes "why") true ∷ []) None idle 2) refl refl refl walked refl refl refl in
-    record { rows = _; met = read.0; taken = read.1; holds = (refl, refl, refl, refl, refl, refl, refl) }
-format_read file sectors None None true false h s v m =
+    record { rows = _; met = read.0; taken = read.1; holds = (refl, refl, refl, refl, refl, refl, refl, refl) }
+format_read file sectors None None None true false h s v m d =
     let walked = goes (plain_step format_built None 1 file h refl) (goes (met format_built (standing [] (Some (codes "file", file ∷ [])) idle 2) (codes "--sectors") refl) (goes (value_step format_built (given (codes "file") file ∷ []) (codes "sectors") 2 sectors s.0) (goes (met format_built (standing (given (codes "file") file ∷ []) (Some (codes "sectors", sectors ∷ [])) idle 2) (codes "--sparse") (simp s.1)) (gone format_built (standing (given (codes "file") file ∷ given (codes "sectors") sectors ∷ flag_row (codes "sparse") true ∷ []) None idle 2))))) in
     let read = read_by (file ∷ codes "--sectors" ∷ sectors ∷ codes "--sparse" ∷ []) (codes "format") format_built (standing (given (codes "file") file ∷ given (codes "sectors") sectors ∷ flag_row (codes "sparse") true ∷ []) None idle 2) refl refl refl walked refl refl refl in
-    record { rows = _; met = read.0; taken = read.1; holds = (refl, refl, refl, refl, refl, refl, refl) }
-format_read file sectors None None false true h s v m =
+    record { rows = _; met = read.0; taken = read.1; holds = (refl, refl, refl, refl, refl, refl, refl, refl) }
+format_read file sectors None None None false true h s v m d =
     let walked = goes (plain_step format_built None 1 file h refl) (goes (met format_built (standing [] (Some (codes "file", file ∷ [])) idle 2) (codes "--sectors") refl) (goes (value_step format_built (given (codes "file") file ∷ []) (codes "sectors") 2 sectors s.0) (goes (met format_built (standing (given (codes "file") file ∷ []) (Some (codes "sectors", sectors ∷ [])) idle 2) (codes "--why") (simp s.1)) (gone format_built (standing (given (codes "file") file ∷ given (codes "sectors") sectors ∷ flag_row (codes "why") true ∷ []) None idle 2))))) in
     let read = read_by (file ∷ codes "--sectors" ∷ sectors ∷ codes "--why" ∷ []) (codes "format") format_built (standing (given (codes "file") file ∷ given (codes "sectors") sectors ∷ flag_row (codes "why") true ∷ []) None idle 2) refl refl refl walked refl refl refl in
-    record { rows = _; met = read.0; taken = read.1; holds = (refl, refl, refl, refl, refl, refl, refl) }
-format_read file sectors None None false false h s v m =
+    record { rows = _; met = read.0; taken = read.1; holds = (refl, refl, refl, refl, refl, refl, refl, refl) }
+format_read file sectors None None None false false h s v m d =
     let walked = goes (plain_step format_built None 1 file h refl) (goes (met format_built (standing [] (Some (codes "file", file ∷ [])) idle 2) (codes "--sectors") refl) (goes (value_step format_built (given (codes "file") file ∷ []) (codes "sectors") 2 sectors s.0) (gone format_built (standing (given (codes "file") file ∷ []) (Some (codes "sectors", sectors ∷ [])) idle 2)))) in
     let read = read_by (file ∷ codes "--sectors" ∷ sectors ∷ []) (codes "format") format_built (standing (given (codes "file") file ∷ []) (Some (codes "sectors", sectors ∷ [])) idle 2) refl refl refl walked (simp s.1) refl refl in
-    record { rows = _; met = read.0; taken = read.1; holds = (refl, refl, refl, refl, refl, refl, refl) }
+    record { rows = _; met = read.0; taken = read.1; holds = (refl, refl, refl, refl, refl, refl, refl, refl) }
 
 -- what is found for the arguments of `serve`
 abbrev FoundServe : Text → Option Text → Option Text → Bool → Bool → List Row → Type 0
@@ -569,6 +665,22 @@ mode_found mode words (inr absent) = record {
   held = λ rows first. inr (absent.0, first);
 }
 
+-- the words of an identity, which may be absent
+record IsIdentityFound (identity : Option ℕ) (words : List Text) : Type 0 where
+  text : Option Text
+  is : words ≡ option_words (codes "--id") text
+  fits : IfSome text IsPlain
+  held : (rows : List Row) → first_of (codes "id") rows ≡ text → HoldsIdentity identity rows
+
+identity_found : (identity : Option ℕ) (words : List Text) → IsIdentityGiven identity words → IsIdentityFound identity words
+identity_found None words absent = record { text = None; is = absent; fits = tt; held = λ rows first. first }
+identity_found (Some identity) words some = record {
+  text = Some some.0;
+  is = some.3;
+  fits = plain some.0 some.1;
+  held = λ rows first. (some.0, first, some.2);
+}
+
 served : (file : Text) (batch pump : ℕ) (strict why : Bool) (words batches pumps : List Text) → IsPlain file → InRange (serve file batch pump strict)
     → IsOptional (codes "--batch") (codes "batch") 1 1 MAX_BATCH batch batches → IsOptional (codes "--pump") (codes "pump") 0 1 MAX_PUMP pump pumps
     → IsReadAs (codes "serve" ∷ file ∷ batches ++ pumps ++ flag_words (codes "--strict") strict ++ flag_words (codes "--why") why) (serve file batch pump strict) why
@@ -586,15 +698,16 @@ served file batch pump strict why words batches pumps h range b p =
 
 -- words that are a call's row are taken and mean that call
 pub read_as_row : (asked : Asked) (why : Bool) (words : List Text) → InRange asked → IsRowOf words asked why → IsReadAs words asked why
-read_as_row (format file n version mode sparse) why words range (h, formats, modes, v, m, row) =
+read_as_row (format file n version mode sparse identity) why words range (h, formats, modes, identities, v, m, d, row) =
     let sectors = number n MIN_SECTORS MAX_SECTORS (decimal n) (omega (arith, range.0.0)) range.0.0 range.0.1 (omega arith) refl in
     let chosen = optional (codes "--format") (codes "format") 2 MIN_FORMAT MAX_FORMAT version formats (λ one. range.1.0) range.1.1 (omega arith) v in
     let moded = mode_found mode modes m in
-    let read = format_read file (decimal n) chosen.text moded.text sparse why (plain file h) (checked n MIN_SECTORS MAX_SECTORS (decimal n) sectors) chosen.fits moded.fits in
+    let named = identity_found identity identities d in
+    let read = format_read file (decimal n) chosen.text moded.text named.text sparse why (plain file h) (checked n MIN_SECTORS MAX_SECTORS (decimal n) sectors) chosen.fits moded.fits named.fits in
     let held = read.holds in
-    let meant : IsReadAs (codes "format" ∷ file ∷ codes "--sectors" ∷ decimal n ∷ option_words (codes "--format") chosen.text ++ option_words (codes "--mode") moded.text ++ flag_words (codes "--sparse") sparse ++ flag_words (codes "--why") why) (format file n version mode sparse) why =
-    (((read.rows, read.met, (held.0, (decimal n, held.1, sectors.spells), chosen.held read.rows held.2 held.3, moded.held read.rows held.4, held.5)), (read.rows, read.met, held.6)), read.taken) in
-    rw row (rw chosen.is (rw moded.is meant))
+    let meant : IsReadAs (codes "format" ∷ file ∷ codes "--sectors" ∷ decimal n ∷ option_words (codes "--format") chosen.text ++ option_words (codes "--mode") moded.text ++ option_words (codes "--id") named.text ++ flag_words (codes "--sparse") sparse ++ flag_words (codes "--why") why) (format file n version mode sparse identity) why =
+    (((read.rows, read.met, (held.0, (decimal n, held.1, sectors.spells), chosen.held read.rows held.2 held.3, moded.held read.rows held.4, held.6, named.held read.rows held.5)), (read.rows, read.met, held.7)), read.taken) in
+    rw row (rw chosen.is (rw moded.is (rw named.is meant)))
 read_as_row (serve file batch pump strict) why words range (h, batches, pumps, options, b, p, order, row) =
     let first = optional (codes "--batch") (codes "batch") 1 1 MAX_BATCH batch batches (λ one. one) range.0.1 (omega arith) b in
     let second = optional (codes "--pump") (codes "pump") 0 1 MAX_PUMP pump pumps (λ one. one) range.1 (omega arith) p in
@@ -610,21 +723,23 @@ read_as_row (repair file) why words range row =
     let meant : IsReadAs (codes "repair" ∷ file ∷ flag_words (codes "--why") why) (repair file) why =
     (((read.rows, read.met, read.holds.0), (read.rows, read.met, read.holds.1)), read.taken) in
     rw row.1 meant
-read_as_row (copy file new n version) why words range (h, k, formats, v, row) =
+read_as_row (copy file new n version identity) why words range (h, k, formats, identities, v, d, row) =
     let sectors = number n MIN_SECTORS MAX_SECTORS (decimal n) (omega (arith, range.0.0)) range.0.0 range.0.1 (omega arith) refl in
     let chosen = optional (codes "--format") (codes "format") 2 MIN_FORMAT MAX_FORMAT version formats (λ one. range.1.0) range.1.1 (omega arith) v in
-    let read = copy_read file new (decimal n) chosen.text why (plain file h) (plain new k) (checked n MIN_SECTORS MAX_SECTORS (decimal n) sectors) chosen.fits in
+    let named = identity_found identity identities d in
+    let read = copy_read file new (decimal n) chosen.text named.text why (plain file h) (plain new k) (checked n MIN_SECTORS MAX_SECTORS (decimal n) sectors) chosen.fits named.fits in
     let held = read.holds in
-    let meant : IsReadAs (codes "copy" ∷ file ∷ new ∷ codes "--sectors" ∷ decimal n ∷ option_words (codes "--format") chosen.text ++ flag_words (codes "--why") why) (copy file new n version) why =
-    (((read.rows, read.met, (held.0, held.1, (decimal n, held.2, sectors.spells), chosen.held read.rows held.3 held.4)), (read.rows, read.met, held.5)), read.taken) in
-    rw row (rw chosen.is meant)
-read_as_row (upgrade file version) why words range (h, formats, v, row) =
+    let meant : IsReadAs (codes "copy" ∷ file ∷ new ∷ codes "--sectors" ∷ decimal n ∷ option_words (codes "--format") chosen.text ++ option_words (codes "--id") named.text ++ flag_words (codes "--why") why) (copy file new n version identity) why =
+    (((read.rows, read.met, (held.0, held.1, (decimal n, held.2, sectors.spells), chosen.held read.rows held.3 held.4, named.held read.rows held.5)), (read.rows, read.met, held.6)), read.taken) in
+    rw row (rw chosen.is (rw named.is meant))
+read_as_row (upgrade file version identity) why words range (h, formats, identities, v, d, row) =
     let chosen = optional (codes "--format") (codes "format") 3 MIN_FORMAT MAX_FORMAT version formats (λ one. range.0) range.1 (omega arith) v in
-    let read = upgrade_read file chosen.text why (plain file h) chosen.fits in
+    let named = identity_found identity identities d in
+    let read = upgrade_read file chosen.text named.text why (plain file h) chosen.fits named.fits in
     let held = read.holds in
-    let meant : IsReadAs (codes "upgrade" ∷ file ∷ option_words (codes "--format") chosen.text ++ flag_words (codes "--why") why) (upgrade file version) why =
-    (((read.rows, read.met, (held.0, chosen.held read.rows held.1 held.2)), (read.rows, read.met, held.3)), read.taken) in
-    rw row (rw chosen.is meant)
+    let meant : IsReadAs (codes "upgrade" ∷ file ∷ option_words (codes "--format") chosen.text ++ option_words (codes "--id") named.text ++ flag_words (codes "--why") why) (upgrade file version identity) why =
+    (((read.rows, read.met, (held.0, chosen.held read.rows held.1 held.2, named.held read.rows held.3)), (read.rows, read.met, held.4)), read.taken) in
+    rw row (rw chosen.is (rw named.is meant))
 read_as_row (mem n) why words range row =
     let sectors = number n MIN_SECTORS MAX_MEMORY_SECTORS (decimal n) (omega arith) range.0 range.1 (omega arith) refl in
     let read = mem_read n (decimal n) sectors in

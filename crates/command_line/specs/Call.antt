@@ -1,33 +1,35 @@
 -- Calls: what one asks for, in which range its numbers are, and which words are its row.
-use Rattle.std.specs.Prelude.{◌≡◌, ◌≢◌, ◌≤◌, ◌⊎◌, ℕ, Bool, false, if◌then◌else◌, List, [], ◌∷◌, ◌++◌, codes, decimal, get_or}
+use Rattle.std.specs.Prelude.{◌≡◌, ◌≢◌, ◌≤◌, ◌⊎◌, ℕ, Bool, false, if◌then◌else◌, Option, None, Some, Ok, List, [], ◌∷◌, ◌++◌, codes, decimal, get_or}
 use Rattle.std.specs.Str.Parse.{IsNumeral, digits_value, without_leading_plus}
+use Rattle.std.specs.Int.{w128, from_be_bytes}
+use Rattle.hex.specs.Hex.{decode_sized}
 use Rattle.command_line.specs.declared.call.Call.{Call}
 use Rattle.command_line.specs.declared.call.Call.TheVariants.{Format, Serve, Check, Repair, Copy, Upgrade, Mem, Deep, Salvage, Dump}
 use Rattle.command_line.specs.declared.limits.TheConstants.{MIN_SECTORS, MAX_SECTORS, MAX_MEMORY_SECTORS, MIN_FORMAT, MAX_FORMAT, MAX_BATCH, MAX_PUMP, MAX_MODE, OWNER_ALONE}
 
--- A call, with the names of its files as texts. Making a file, with its sectors, its format and its mode, and whether its blocks are left to be allocated as
--- they are written. Serving, with the most changes of one commit, and the sectors that a step of a copy writes after a change, of which 0 are none, and whether a store whose last commit may be lost is
--- refused, as checking has it too. Copying a file to a new one, with its sectors and its format. Bringing a file to a format.
+-- A call, with the names of its files as texts. Making a file, with its sectors, its format and its mode, whether its blocks are left to be allocated as
+-- they are written, and its identity if that isn't to be drawn. Serving, with the most changes of one commit, and the sectors that a step of a copy writes after a change, of which 0 are none, and whether a store whose last commit may be lost is
+-- refused, as checking has it too. Copying a file to a new one, with its sectors, its format and its identity. Bringing a file to a format, with an identity.
 -- Reading all of a file. Salvaging, the documents or else the frames. Dumping a file that is only read.
 pub data Asked : Type 0 where
-  format : List ℕ → ℕ → ℕ → ℕ → Bool → Asked
+  format : List ℕ → ℕ → ℕ → ℕ → Bool → Option ℕ → Asked
   serve : List ℕ → ℕ → ℕ → Bool → Asked
   check : List ℕ → Bool → Asked
   repair : List ℕ → Asked
-  copy : List ℕ → List ℕ → ℕ → ℕ → Asked
-  upgrade : List ℕ → ℕ → Asked
+  copy : List ℕ → List ℕ → ℕ → ℕ → Option ℕ → Asked
+  upgrade : List ℕ → ℕ → Option ℕ → Asked
   mem : ℕ → Asked
   deep : List ℕ → Asked
   salvage : List ℕ → Bool → Asked
   dump : List ℕ → Asked
 
 abbrev pub asked_of : Call → Asked
-asked_of (Format file sectors version mode sparse) = format file.now sectors version mode sparse
+asked_of (Format file sectors version mode sparse identity) = format file.now sectors version mode sparse identity
 asked_of (Serve file batch pump strict) = serve file.now batch pump strict
 asked_of (Check file strict) = check file.now strict
 asked_of (Repair file) = repair file.now
-asked_of (Copy file new sectors version) = copy file.now new.now sectors version
-asked_of (Upgrade file version) = upgrade file.now version
+asked_of (Copy file new sectors version identity) = copy file.now new.now sectors version identity
+asked_of (Upgrade file version identity) = upgrade file.now version identity
 asked_of (Mem sectors) = mem sectors
 asked_of (Deep file) = deep file.now
 asked_of (Salvage file frames) = salvage file.now frames
@@ -35,13 +37,13 @@ asked_of (Dump file) = dump file.now
 
 -- each number lies in the range of its option
 abbrev pub InRange : Asked → Type 0
-InRange (format file sectors version mode sparse) =
+InRange (format file sectors version mode sparse identity) =
     ((MIN_SECTORS ≤ sectors) × (sectors ≤ MAX_SECTORS)) × ((MIN_FORMAT ≤ version) × (version ≤ MAX_FORMAT)) × (mode ≤ MAX_MODE)
 InRange (serve file batch pump strict) = ((1 ≤ batch) × (batch ≤ MAX_BATCH)) × (pump ≤ MAX_PUMP)
 InRange (check file strict) = Unit {0}
 InRange (repair file) = Unit {0}
-InRange (copy file new sectors version) = ((MIN_SECTORS ≤ sectors) × (sectors ≤ MAX_SECTORS)) × ((MIN_FORMAT ≤ version) × (version ≤ MAX_FORMAT))
-InRange (upgrade file version) = (MIN_FORMAT ≤ version) × (version ≤ MAX_FORMAT)
+InRange (copy file new sectors version identity) = ((MIN_SECTORS ≤ sectors) × (sectors ≤ MAX_SECTORS)) × ((MIN_FORMAT ≤ version) × (version ≤ MAX_FORMAT))
+InRange (upgrade file version identity) = (MIN_FORMAT ≤ version) × (version ≤ MAX_FORMAT)
 InRange (mem sectors) = (MIN_SECTORS ≤ sectors) × (sectors ≤ MAX_MEMORY_SECTORS)
 InRange (deep file) = Unit {0}
 InRange (salvage file frames) = Unit {0}
@@ -64,6 +66,15 @@ abbrev pub IsModeGiven : ℕ → List (List ℕ) → Type 0
 IsModeGiven mode words =
     ((text : List ℕ) × IsNoOption text × SpellsMode text mode × (words ≡ codes "--mode" ∷ text ∷ [])) ⊎ ((mode ≡ OWNER_ALONE) × (words ≡ []))
 
+-- the text spells the identity: its 16 bytes by 32 hexadecimal digits
+abbrev pub SpellsIdentity : List ℕ → ℕ → Type 0
+SpellsIdentity text identity = (bytes : List ℕ) × (decode_sized text 16 ≡ Ok bytes) × (from_be_bytes w128 bytes ≡ identity)
+
+-- the words give the identity by such a text; or there are none, and it is left to be drawn
+abbrev pub IsIdentityGiven : Option ℕ → List (List ℕ) → Type 0
+IsIdentityGiven None words = words ≡ []
+IsIdentityGiven (Some identity) words = (text : List ℕ) × IsNoOption text × SpellsIdentity text identity × (words ≡ codes "--id" ∷ text ∷ [])
+
 -- what two options are given, in either order
 abbrev pub InEitherOrder : List (List ℕ) → List (List ℕ) → List (List ℕ) → Type 0
 InEitherOrder one other words = (words ≡ one ++ other) ⊎ (words ≡ other ++ one)
@@ -75,21 +86,21 @@ flag_words flag set = if set then flag ∷ [] else []
 -- the words ask for the call, and by a last flag why a file isn't made or opened, each option once at most, a flag after the other options, each number in plain
 -- decimal, and each file by a word that is no option
 abbrev pub IsRowOf : List (List ℕ) → Asked → Bool → Type 0
-IsRowOf words (format file sectors version mode sparse) why =
-    IsNoOption file × (formats modes : List (List ℕ)) × IsGiven (codes "--format") 2 version formats × IsModeGiven mode modes
-    × (words ≡ codes "format" ∷ file ∷ codes "--sectors" ∷ decimal sectors ∷ formats ++ modes ++ flag_words (codes "--sparse") sparse ++ flag_words (codes "--why") why)
+IsRowOf words (format file sectors version mode sparse identity) why =
+    IsNoOption file × (formats modes identities : List (List ℕ)) × IsGiven (codes "--format") 2 version formats × IsModeGiven mode modes × IsIdentityGiven identity identities
+    × (words ≡ codes "format" ∷ file ∷ codes "--sectors" ∷ decimal sectors ∷ formats ++ modes ++ identities ++ flag_words (codes "--sparse") sparse ++ flag_words (codes "--why") why)
 IsRowOf words (serve file batch pump strict) why =
     IsNoOption file × (batches pumps options : List (List ℕ)) × IsGiven (codes "--batch") 1 batch batches
     × IsGiven (codes "--pump") 0 pump pumps × InEitherOrder batches pumps options
     × (words ≡ codes "serve" ∷ file ∷ options ++ flag_words (codes "--strict") strict ++ flag_words (codes "--why") why)
 IsRowOf words (check file strict) why = IsNoOption file × (words ≡ codes "check" ∷ file ∷ flag_words (codes "--strict") strict ++ flag_words (codes "--why") why)
 IsRowOf words (repair file) why = IsNoOption file × (words ≡ codes "repair" ∷ file ∷ flag_words (codes "--why") why)
-IsRowOf words (copy file new sectors version) why =
-    IsNoOption file × IsNoOption new × (formats : List (List ℕ)) × IsGiven (codes "--format") 2 version formats
-    × (words ≡ codes "copy" ∷ file ∷ new ∷ codes "--sectors" ∷ decimal sectors ∷ formats ++ flag_words (codes "--why") why)
-IsRowOf words (upgrade file version) why =
-    IsNoOption file × (formats : List (List ℕ)) × IsGiven (codes "--format") 3 version formats
-    × (words ≡ codes "upgrade" ∷ file ∷ formats ++ flag_words (codes "--why") why)
+IsRowOf words (copy file new sectors version identity) why =
+    IsNoOption file × IsNoOption new × (formats identities : List (List ℕ)) × IsGiven (codes "--format") 2 version formats × IsIdentityGiven identity identities
+    × (words ≡ codes "copy" ∷ file ∷ new ∷ codes "--sectors" ∷ decimal sectors ∷ formats ++ identities ++ flag_words (codes "--why") why)
+IsRowOf words (upgrade file version identity) why =
+    IsNoOption file × (formats identities : List (List ℕ)) × IsGiven (codes "--format") 3 version formats × IsIdentityGiven identity identities
+    × (words ≡ codes "upgrade" ∷ file ∷ formats ++ identities ++ flag_words (codes "--why") why)
 IsRowOf words (mem sectors) why = (words ≡ codes "mem" ∷ codes "--sectors" ∷ decimal sectors ∷ []) × (why ≡ false)
 IsRowOf words (deep file) why = IsNoOption file × (words ≡ codes "check" ∷ file ∷ codes "--deep" ∷ flag_words (codes "--why") why)
 IsRowOf words (salvage file frames) why =

@@ -5,7 +5,7 @@ use Rattle.clap.specs.Words.{App, IsAmong, Rule, Shape, Row, Text, fault_of, fir
 use Rattle.clap.specs.declared.error.kind.ErrorKind.TheVariants.{DisplayHelp, DisplayVersion}
 use Rattle.clap.specs.declared.builder.action.ArgAction.TheVariants.{Set, SetTrue}
 use Rattle.clap.specs.declared.builder.value_parser.ValueParser.TheVariants.{Unsigned}
-use Rattle.command_line.specs.Call.{Asked, SpellsMode, format, serve, check, repair, copy, upgrade, mem, deep, salvage, dump}
+use Rattle.command_line.specs.Call.{Asked, SpellsIdentity, SpellsMode, format, serve, check, repair, copy, upgrade, mem, deep, salvage, dump}
 use Rattle.command_line.specs.declared.limits.TheConstants.{MIN_SECTORS, MAX_SECTORS, MAX_MEMORY_SECTORS, MIN_FORMAT, MAX_FORMAT, MAX_BATCH, MAX_PUMP, OWNER_ALONE}
 
 -- `FILE`, which must be there
@@ -44,6 +44,10 @@ format_rule = record (option_rule (codes "format")) { parser = Some (Unsigned MI
 abbrev pub mode_rule : Rule
 mode_rule = option_rule (codes "mode")
 
+-- `--id HEX`, which may be absent, with any text
+abbrev pub identity_rule : Rule
+identity_rule = option_rule (codes "id")
+
 -- `--NAME`, which takes no value
 abbrev pub flag_rule : Text → Rule
 flag_rule name = record (new_rule name) { long = Some name; action = Some SetTrue }
@@ -60,7 +64,7 @@ abbrev pub format_shape : Shape
 format_shape =
     let with_sectors = with_rule (with_rule (new_app (codes "format")) file_rule) (sectors_up_to MAX_SECTORS) in
     let with_mode = with_rule (with_rule with_sectors format_rule) mode_rule in
-    (with_rule (with_rule with_mode (flag_rule (codes "sparse"))) why_rule).top
+    (with_rule (with_rule (with_rule with_mode identity_rule) (flag_rule (codes "sparse"))) why_rule).top
 
 abbrev pub serve_shape : Shape
 serve_shape =
@@ -76,10 +80,10 @@ repair_shape = (with_rule (with_rule (new_app (codes "repair")) file_rule) why_r
 abbrev pub copy_shape : Shape
 copy_shape =
     let with_sectors = with_rule (with_rule (with_rule (new_app (codes "copy")) file_rule) target_rule) (sectors_up_to MAX_SECTORS) in
-    (with_rule (with_rule with_sectors format_rule) why_rule).top
+    (with_rule (with_rule (with_rule with_sectors format_rule) identity_rule) why_rule).top
 
 abbrev pub upgrade_shape : Shape
-upgrade_shape = (with_rule (with_rule (with_rule (new_app (codes "upgrade")) file_rule) format_rule) why_rule).top
+upgrade_shape = (with_rule (with_rule (with_rule (with_rule (new_app (codes "upgrade")) file_rule) format_rule) identity_rule) why_rule).top
 
 abbrev pub mem_shape : Shape
 mem_shape = (with_rule (new_app (codes "mem")) (sectors_up_to MAX_MEMORY_SECTORS)).top
@@ -139,20 +143,25 @@ abbrev pub HoldsMode : ℕ → List Row → Type 0
 HoldsMode mode options =
     ((text : Text) × (first_of (codes "mode") options ≡ Some text) × SpellsMode text mode) ⊎ ((mode ≡ OWNER_ALONE) × (first_of (codes "mode") options ≡ None))
 
+-- the options give the identity by its 32 hexadecimal digits, or they give none
+abbrev pub HoldsIdentity : Option ℕ → List Row → Type 0
+HoldsIdentity None options = first_of (codes "id") options ≡ None
+HoldsIdentity (Some identity) options = (text : Text) × (first_of (codes "id") options ≡ Some text) × SpellsIdentity text identity
+
 -- the options of a call hold its files, spell its numbers, or leave one out if it has a default, and say whether its
 -- flag is set
 abbrev pub Holds : Asked → List Row → Type 0
-Holds (format file sectors version mode sparse) options =
+Holds (format file sectors version mode sparse identity) options =
     HoldsFile file options × HoldsNumber (codes "sectors") sectors options × MayHold (codes "format") 2 version options
-    × HoldsMode mode options × HoldsFlag (codes "sparse") sparse options
+    × HoldsMode mode options × HoldsFlag (codes "sparse") sparse options × HoldsIdentity identity options
 Holds (serve file batch pump strict) options =
     HoldsFile file options × MayHold (codes "batch") 1 batch options × MayHold (codes "pump") 0 pump options
     × HoldsFlag (codes "strict") strict options
 Holds (check file strict) options = HoldsFile file options × HoldsFlag (codes "strict") strict options × HoldsFlag (codes "deep") false options
 Holds (repair file) options = HoldsFile file options
-Holds (copy file new sectors version) options =
-    HoldsFile file options × HoldsNew new options × HoldsNumber (codes "sectors") sectors options × MayHold (codes "format") 2 version options
-Holds (upgrade file version) options = HoldsFile file options × MayHold (codes "format") 3 version options
+Holds (copy file new sectors version identity) options =
+    HoldsFile file options × HoldsNew new options × HoldsNumber (codes "sectors") sectors options × MayHold (codes "format") 2 version options × HoldsIdentity identity options
+Holds (upgrade file version identity) options = HoldsFile file options × MayHold (codes "format") 3 version options × HoldsIdentity identity options
 Holds (mem sectors) options = HoldsNumber (codes "sectors") sectors options
 Holds (deep file) options = HoldsFile file options × HoldsFlag (codes "deep") true options
 Holds (salvage file frames) options = HoldsFile file options × HoldsFlag (codes "frames") frames options
@@ -160,12 +169,12 @@ Holds (dump file) options = HoldsFile file options × HoldsFlag (codes "read-onl
 
 -- the command of a call
 abbrev pub name_of : Asked → Text
-name_of (format file sectors version mode sparse) = codes "format"
+name_of (format file sectors version mode sparse identity) = codes "format"
 name_of (serve file batch pump strict) = codes "serve"
 name_of (check file strict) = codes "check"
 name_of (repair file) = codes "repair"
-name_of (copy file new sectors version) = codes "copy"
-name_of (upgrade file version) = codes "upgrade"
+name_of (copy file new sectors version identity) = codes "copy"
+name_of (upgrade file version identity) = codes "upgrade"
 name_of (mem sectors) = codes "mem"
 name_of (deep file) = codes "check"
 name_of (salvage file frames) = codes "salvage"
@@ -182,12 +191,12 @@ Means met asked = (options : List Row) × (met ≡ Some (name_of asked, options)
 -- the options of a call say whether it asks why a file isn't made or opened; that of a call without a file never does
 abbrev pub HoldsWhy : Asked → Bool → List Row → Type 0
 HoldsWhy (mem sectors) why options = why ≡ false
-HoldsWhy (format file sectors version mode sparse) why options = HoldsFlag (codes "why") why options
+HoldsWhy (format file sectors version mode sparse identity) why options = HoldsFlag (codes "why") why options
 HoldsWhy (serve file batch pump strict) why options = HoldsFlag (codes "why") why options
 HoldsWhy (check file strict) why options = HoldsFlag (codes "why") why options
 HoldsWhy (repair file) why options = HoldsFlag (codes "why") why options
-HoldsWhy (copy file new sectors version) why options = HoldsFlag (codes "why") why options
-HoldsWhy (upgrade file version) why options = HoldsFlag (codes "why") why options
+HoldsWhy (copy file new sectors version identity) why options = HoldsFlag (codes "why") why options
+HoldsWhy (upgrade file version identity) why options = HoldsFlag (codes "why") why options
 HoldsWhy (deep file) why options = HoldsFlag (codes "why") why options
 HoldsWhy (salvage file frames) why options = HoldsFlag (codes "why") why options
 HoldsWhy (dump file) why options = HoldsFlag (codes "why") why options

@@ -1,9 +1,9 @@
 //! The reading of words as a call.
-ghost use Rattle.std.specs.Prelude.{◌≡◌, ◌⊎◌, ◌≤◌, ◌<◌, ◌^◌, ℕ, Bool, List, IfOk, IfErr, IfSome, IsSomeAnd, Some, codes, map, option_map, MatchResult};
+ghost use Rattle.std.specs.Prelude.{◌≡◌, ◌⊎◌, ◌≤◌, ◌<◌, ◌^◌, ℕ, Bool, List, Option, IfOk, IfErr, IfSome, IsSomeAnd, Some, codes, map, option_map, MatchResult};
 ghost use Rattle.clap.specs.Words.{fault_of, first_of, found_of, HasKind, IsAmong, kind_of, rows_of, subcommand_of, subcommand_rows_of};
 ghost use Rattle.clap.specs.declared.error.kind.ErrorKind.TheVariants.{InvalidValue, OutOfMemory};
-ghost use Rattle.command_line.specs.Call.{Asked, InRange, IsRowOf, SpellsMode, asked_of, check, copy, deep, dump, format, mem, repair, salvage, serve, upgrade};
-ghost use Rattle.command_line.specs.Options.{app, Holds, HoldsFlag, HoldsMode, HoldsNumber, IsMet, MayHold, Means, MeansWhy};
+ghost use Rattle.command_line.specs.Call.{Asked, InRange, IsRowOf, SpellsIdentity, SpellsMode, asked_of, check, copy, deep, dump, format, mem, repair, salvage, serve, upgrade};
+ghost use Rattle.command_line.specs.Options.{app, Holds, HoldsFlag, HoldsIdentity, HoldsMode, HoldsNumber, IsMet, MayHold, Means, MeansWhy};
 ghost use Rattle.command_line.specs.declared.limits.TheConstants.{MAX_BATCH, MAX_FORMAT, MAX_MODE, MAX_PUMP, MIN_FORMAT, MIN_SECTORS};
 
 use crate::command::program;
@@ -13,19 +13,22 @@ use crate::limits::{
 };
 use clap::error::ErrorKind;
 use clap::{ArgMatches, Error};
+use hex::FromHex;
 use std::alloc::Global;
 
 /// What the words ask the program to do.
 #[derive(Clone, Copy)]
 pub enum Call<'a> {
     /// Make a file of that many sectors, with an empty store of that format in it, 2 or 3, and with the permission bits
-    /// of that mode. If it is `sparse`, its blocks are left to be allocated as they are written.
+    /// of that mode. If it is `sparse`, its blocks are left to be allocated as they are written. `None`: its identity is
+    /// to be drawn.
     Format {
         file: &'a str,
         sectors: u64,
         format: u64,
         mode: u32,
         sparse: bool,
+        identity: Option<u128>,
     },
     /// Serve lines over the store in a file. One commit takes up to `batch` changes, 1 for each by itself; after a
     /// change or a batch a step of a copy writes up to `pump` sectors, 0 for none. If it is `strict`, a store whose last
@@ -45,17 +48,19 @@ pub enum Call<'a> {
     Repair {
         file: &'a str,
     },
-    /// Copy the store in a file into a new file of that many sectors, in that format, 2 or 3.
+    /// Copy the store in a file into a new file of that many sectors, in that format, 2 or 3, with this identity.
     Copy {
         file: &'a str,
         new: &'a str,
         sectors: u64,
         format: u64,
+        identity: Option<u128>,
     },
-    /// Bring the store in a file to that format, 2 or 3.
+    /// Bring the store in a file to that format, 2 or 3, to format 3 with this identity.
     Upgrade {
         file: &'a str,
         format: u64,
+        identity: Option<u128>,
     },
     /// Serve lines over a store in memory, on a device of that many sectors.
     Mem {
@@ -90,7 +95,7 @@ pub struct Order<'a> {
 /// The call is what the words mean to `clap`, however they are written: `--sectors=16`, or an option before FILE. If
 /// `--format` is absent, its number is 2 for a new file or a copy and 3 for an upgrade, that of `--batch` is 1, that of `--pump`
 /// 0, and the mode is 0600. Refuses, by `clap`'s own errors, what is no call, an option or a flag that is given twice,
-/// a number out of the range of its option, a mode that is no octal number up to 0777, a dump that isn't to be only
+/// a number out of the range of its option, a mode that is no octal number up to 0777, an identity that isn't 32 hexadecimal digits, a dump that isn't to be only
 /// read, and a request for help; it also fails if memory runs out. Words that are a call's row fail only if memory runs out; in a row no file begins with a
 /// hyphen, since such a word is read as an option.
 pub fn order_of<'a>(alloc: Global, words: &'a [&'a str]) -> Result<Order<'a>, Error>
@@ -104,17 +109,31 @@ pub fn order_of<'a>(alloc: Global, words: &'a [&'a str]) -> Result<Order<'a>, Er
     let matches = matches_of(alloc, words)?;
     match order_in(&matches) {
         Some(order) => Ok(order),
-        None => Err(no_mode(alloc)?),
+        None => Err(wrong_text(alloc, &matches)?),
     }
 }
 
 // The error for matches that mean no call: `clap` itself refuses all else that is none.
-fn no_mode(alloc: Global) -> Result<Error, Error>
+fn wrong_text(alloc: Global, matches: &ArgMatches) -> Result<Error, Error>
     ensures kind { IfOk result (λ e. kind_of e ≡ InvalidValue) }
     ensures memory { IfErr result (λ e. kind_of e ≡ OutOfMemory) }
 {
-    let text = "the value of '--mode' is no octal number up to 0777, or 'dump' lacks '--read-only'";
+    let text = match matches.subcommand() {
+        Some((name, options)) => wrong_in(name, options),
+        None => "no command",
+    };
     Ok(program(alloc)?.error(ErrorKind::InvalidValue, text)?)
+}
+
+// What is wrong with the options of a command that mean no call.
+fn wrong_in(name: &str, options: &ArgMatches) -> &'static str {
+    if matches!(name, "dump") {
+        "'dump' lacks '--read-only'"
+    } else if mode_in(options).is_some() {
+        "the value of '--id' isn't 32 hexadecimal digits"
+    } else {
+        "the value of '--mode' is no octal number up to 0777"
+    }
 }
 
 // What the words mean to `clap`. The matches of words that are a call's row mean that call, and ask why as that row does.
@@ -178,20 +197,22 @@ fn call_in<'a>(matches: &ArgMatches<'a>) -> Option<Call<'a>>
 fn format_in<'a>(options: &ArgMatches<'a>) -> Option<Call<'a>>
     ensures in_range { IfSome result (λ call. InRange (asked_of call)) }
     ensures sound { IfSome result (λ call. IsMet (codes "format") (rows_of (found_of options.now)) (asked_of call)) }
-    ensures meant { (file : List ℕ) (sectors version mode : ℕ) (sparse : Bool) → InRange (format file sectors version mode sparse)
-        → Holds (format file sectors version mode sparse) (rows_of (found_of options.now)) → option_map asked_of result ≡ Some (format file sectors version mode sparse) }
+    ensures meant { (file : List ℕ) (sectors version mode : ℕ) (sparse : Bool) (identity : Option ℕ) → InRange (format file sectors version mode sparse identity)
+        → Holds (format file sectors version mode sparse identity) (rows_of (found_of options.now)) → option_map asked_of result ≡ Some (format file sectors version mode sparse identity) }
 {
     let file = file_in(options)?;
     let sectors = sectors_in(options, MAX_SECTORS)?;
     let format = format_number(options, MIN_FORMAT)?;
     let mode = mode_in(options)?;
     let sparse = flag_in(options, "sparse")?;
+    let identity = identity_in(options)?;
     Some(Call::Format {
         file,
         sectors,
         format,
         mode,
         sparse,
+        identity,
     })
 }
 
@@ -240,30 +261,37 @@ fn repair_in<'a>(options: &ArgMatches<'a>) -> Option<Call<'a>>
 fn copy_in<'a>(options: &ArgMatches<'a>) -> Option<Call<'a>>
     ensures in_range { IfSome result (λ call. InRange (asked_of call)) }
     ensures sound { IfSome result (λ call. IsMet (codes "copy") (rows_of (found_of options.now)) (asked_of call)) }
-    ensures meant { (file new : List ℕ) (sectors version : ℕ) → InRange (copy file new sectors version)
-        → Holds (copy file new sectors version) (rows_of (found_of options.now)) → option_map asked_of result ≡ Some (copy file new sectors version) }
+    ensures meant { (file new : List ℕ) (sectors version : ℕ) (identity : Option ℕ) → InRange (copy file new sectors version identity)
+        → Holds (copy file new sectors version identity) (rows_of (found_of options.now)) → option_map asked_of result ≡ Some (copy file new sectors version identity) }
 {
     let file = file_in(options)?;
     let new = new_in(options)?;
     let sectors = sectors_in(options, MAX_SECTORS)?;
     let format = format_number(options, MIN_FORMAT)?;
+    let identity = identity_in(options)?;
     Some(Call::Copy {
         file,
         new,
         sectors,
         format,
+        identity,
     })
 }
 
 fn upgrade_in<'a>(options: &ArgMatches<'a>) -> Option<Call<'a>>
     ensures in_range { IfSome result (λ call. InRange (asked_of call)) }
     ensures sound { IfSome result (λ call. IsMet (codes "upgrade") (rows_of (found_of options.now)) (asked_of call)) }
-    ensures meant { (file : List ℕ) (version : ℕ) → InRange (upgrade file version)
-        → Holds (upgrade file version) (rows_of (found_of options.now)) → option_map asked_of result ≡ Some (upgrade file version) }
+    ensures meant { (file : List ℕ) (version : ℕ) (identity : Option ℕ) → InRange (upgrade file version identity)
+        → Holds (upgrade file version identity) (rows_of (found_of options.now)) → option_map asked_of result ≡ Some (upgrade file version identity) }
 {
     let file = file_in(options)?;
     let format = format_number(options, MAX_FORMAT)?;
-    Some(Call::Upgrade { file, format })
+    let identity = identity_in(options)?;
+    Some(Call::Upgrade {
+        file,
+        format,
+        identity,
+    })
 }
 
 fn mem_in<'a>(options: &ArgMatches<'a>) -> Option<Call<'a>>
@@ -359,6 +387,28 @@ fn octal(text: &str) -> Option<u32>
     match u32::from_str_radix(text, 8) {
         Ok(mode) if mode <= MAX_MODE => Some(mode),
         _ => None,
+    }
+}
+
+// The identity that the options give, if it is 32 hexadecimal digits, or that they give none.
+fn identity_in(options: &ArgMatches) -> Option<Option<u128>>
+    ensures sound { IfSome result (λ identity. HoldsIdentity identity (rows_of (found_of options.now))) }
+    ensures held { (identity : Option ℕ) → HoldsIdentity identity (rows_of (found_of options.now)) → result ≡ Some identity }
+{
+    match options.get_str("id") {
+        Some(text) => Some(Some(identity_of(text)?)),
+        None => Some(None),
+    }
+}
+
+// The identity that a text spells.
+fn identity_of(text: &str) -> Option<u128>
+    ensures sound { IfSome result (SpellsIdentity text.now) }
+    ensures held { (identity : ℕ) → SpellsIdentity text.now identity → result ≡ Some identity }
+{
+    match <[u8; 16] as FromHex>::from_hex(text) {
+        Ok(bytes) => Some(u128::from_be_bytes(bytes)),
+        Err(_) => None,
     }
 }
 

@@ -3,7 +3,7 @@ ghost use Rattle.std.specs.Prelude.{◌≡◌, IfOk, IfErr, codes, false};
 ghost use Rattle.clap.specs.Words.{app_of, kind_of, rule_of, shape_of};
 ghost use Rattle.clap.specs.declared.error.kind.ErrorKind.TheVariants.{OutOfMemory};
 ghost use Rattle.clap.specs.declared.builder.command.Command.TheViews.{out-Command as fields_of};
-ghost use Rattle.command_line.specs.Options.{app, batch_rule, check_shape, copy_shape, dump_shape, file_rule, flag_rule, format_rule, format_shape, mem_shape, mode_rule, option_rule, pump_rule, repair_shape, salvage_shape, sectors_up_to, serve_shape, strict_rule, target_rule, upgrade_shape, why_rule};
+ghost use Rattle.command_line.specs.Options.{app, batch_rule, check_shape, copy_shape, dump_shape, file_rule, flag_rule, format_rule, format_shape, identity_rule, mem_shape, mode_rule, option_rule, pump_rule, repair_shape, salvage_shape, sectors_up_to, serve_shape, strict_rule, target_rule, upgrade_shape, why_rule};
 ghost use Rattle.command_line.specs.declared.limits.TheConstants.{MAX_BATCH, MAX_MEMORY_SECTORS, MAX_PUMP, MAX_SECTORS};
 
 use crate::limits::{
@@ -64,6 +64,18 @@ fn mode_option<'a>(alloc: Global) -> Arg<'a>
         "mode",
         "MODE",
         "Permission bits of the file in octal, up to 0777, of which the umask may take some away; 0600 if absent",
+    )
+}
+
+fn identity_option<'a>(alloc: Global) -> Arg<'a>
+    ensures rule { rule_of result ≡ identity_rule }
+    ensures local { result.global ≡ false }
+{
+    text_option(
+        alloc,
+        "id",
+        "HEX",
+        "Identity of the store in format 3, 32 hexadecimal digits; random if absent. Format 2 has none",
     )
 }
 
@@ -213,6 +225,7 @@ fn format_command<'a>(alloc: Global) -> Result<Command<'a>, Error>
             "Format of the file, 2 or 3; 2 if absent. Format 3 takes 160 sectors at least, bears torn blocks of the disk, and waits for one sync at most changes, format 2 for two",
         ))?
         .arg(mode_option(alloc))?
+        .arg(identity_option(alloc))?
         .arg(sparse_flag(alloc))?
         .arg(why_flag(alloc))?;
     Ok(format)
@@ -288,6 +301,7 @@ fn copy_command<'a>(alloc: Global) -> Result<Command<'a>, Error>
             alloc,
             "Format of the new file, 2 or 3; 2 if absent. Format 3 takes 160 sectors at least",
         ))?
+        .arg(identity_option(alloc))?
         .arg(why_flag(alloc))?;
     Ok(copy)
 }
@@ -307,6 +321,7 @@ fn upgrade_command<'a>(alloc: Global) -> Result<Command<'a>, Error>
             alloc,
             "Format to bring it to, 2 or 3; 3 if absent. It takes 255 sectors at least, since both are in the file meanwhile",
         ))?
+        .arg(identity_option(alloc))?
         .arg(why_flag(alloc))?;
     Ok(upgrade)
 }

@@ -1,5 +1,5 @@
 -- A store copied into a file that was created for it.
-use Rattle.std.proofs.Common.{◌≡◌, ◌⊎◌, Bool, true, inl, inr, ⊎_elim, ℕ, zero, suc, ◌<◌, List, [], length, take, None, Some, get_or, refl, ap, sym, subst, ◌∙◌, arith}
+use Rattle.std.proofs.Common.{◌≡◌, ◌⊎◌, Bool, true, inl, inr, ⊎_elim, ℕ, zero, suc, ◌<◌, List, [], length, take, Option, None, Some, get_or, refl, ap, sym, subst, ◌∙◌, arith}
 use Rattle.std.proofs.lemmas.List.{get_or-take}
 use Rattle.sector_device.specs.Disk.{Image}
 use Rattle.sector_device.specs.History.{left_by, moment_of, seen_after, since_by, zeros_of}
@@ -18,6 +18,7 @@ use Rattle.doc_store.specs.declared.format.Format.{Format}
 use Rattle.doc_store.specs.declared.format.Format.TheVariants.{Two, Three}
 use Rattle.doc_store.specs.Formats.{rides_in}
 use Rattle.jpstore.specs.Copies.{IsCopiedFile, IsFilled}
+use Rattle.jpstore.specs.Identity.{IsChosen}
 
 -- each sector of zeros, and one that isn't there, begins with none
 zero_first : (n k : ℕ) → get_or (get_or (zeros_of n) k []) 0 0 ≡ 0
@@ -47,20 +48,24 @@ zeros_carry : (n : ℕ) (c : Carried) → Carries c (zeros_of n) → ⊥
 zeros_carry n c carries = ⊎_elim (zeros_have_none n) (λ marked. zeros_unmarked n marked.1) (is_like c.rides c (zeros_of n) carries)
 
 -- what a crash may leave of a device with that history, if no sector tears, or if those do that hold such bytes
-abbrev Leaves : Format → Account → History → (Image → Type 0) → Image → Type 0
-Leaves format a p left image = left image ⊎ ((LooksIn (rides_in format) (seen_after p) → ⊥) × (IsNone (rides_in format) image ⊎ IsCopyOf format a image))
+abbrev Leaves : Format → ℕ → Account → History → (Image → Type 0) → Image → Type 0
+Leaves format identity a p left image = left image ⊎ ((LooksIn (rides_in format) (seen_after p) → ⊥) × (IsNone (rides_in format) image ⊎ IsCopyOf format identity a image))
 
-pub copied_file : (format : Format) (sectors : ℕ) (a : Account) (old new : FileDevice) → (file_disk old).sectors ≡ sectors → old.history ≡ Created sectors → IsFilled format (file_disk old) (file_disk new) a → IsCopiedFile sectors format a new
-copied_file Two sectors a old new size created filled = record {
+pub copied_file : (format : Format) (identity : ℕ) (asked : Option ℕ) (sectors : ℕ) (a : Account) (old new : FileDevice) → IsChosen asked identity → (file_disk old).sectors ≡ sectors → old.history ≡ Created sectors → IsFilled format identity (file_disk old) (file_disk new) a → IsCopiedFile sectors format asked a new
+copied_file Two identity asked sectors a old new chosen size created filled = record {
+  identity = identity;
+  chosen = chosen;
   size = filled.size ∙ size;
   copies = filled.copies;
   any_moment = λ honest image since. ⊎_elim (λ before. inl (λ magic. zeros_have_none sectors (subst HasMagic before magic))) (λ h. h.1)
-      (subst (λ (p : History). (image : Image) → since_by None new.history (moment_of p) image → Leaves Two a p (left_by None p) image) created (filled.any_moment honest).each image since);
+      (subst (λ (p : History). (image : Image) → since_by None new.history (moment_of p) image → Leaves Two identity a p (left_by None p) image) created (filled.any_moment honest).each image since);
 }
-copied_file Three sectors a old new size created filled = record {
+copied_file Three identity asked sectors a old new chosen size created filled = record {
+  identity = identity;
+  chosen = chosen;
   size = filled.size ∙ size;
   copies = filled.copies;
   any_moment = λ honest image since. ⊎_elim (λ before. inl (subst (IsNone true) (sym before.2) (zeros_carry sectors))) (λ h. h.1)
       (subst (λ (p : History). (image : Image) → ((torn : List ℕ → Bool) × IsTold new.sectors torn × (length image ≡ new.sectors) × since_by (Some torn) new.history (moment_of p) image)
-      → Leaves Three a p (λ i. (torn : List ℕ → Bool) × IsTold old.sectors torn × left_by (Some torn) p i) image) created (filled.any_moment honest).each image since);
+      → Leaves Three identity a p (λ i. (torn : List ℕ → Bool) × IsTold old.sectors torn × left_by (Some torn) p i) image) created (filled.any_moment honest).each image since);
 }

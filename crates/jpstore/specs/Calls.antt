@@ -13,7 +13,7 @@ use Rattle.sector_device.specs.declared.history.Held.{Held}
 use Rattle.refusals.specs.declared.numbers.TheConstants.{DEVICE}
 use Rattle.protocol.specs.Reply.{line_of}
 use Rattle.serve_lines.specs.Session.{status_reply}
-use Rattle.jpstore.specs.Copies.{IsCopiedFile, account_copied}
+use Rattle.jpstore.specs.Copies.{IsCopiedFile, ShowsCopy}
 use Rattle.jpstore.specs.Faults.{told_of_file, told_of_unopened}
 use Rattle.jpstore.specs.Files.{IsClosedIn, IsFormattedFile, IsOpenedIn, IsNoticedIn, IsServedIn, IsUnopenedBy, WentToTheEnd, fault_of}
 use Rattle.jpstore.specs.Kept.{IsKeptIn}
@@ -86,10 +86,10 @@ pub record IsShown (strictness : Strictness) (held : Snapshot Held) (closed : Cl
   pub shown : Shows closed.ended (checked_line closed.store.account closed.notice) before after
 
 -- the store in a file that held this was brought to a format, or as far as its device let it
-pub record IsUpgrading (held : Snapshot Held) (version : ℕ) (closed : Closed) (before after : Option (List ℕ)) : Type 0 where
+pub record IsUpgrading (held : Snapshot Held) (version : ℕ) (asked : Option ℕ) (closed : Closed) (before after : Option (List ℕ)) : Type 0 where
   pub opened : StoreView FileDevice
-  pub went : WentTo held (format_numbered version) opened closed.store
-  pub upgraded : closed.ended ≡ Ok tt → IsUpgraded (format_numbered version) opened closed.store
+  pub went : WentTo held (format_numbered version) asked opened closed.store
+  pub upgraded : closed.ended ≡ Ok tt → IsUpgraded (format_numbered version) asked opened closed.store
   pub shown : Shows closed.ended (line_of (upgrade_reply (number_of (format_numbered version)) (number_of (format_of opened.account)))) before after
 
 -- no store was opened in a file that held this, and nothing was written
@@ -99,22 +99,22 @@ IsRefused strictness held unopened before after = IsUnopenedBy strictness held u
 -- What a program did that was asked for this, to a file that held that, if it kept this: from what there was to read to what is left of it, and from what
 -- was written before to what was written then.
 abbrev pub Does : Snapshot Held → Asked → Kept → Option (List ℕ) → Option (List ℕ) → Option (List ℕ) → Option (List ℕ) → Type 0
-Does held (format file sectors version mode sparse) (Formatted made) left left_new before after =
-    IfOk made (IsFormattedFile sectors version) × Shows made (line_of (format_reply (capacity_of (nat_eq version 3) sectors) sectors)) before after × (left_new ≡ left)
+Does held (format file sectors version mode sparse identity) (Formatted made) left left_new before after =
+    IfOk made (IsFormattedFile sectors version identity) × Shows made (line_of (format_reply (capacity_of (nat_eq version 3) sectors) sectors)) before after × (left_new ≡ left)
 Does held (serve file batch pump strict) (Served served) left left_new before after =
     MatchResult served (λ closed. IsServing held batch pump strict closed left left_new before after) (λ unopened. IsRefused (strictness_of strict) held unopened before after × (left_new ≡ left))
 Does held (check file strict) (Checked checked) left left_new before after =
     MatchResult checked (λ closed. IsShown (strictness_of strict) held closed before after) (λ unopened. IsRefused (strictness_of strict) held unopened before after) × (left_new ≡ left)
 Does held (repair file) (Repaired repaired) left left_new before after =
     MatchResult repaired (λ closed. IsShown AnyState held closed before after) (λ unopened. IsRefused AnyState held unopened before after) × (left_new ≡ left)
-Does held (copy file new sectors version) (Copied copied) left left_new before after =
+Does held (copy file new sectors version identity) (Copied copied) left left_new before after =
     MatchResult copied
-    (λ ended. IsOpenedIn held ended.store × IfOk ended.copied (IsCopiedFile sectors (format_numbered version) ended.store.account)
-    × Shows ended.copied (line_of (status_reply (status_of (account_copied (format_numbered version) ended.store.account sectors)))) before after)
+    (λ ended. IsOpenedIn held ended.store × IfOk ended.copied (IsCopiedFile sectors (format_numbered version) identity ended.store.account)
+    × ShowsCopy sectors (format_numbered version) identity ended.store.account ended.copied before after)
     (λ unopened. IsRefused AnyState held unopened before after)
     × (left_new ≡ left)
-Does held (upgrade file version) (Upgraded upgraded) left left_new before after =
-    MatchResult upgraded (λ closed. IsUpgrading held version closed before after) (λ unopened. IsRefused AnyState held unopened before after) × (left_new ≡ left)
+Does held (upgrade file version identity) (Upgraded upgraded) left left_new before after =
+    MatchResult upgraded (λ closed. IsUpgrading held version identity closed before after) (λ unopened. IsRefused AnyState held unopened before after) × (left_new ≡ left)
 Does held (mem sectors) (InMemory memory) left left_new before after =
     MatchResult memory (λ closed. closed.ended ≡ Ok tt → IsServedInMemory sectors left left_new before after closed.store) (λ fault. (left_new ≡ left) × (after ≡ before))
 Does held (deep file) (Examined examined) left left_new before after =

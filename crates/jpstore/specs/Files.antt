@@ -25,6 +25,7 @@ use Rattle.store_commits.specs.Folds.{StandsAfter}
 use Rattle.doc_changes.specs.State.{State}
 use Rattle.doc_changes.specs.Refusals.{plain}
 use Rattle.refusals.specs.declared.numbers.TheConstants.{DEVICE, MEMORY, NO_ROOM}
+use Rattle.jpstore.specs.Identity.{IsChosen}
 use Rattle.jpstore.specs.Seals.{IsSealedAtEnd}
 use Rattle.jpstore.specs.declared.fault.Fault.{Fault}
 use Rattle.jpstore.specs.declared.fault.Fault.TheVariants.{Memory, Refused}
@@ -129,7 +130,9 @@ pub record IsClosedIn (held : Snapshot Held) (closed : StoreView FileDevice) : T
 
 -- A file was created with `sectors` sectors, and an empty store in it, in format 2 or 3: if all reads gave what the
 -- file held, each image that a crash may leave, in that format's disk model, carries no bytes in that format, seq 0 and
--- opens 0.
-pub record IsFormattedFile (sectors version : ℕ) (device : FileDevice) : Type 0 where
+-- opens 0, in format 3 with the identity that was asked for, or any.
+pub record IsFormattedFile (sectors version : ℕ) (asked : Option ℕ) (device : FileDevice) : Type 0 where
+  pub identity : ℕ
+  pub chosen : IsChosen asked identity
   pub size : (file_disk device).sectors ≡ sectors
-  pub empty : (file_disk device).honest → (image : Image) → (model (nat_eq version 3) (file_disk device)).left image → Carries (nothing_in (nat_eq version 3)) image
+  pub empty : (file_disk device).honest → (image : Image) → (model (nat_eq version 3) (file_disk device)).left image → Carries (nothing_in (nat_eq version 3) identity) image

@@ -12,7 +12,7 @@ use Rattle.jpstore.specs.Seals.{IsSealedAtEnd}
 
 -- the account of a store of `sectors` sectors in which nothing was ever made, opened once
 abbrev pub new_account : ℕ → Account
-new_account sectors = record { state = empty; used = 0; half = 0; rides = false; opens = 1; sectors = sectors; broken = false; copy = None }
+new_account sectors = record { state = empty; used = 0; half = 0; rides = false; opens = 1; identity = 0; sectors = sectors; broken = false; copy = None }
 
 -- An empty store of `sectors` sectors was served to the end, and works: all that was read is all there was, and what
 -- was written is the reply lines of a session over its lines, in which each change is made by itself, and no step of a

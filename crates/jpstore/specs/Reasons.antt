@@ -10,12 +10,12 @@ use Rattle.jpstore.specs.declared.fault.Fault.TheVariants as told
 
 -- FILE of a call
 abbrev pub file_of : Asked → Option (List ℕ)
-file_of (format file sectors version mode sparse) = Some file
+file_of (format file sectors version mode sparse identity) = Some file
 file_of (serve file batch pump strict) = Some file
 file_of (check file strict) = Some file
 file_of (repair file) = Some file
-file_of (copy file new sectors version) = Some file
-file_of (upgrade file version) = Some file
+file_of (copy file new sectors version identity) = Some file
+file_of (upgrade file version identity) = Some file
 file_of (mem sectors) = None
 file_of (deep file) = Some file
 file_of (salvage file frames) = Some file
@@ -23,12 +23,12 @@ file_of (dump file) = Some file
 
 -- NEW of a call
 abbrev pub new_of : Asked → Option (List ℕ)
-new_of (copy file new sectors version) = Some new
-new_of (format file sectors version mode sparse) = None
+new_of (copy file new sectors version identity) = Some new
+new_of (format file sectors version mode sparse identity) = None
 new_of (serve file batch pump strict) = None
 new_of (check file strict) = None
 new_of (repair file) = None
-new_of (upgrade file version) = None
+new_of (upgrade file version identity) = None
 new_of (mem sectors) = None
 new_of (deep file) = None
 new_of (salvage file frames) = None

@@ -5,6 +5,7 @@
 #![tactic(auto)]
 
 mod fault;
+mod identity;
 mod kept;
 mod laws;
 mod lines;

@@ -1,6 +1,6 @@
 //! The words of a program on the slots of a store.
 
-ghost use Rattle.std.specs.Prelude.{◌≡◌, IfOk, OnOk, true};
+ghost use Rattle.std.specs.Prelude.{◌≡◌, IfOk, OnOk, Some, true};
 ghost use Rattle.std.specs.Io.KnownBytes.{Appends};
 ghost use Rattle.doc_tree.specs.Text.{data_of};
 ghost use Rattle.jpstore.specs.Notices.{checked_line, note_of, slots_reply, strictness_of, word_of, worded_slots, worded_status};
@@ -13,7 +13,7 @@ use doc_store::{Format, Notice, Status, Store, Strictness};
 use file_device::FileDevice;
 use protocol::shown_line;
 use serde::{Described, Serialize, Serializer};
-use serve_lines::status_line;
+use serve_lines::{identity_text, send_id, status_line};
 use std::alloc::{AllocError, Global};
 use std::io::Write;
 
@@ -53,13 +53,15 @@ pub fn checked_line(
     let status = store.status();
     match store.format() {
         Format::Two => status_line(alloc, &status),
-        Format::Three => shown_line(
-            alloc,
-            &SlotsStatus {
+        Format::Three => {
+            let id = identity_text(alloc, status.identity.unwrap_or(0))?;
+            let shown = SlotsStatus {
                 status,
+                id: id.as_str(),
                 slots: word_of(notice),
-            },
-        ),
+            };
+            shown_line(alloc, &shown)
+        }
     }
 }
 
@@ -103,23 +105,25 @@ impl Serialize for SlotsReply {
 
 // The status, with the word of the slots.
 #[derive(Clone, Copy)]
-struct SlotsStatus {
+struct SlotsStatus<'s> {
     status: Status,
+    id: &'s str,
     slots: &'static str,
 }
 
-impl Described for SlotsStatus {
-    ghost writes = { λ reply. SendsValue (data_of (worded_status reply.status reply.slots.now)) };
+impl Described for SlotsStatus<'_> {
+    ghost writes = { λ reply. SendsValue (data_of (worded_status reply.status reply.slots.now (Some reply.id.now))) };
 }
 
-impl Serialize for SlotsStatus {
+impl Serialize for SlotsStatus<'_> {
     fn serialize<S: Serializer>(&self, out: &mut S) -> Result<(), S::Error> {
-        out.begin_map(Some(10))?;
+        out.begin_map(Some(11))?;
         out.key("broken")?;
         out.bool(self.status.broken)?;
         send_number(out, "capacity", self.status.capacity)?;
         send_number(out, "documents", self.status.documents)?;
         send_number(out, "half", u64::from(self.status.half))?;
+        send_id(out, self.id)?;
         out.key("ok")?;
         out.bool(true)?;
         send_number(out, "opens", self.status.opens)?;

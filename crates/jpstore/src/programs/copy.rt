@@ -1,4 +1,4 @@
-//! `copy FILE NEW --sectors N [--format N]`
+//! `copy FILE NEW --sectors N [--format N] [--id HEX]`
 
 ghost use Rattle.std.specs.Prelude.{◌≡◌, ◌≤◌, IfOk, IfErr, OnErr, OnOk, length};
 ghost use Rattle.command_line.specs.declared.limits.TheConstants.{MAX_SECTORS};
@@ -6,7 +6,7 @@ ghost use Rattle.store_commits.specs.Snapshot.{snapshot_bytes};
 ghost use Rattle.doc_store.specs.Formats.{status_of};
 ghost use Rattle.store_commits.specs.Account.{Account};
 ghost use Rattle.file_device.specs.File.{file_disk};
-ghost use Rattle.jpstore.specs.Copies.{IsCopiedFile, IsFilled, account_copied};
+ghost use Rattle.jpstore.specs.Copies.{IsCopiedFile, IsFilled, ShowsCopy, account_copied};
 ghost use Rattle.jpstore.specs.Files.{IsOpenedIn, IsUnopenedIn};
 ghost use Rattle.jpstore.specs.Shown.{Shows};
 ghost use Rattle.jpstore.specs.Upgrades.{format_numbered};
@@ -15,6 +15,7 @@ ghost use Rattle.sector_device.specs.declared.history.History.{Created};
 ghost use Rattle.serve_lines.specs.Session.{status_reply};
 
 use crate::fault::Fault;
+use crate::identity::identity_for;
 use crate::lines::show_line;
 use crate::opening::{Unopened, store_on};
 use crate::programs::upgrade::numbered;
@@ -37,6 +38,8 @@ pub struct NewCopy<'a> {
     pub sectors: u64,
     /// The format of the store in it: 3 or, for any other number, 2.
     pub format: u64,
+    /// The identity of the store in format 3; `None`: it is drawn.
+    pub identity: Option<u128>,
 }
 
 /// How `copy` ended once it had opened the store.
@@ -63,9 +66,8 @@ pub fn copy_file<R: Files<File = File>, O: Write, P: Progress>(
 ) -> Result<Ended, Unopened>
     requires most { new.sectors ≤ MAX_SECTORS }
     ensures opened { IfOk result (λ ended. IsOpenedIn held ended.store) }
-    ensures copied { IfOk result (λ ended. IfOk ended.copied (IsCopiedFile new.entry.sectors (format_numbered new.entry.format) ended.store.account)) }
-    ensures shown { IfOk result (λ ended.
-        Shows ended.copied (line_of (status_reply (status_of (account_copied (format_numbered new.entry.format) ended.store.account new.entry.sectors)))) (O.contents writer.old) (O.contents writer.new)) }
+    ensures copied { IfOk result (λ ended. IfOk ended.copied (IsCopiedFile new.entry.sectors (format_numbered new.entry.format) new.entry.identity ended.store.account)) }
+    ensures shown { IfOk result (λ ended. ShowsCopy new.entry.sectors (format_numbered new.entry.format) new.entry.identity ended.store.account ended.copied (O.contents writer.old) (O.contents writer.new)) }
     ensures refused { IfErr result (IsUnopenedIn held) }
     ensures unwritten { OnErr result (writer.new ≡ writer.old) }
 {
@@ -89,11 +91,20 @@ fn copy_store<R: Files<File = File>, O: Write, P: Progress>(
     progress: &mut P,
 ) -> Result<FileDevice, Fault>
     requires most { new.sectors ≤ MAX_SECTORS }
-    ensures copied { IfOk result (IsCopiedFile new.entry.sectors format store.now.account) }
-    ensures shown { Shows result (line_of (status_reply (status_of (account_copied format store.now.account new.entry.sectors)))) (O.contents writer.old) (O.contents writer.new) }
+    ensures copied { IfOk result (IsCopiedFile new.entry.sectors format new.entry.identity store.now.account) }
+    ensures shown { ShowsCopy new.entry.sectors format new.entry.identity store.now.account result (O.contents writer.old) (O.contents writer.new) }
 {
+    let identity = identity_for(rt, format.rides(), new.identity)?;
     let mut device = make_new(rt, alloc, new.file, new.sectors, rights, progress)?;
-    match fill(alloc, store, &mut device, new.sectors, format, writer) {
+    match fill(
+        alloc,
+        store,
+        &mut device,
+        new.sectors,
+        format,
+        identity,
+        writer,
+    ) {
         Ok(()) => Ok(device),
         Err(fault) => {
             let _ = fs::remove_file(rt, new.file);
@@ -127,30 +138,38 @@ fn fill<O: Write>(
     device: &mut FileDevice,
     sectors: u64,
     format: Format,
+    identity: u128,
     writer: &mut O,
 ) -> Result<(), Fault>
     requires most { sectors ≤ MAX_SECTORS }
-    ensures copied { OnOk result (IsFilled format (file_disk device.old) (file_disk device.new) store.now.account) }
-    ensures shown { Shows result (line_of (status_reply (status_of (account_copied format store.now.account sectors)))) (O.contents writer.old) (O.contents writer.new) }
+    ensures copied { OnOk result (IsFilled format identity (file_disk device.old) (file_disk device.new) store.now.account) }
+    ensures shown { Shows result (line_of (status_reply (status_of (account_copied format identity store.now.account sectors)))) (O.contents writer.old) (O.contents writer.new) }
 {
-    match store.copy_to(device, format) {
+    match store.copy_to(device, format, identity) {
         Err(refusal) => Err(Fault::refused(refusal.number)),
         Ok(used) => {
-            let status = status_of_copy(&store.status(), used, sectors, format);
+            let status = status_of_copy(&store.status(), used, sectors, format, identity);
             show_line(writer, &status_line(alloc, &status)?)
         }
     }
 }
 
 // The status of the copy, before it is opened.
-fn status_of_copy(status: &Status, used: u64, sectors: u64, format: Format) -> Status
+fn status_of_copy(
+    status: &Status,
+    used: u64,
+    sectors: u64,
+    format: Format,
+    identity: u128,
+) -> Status
     requires most { sectors ≤ MAX_SECTORS }
-    ensures { (a : Account) → status.now ≡ status_of a → used ≡ length (snapshot_bytes a.state.documents) → result ≡ status_of (account_copied format a sectors) }
+    ensures { (a : Account) → status.now ≡ status_of a → used ≡ length (snapshot_bytes a.state.documents) → result ≡ status_of (account_copied format identity a sectors) }
 {
     Status {
         documents: status.documents,
         seq: status.seq,
         opens: status.opens,
+        identity: if format.rides() { Some(identity) } else { None },
         used,
         capacity: capacity(format.rides(), sectors),
         sectors,

@@ -1,20 +1,21 @@
-//! `upgrade FILE [--format N]`
+//! `upgrade FILE [--format N] [--id HEX]`
 
 ghost use Rattle.std.specs.Prelude.{◌≡◌, false, IfOk, IfErr, OnErr, OnOk};
 ghost use Rattle.sector_device.specs.Disk.{LeavesOnly};
 ghost use Rattle.store_journal.specs.Models.{model};
 ghost use Rattle.store_commits.specs.Account.{IsStanding};
-ghost use Rattle.doc_store.specs.Formats.{InEither, format_of, number_of};
+ghost use Rattle.doc_store.specs.Formats.{format_of, number_of};
 ghost use Rattle.doc_tree.specs.Text.{data_of};
 ghost use Rattle.file_device.specs.File.{file_disk};
 ghost use Rattle.jpstore.specs.Calls.{IsUpgrading};
 ghost use Rattle.jpstore.specs.Files.{IsUnopenedIn};
 ghost use Rattle.jpstore.specs.Shown.{Shows};
-ghost use Rattle.jpstore.specs.Upgrades.{IsUpgraded, format_numbered, upgrade_reply};
+ghost use Rattle.jpstore.specs.Upgrades.{IsUpgraded, MayTurn, format_numbered, upgrade_reply};
 ghost use Rattle.protocol.specs.Reply.{line_of};
 ghost use Rattle.serde_json.specs.Events.{SendsValue};
 
 use crate::fault::Fault;
+use crate::identity::identity_for;
 use crate::lines::show_line;
 use crate::opening::{Closed, Unopened, open_strictly};
 use doc_store::{Format, Store, Strictness};
@@ -34,15 +35,16 @@ pub fn upgrade_file<R: Files<File = File>, O: Write>(
     alloc: Global,
     file: &str,
     format: u64,
+    identity: Option<u128>,
     held: Snapshot<Held>,
     writer: &mut O,
 ) -> Result<Closed, Unopened>
-    ensures upgraded { IfOk result (λ closed. IsUpgrading held format closed (O.contents writer.old) (O.contents writer.new)) }
+    ensures upgraded { IfOk result (λ closed. IsUpgrading held format identity closed (O.contents writer.old) (O.contents writer.new)) }
     ensures refused { IfErr result (IsUnopenedIn held) }
     ensures unwritten { OnErr result (writer.new ≡ writer.old) }
 {
     let (mut store, notice) = open_strictly(rt, alloc, file, Strictness::AnyState, held)?;
-    let ended = upgrade_store(alloc, &mut store, numbered(format), writer);
+    let ended = upgrade_store(rt, alloc, &mut store, numbered(format), identity, writer);
     Ok(Closed {
         store,
         notice,
@@ -63,22 +65,26 @@ pub(super) fn numbered(number: u64) -> Format
 }
 
 // Brings a store to a format, and writes the format that it is in and the one it was in.
-fn upgrade_store<O: Write>(
+fn upgrade_store<R: Files<File = File>, O: Write>(
+    rt: &R,
     alloc: Global,
     store: &mut Store<FileDevice>,
     format: Format,
+    asked: Option<u128>,
     writer: &mut O,
 ) -> Result<(), Fault>
     requires works { store.old.account.broken ≡ false }
-    ensures done { OnOk result (IsUpgraded format store.old store.new) }
+    ensures done { OnOk result (IsUpgraded format asked store.old store.new) }
     ensures shown { Shows result (line_of (upgrade_reply (number_of format) (number_of (format_of store.old.account)))) (O.contents writer.old) (O.contents writer.new) }
     ensures any_moment { (file_disk store.new.device).honest
-        → LeavesOnly (model store.old.account.rides (file_disk store.old.device)) (model store.old.account.rides (file_disk store.new.device)) (InEither store.old.account format) }
+        → LeavesOnly (model store.old.account.rides (file_disk store.old.device)) (model store.old.account.rides (file_disk store.new.device)) (MayTurn store.old.account format asked) }
     ensures standing { IsStanding (file_disk store.new.device) store.new.account }
     ensures honest { (file_disk store.new.device).honest → (file_disk store.old.device).honest }
 {
     let before = store.format();
-    if let Err(refusal) = store.set_format(format) {
+    store.know_images();
+    let identity = identity_for(rt, format.rides(), asked)?;
+    if let Err(refusal) = store.set_format(format, identity) {
         return Err(Fault::refused(refusal.number));
     }
     let line = upgrade_line(alloc, format, before)?;

@@ -16,12 +16,12 @@ returns-in-format-clause-meant c = go
     other asked m apart = differ (name_of asked) (codes "format") apart ((met asked m).0 ∙ c.in-format.is)
 
     go : (asked : Asked) → InRange asked → Means (subcommand_rows_of c.args.matches.now) asked → option_map asked_of c.format_in.result ≡ Some asked
-    go (format file n version mode sparse) range m = c.format_in.ensures.meant file n version mode sparse range (met (format file n version mode sparse) m).1
+    go (format file n version mode sparse identity) range m = c.format_in.ensures.meant file n version mode sparse identity range (met (format file n version mode sparse identity) m).1
     go (serve file batch pump strict) range m = other (serve file batch pump strict) m refl
     go (check file strict) range m = other (check file strict) m refl
     go (repair file) range m = other (repair file) m refl
-    go (copy file new n version) range m = other (copy file new n version) m refl
-    go (upgrade file version) range m = other (upgrade file version) m refl
+    go (copy file new n version identity) range m = other (copy file new n version identity) m refl
+    go (upgrade file version identity) range m = other (upgrade file version identity) m refl
     go (mem n) range m = other (mem n) m refl
     go (deep file) range m = other (deep file) m refl
     go (salvage file frames) range m = other (salvage file frames) m refl
@@ -37,12 +37,12 @@ returns-in-serve-clause-meant c = go
     other asked m apart = differ (name_of asked) (codes "serve") apart ((met asked m).0 ∙ c.in-serve.is)
 
     go : (asked : Asked) → InRange asked → Means (subcommand_rows_of c.args.matches.now) asked → option_map asked_of c.serve_in.result ≡ Some asked
-    go (format file n version mode sparse) range m = other (format file n version mode sparse) m refl
+    go (format file n version mode sparse identity) range m = other (format file n version mode sparse identity) m refl
     go (serve file batch pump strict) range m = c.serve_in.ensures.meant file batch pump strict range (met (serve file batch pump strict) m).1
     go (check file strict) range m = other (check file strict) m refl
     go (repair file) range m = other (repair file) m refl
-    go (copy file new n version) range m = other (copy file new n version) m refl
-    go (upgrade file version) range m = other (upgrade file version) m refl
+    go (copy file new n version identity) range m = other (copy file new n version identity) m refl
+    go (upgrade file version identity) range m = other (upgrade file version identity) m refl
     go (mem n) range m = other (mem n) m refl
     go (deep file) range m = other (deep file) m refl
     go (salvage file frames) range m = other (salvage file frames) m refl
@@ -58,12 +58,12 @@ returns-in-copy-clause-meant c = go
     other asked m apart = differ (name_of asked) (codes "copy") apart ((met asked m).0 ∙ c.in-copy.is)
 
     go : (asked : Asked) → InRange asked → Means (subcommand_rows_of c.args.matches.now) asked → option_map asked_of c.copy_in.result ≡ Some asked
-    go (format file n version mode sparse) range m = other (format file n version mode sparse) m refl
+    go (format file n version mode sparse identity) range m = other (format file n version mode sparse identity) m refl
     go (serve file batch pump strict) range m = other (serve file batch pump strict) m refl
     go (check file strict) range m = other (check file strict) m refl
     go (repair file) range m = other (repair file) m refl
-    go (copy file new n version) range m = c.copy_in.ensures.meant file new n version range (met (copy file new n version) m).1
-    go (upgrade file version) range m = other (upgrade file version) m refl
+    go (copy file new n version identity) range m = c.copy_in.ensures.meant file new n version identity range (met (copy file new n version identity) m).1
+    go (upgrade file version identity) range m = other (upgrade file version identity) m refl
     go (mem n) range m = other (mem n) m refl
     go (deep file) range m = other (deep file) m refl
     go (salvage file frames) range m = other (salvage file frames) m refl
@@ -79,12 +79,12 @@ returns-in-upgrade-clause-meant c = go
     other asked m apart = differ (name_of asked) (codes "upgrade") apart ((met asked m).0 ∙ c.in-upgrade.is)
 
     go : (asked : Asked) → InRange asked → Means (subcommand_rows_of c.args.matches.now) asked → option_map asked_of c.upgrade_in.result ≡ Some asked
-    go (format file n version mode sparse) range m = other (format file n version mode sparse) m refl
+    go (format file n version mode sparse identity) range m = other (format file n version mode sparse identity) m refl
     go (serve file batch pump strict) range m = other (serve file batch pump strict) m refl
     go (check file strict) range m = other (check file strict) m refl
     go (repair file) range m = other (repair file) m refl
-    go (copy file new n version) range m = other (copy file new n version) m refl
-    go (upgrade file version) range m = c.upgrade_in.ensures.meant file version range (met (upgrade file version) m).1
+    go (copy file new n version identity) range m = other (copy file new n version identity) m refl
+    go (upgrade file version identity) range m = c.upgrade_in.ensures.meant file version identity range (met (upgrade file version identity) m).1
     go (mem n) range m = other (mem n) m refl
     go (deep file) range m = other (deep file) m refl
     go (salvage file frames) range m = other (salvage file frames) m refl
@@ -100,12 +100,12 @@ returns-in-mem-clause-meant c = go
     other asked m apart = differ (name_of asked) (codes "mem") apart ((met asked m).0 ∙ c.in-mem.is)
 
     go : (asked : Asked) → InRange asked → Means (subcommand_rows_of c.args.matches.now) asked → option_map asked_of c.mem_in.result ≡ Some asked
-    go (format file n version mode sparse) range m = other (format file n version mode sparse) m refl
+    go (format file n version mode sparse identity) range m = other (format file n version mode sparse identity) m refl
     go (serve file batch pump strict) range m = other (serve file batch pump strict) m refl
     go (check file strict) range m = other (check file strict) m refl
     go (repair file) range m = other (repair file) m refl
-    go (copy file new n version) range m = other (copy file new n version) m refl
-    go (upgrade file version) range m = other (upgrade file version) m refl
+    go (copy file new n version identity) range m = other (copy file new n version identity) m refl
+    go (upgrade file version identity) range m = other (upgrade file version identity) m refl
     go (mem n) range m = c.mem_in.ensures.meant n range (met (mem n) m).1
     go (deep file) range m = other (deep file) m refl
     go (salvage file frames) range m = other (salvage file frames) m refl
@@ -121,12 +121,12 @@ returns-in-check-clause-meant c = go
     other asked m apart = differ (name_of asked) (codes "check") apart ((met asked m).0 ∙ c.in-check.is)
 
     go : (asked : Asked) → InRange asked → Means (subcommand_rows_of c.args.matches.now) asked → option_map asked_of c.check_in.result ≡ Some asked
-    go (format file n version mode sparse) range m = other (format file n version mode sparse) m refl
+    go (format file n version mode sparse identity) range m = other (format file n version mode sparse identity) m refl
     go (serve file batch pump strict) range m = other (serve file batch pump strict) m refl
     go (check file strict) range m = c.check_in.ensures.meant file strict (met (check file strict) m).1
     go (repair file) range m = other (repair file) m refl
-    go (copy file new n version) range m = other (copy file new n version) m refl
-    go (upgrade file version) range m = other (upgrade file version) m refl
+    go (copy file new n version identity) range m = other (copy file new n version identity) m refl
+    go (upgrade file version identity) range m = other (upgrade file version identity) m refl
     go (mem n) range m = other (mem n) m refl
     go (deep file) range m = c.check_in.ensures.meant_deep file (met (deep file) m).1
     go (salvage file frames) range m = other (salvage file frames) m refl
@@ -142,12 +142,12 @@ returns-in-salvage-clause-meant c = go
     other asked m apart = differ (name_of asked) (codes "salvage") apart ((met asked m).0 ∙ c.in-salvage.is)
 
     go : (asked : Asked) → InRange asked → Means (subcommand_rows_of c.args.matches.now) asked → option_map asked_of c.salvage_in.result ≡ Some asked
-    go (format file n version mode sparse) range m = other (format file n version mode sparse) m refl
+    go (format file n version mode sparse identity) range m = other (format file n version mode sparse identity) m refl
     go (serve file batch pump strict) range m = other (serve file batch pump strict) m refl
     go (check file strict) range m = other (check file strict) m refl
     go (repair file) range m = other (repair file) m refl
-    go (copy file new n version) range m = other (copy file new n version) m refl
-    go (upgrade file version) range m = other (upgrade file version) m refl
+    go (copy file new n version identity) range m = other (copy file new n version identity) m refl
+    go (upgrade file version identity) range m = other (upgrade file version identity) m refl
     go (mem n) range m = other (mem n) m refl
     go (deep file) range m = other (deep file) m refl
     go (salvage file frames) range m = c.salvage_in.ensures.meant file frames (met (salvage file frames) m).1
@@ -163,12 +163,12 @@ returns-in-dump-clause-meant c = go
     other asked m apart = differ (name_of asked) (codes "dump") apart ((met asked m).0 ∙ c.in-dump.is)
 
     go : (asked : Asked) → InRange asked → Means (subcommand_rows_of c.args.matches.now) asked → option_map asked_of c.dump_in.result ≡ Some asked
-    go (format file n version mode sparse) range m = other (format file n version mode sparse) m refl
+    go (format file n version mode sparse identity) range m = other (format file n version mode sparse identity) m refl
     go (serve file batch pump strict) range m = other (serve file batch pump strict) m refl
     go (check file strict) range m = other (check file strict) m refl
     go (repair file) range m = other (repair file) m refl
-    go (copy file new n version) range m = other (copy file new n version) m refl
-    go (upgrade file version) range m = other (upgrade file version) m refl
+    go (copy file new n version identity) range m = other (copy file new n version identity) m refl
+    go (upgrade file version identity) range m = other (upgrade file version identity) m refl
     go (mem n) range m = other (mem n) m refl
     go (deep file) range m = other (deep file) m refl
     go (salvage file frames) range m = other (salvage file frames) m refl

@@ -5,8 +5,8 @@ returns-in-Some-clause-row c = λ asked why range row.
     let means = c.in_ok-matches.ensures.row asked why range row in
     c.in-Some.ensures.meant asked why range means.0 means.1
 
-pub returns-in_err-no_mode-in-None-clause-row : goal.returns-in_err-no_mode-in-None-clause-row
-returns-in_err-no_mode-in-None-clause-row c = λ asked why range row.
+pub returns-in_err-wrong_text-in-None-clause-row : goal.returns-in_err-wrong_text-in-None-clause-row
+returns-in_err-wrong_text-in-None-clause-row c = λ asked why range row.
     let means = c.in_ok-matches.ensures.row asked why range row in
     absurd (c.in-None.ensures.meant asked why range means.0 means.1)
 

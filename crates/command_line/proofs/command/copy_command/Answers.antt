@@ -9,7 +9,8 @@ returns-clause-shape c =
     let new = c.in_ok-arg-2.ensures.shape c.new_argument.ensures.local ∙ ap₂ with_rule file c.new_argument.ensures.rule in
     let sectors = c.in_ok-arg-3.ensures.shape c.file_sectors.ensures.local ∙ ap₂ with_rule new c.file_sectors.ensures.rule in
     let format = c.in_ok-arg-4.ensures.shape c.format_option.ensures.local ∙ ap₂ with_rule sectors c.format_option.ensures.rule in
-    ap (λ a. a.top) (c.in_ok-copy.ensures.shape c.why_flag.ensures.local ∙ ap₂ with_rule format c.why_flag.ensures.rule)
+    let identity = c.in_ok-arg-5.ensures.shape c.identity_option.ensures.local ∙ ap₂ with_rule format c.identity_option.ensures.rule in
+    ap (λ a. a.top) (c.in_ok-copy.ensures.shape c.why_flag.ensures.local ∙ ap₂ with_rule identity c.why_flag.ensures.rule)
 
 pub returns-clause-local : goal.returns-clause-local
 returns-clause-local c =
@@ -18,4 +19,5 @@ returns-clause-local c =
     let new = c.in_ok-arg-2.ensures.globals ∙ ap₂ (λ a b. a || b) file c.new_argument.ensures.local in
     let sectors = c.in_ok-arg-3.ensures.globals ∙ ap₂ (λ a b. a || b) new c.file_sectors.ensures.local in
     let format = c.in_ok-arg-4.ensures.globals ∙ ap₂ (λ a b. a || b) sectors c.format_option.ensures.local in
-    c.in_ok-copy.ensures.globals ∙ ap₂ (λ a b. a || b) format c.why_flag.ensures.local
+    let identity = c.in_ok-arg-5.ensures.globals ∙ ap₂ (λ a b. a || b) format c.identity_option.ensures.local in
+    c.in_ok-copy.ensures.globals ∙ ap₂ (λ a b. a || b) identity c.why_flag.ensures.local

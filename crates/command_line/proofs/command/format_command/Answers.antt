@@ -9,7 +9,8 @@ returns-clause-shape c =
     let sectors = c.in_ok-arg-2.ensures.shape c.file_sectors.ensures.local ∙ ap₂ with_rule file c.file_sectors.ensures.rule in
     let format = c.in_ok-arg-3.ensures.shape c.format_option.ensures.local ∙ ap₂ with_rule sectors c.format_option.ensures.rule in
     let mode = c.in_ok-arg-4.ensures.shape c.mode_option.ensures.local ∙ ap₂ with_rule format c.mode_option.ensures.rule in
-    let sparse = c.in_ok-arg-5.ensures.shape c.sparse_flag.ensures.local ∙ ap₂ with_rule mode c.sparse_flag.ensures.rule in
+    let identity = c.in_ok-arg-5.ensures.shape c.identity_option.ensures.local ∙ ap₂ with_rule mode c.identity_option.ensures.rule in
+    let sparse = c.in_ok-arg-6.ensures.shape c.sparse_flag.ensures.local ∙ ap₂ with_rule identity c.sparse_flag.ensures.rule in
     ap (λ a. a.top) (c.in_ok-format.ensures.shape c.why_flag.ensures.local ∙ ap₂ with_rule sparse c.why_flag.ensures.rule)
 
 pub returns-clause-local : goal.returns-clause-local
@@ -19,5 +20,6 @@ returns-clause-local c =
     let sectors = c.in_ok-arg-2.ensures.globals ∙ ap₂ (λ a b. a || b) file c.file_sectors.ensures.local in
     let format = c.in_ok-arg-3.ensures.globals ∙ ap₂ (λ a b. a || b) sectors c.format_option.ensures.local in
     let mode = c.in_ok-arg-4.ensures.globals ∙ ap₂ (λ a b. a || b) format c.mode_option.ensures.local in
-    let sparse = c.in_ok-arg-5.ensures.globals ∙ ap₂ (λ a b. a || b) mode c.sparse_flag.ensures.local in
+    let identity = c.in_ok-arg-5.ensures.globals ∙ ap₂ (λ a b. a || b) mode c.identity_option.ensures.local in
+    let sparse = c.in_ok-arg-6.ensures.globals ∙ ap₂ (λ a b. a || b) identity c.sparse_flag.ensures.local in
     c.in_ok-format.ensures.globals ∙ ap₂ (λ a b. a || b) sparse c.why_flag.ensures.local

@@ -7,11 +7,13 @@ returns-clause-shape c =
     let base : app_of c.about.result ≡ new_app (codes "upgrade") = rw c.about.ensures c.new.ensures.app in
     let file = c.in_ok-arg.ensures.shape c.file_argument.ensures.local ∙ ap₂ with_rule base c.file_argument.ensures.rule in
     let format = c.in_ok-arg-2.ensures.shape c.format_option.ensures.local ∙ ap₂ with_rule file c.format_option.ensures.rule in
-    ap (λ a. a.top) (c.in_ok-upgrade.ensures.shape c.why_flag.ensures.local ∙ ap₂ with_rule format c.why_flag.ensures.rule)
+    let identity = c.in_ok-arg-3.ensures.shape c.identity_option.ensures.local ∙ ap₂ with_rule format c.identity_option.ensures.rule in
+    ap (λ a. a.top) (c.in_ok-upgrade.ensures.shape c.why_flag.ensures.local ∙ ap₂ with_rule identity c.why_flag.ensures.rule)
 
 pub returns-clause-local : goal.returns-clause-local
 returns-clause-local c =
     let base = ap (λ f. f.has_globals) c.about.ensures ∙ c.new.ensures.local in
     let file = c.in_ok-arg.ensures.globals ∙ ap₂ (λ a b. a || b) base c.file_argument.ensures.local in
     let format = c.in_ok-arg-2.ensures.globals ∙ ap₂ (λ a b. a || b) file c.format_option.ensures.local in
-    c.in_ok-upgrade.ensures.globals ∙ ap₂ (λ a b. a || b) format c.why_flag.ensures.local
+    let identity = c.in_ok-arg-3.ensures.globals ∙ ap₂ (λ a b. a || b) format c.identity_option.ensures.local in
+    c.in_ok-upgrade.ensures.globals ∙ ap₂ (λ a b. a || b) identity c.why_flag.ensures.local

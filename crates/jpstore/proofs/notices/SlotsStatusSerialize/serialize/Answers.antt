@@ -1,6 +1,8 @@
-use Rattle.std.proofs.Common.{subst, ℕ, codes}
+use Rattle.std.proofs.Common.{subst, ℕ, Some, codes}
 use Rattle.std.proofs.lemmas.Result.{on_ok_weaker}
 use Rattle.serve_lines.specs.Session.{SendsNumber}
+use Rattle.serve_lines.proofs.Statuses.{sends_with}
+use Rattle.jpstore.specs.Notices.{members_worded}
 use Rattle.jpstore.proofs.notices.SlotsStatusSerialize.serialize.Goals as goal
 
 pub returns : goal.returns
@@ -13,6 +15,7 @@ returns g c =
     let sectors = c.in_ok-send_number-5.ensures in
     let seq = c.in_ok-send_number-6.ensures in
     let used = c.in_ok-send_number-7.ensures in
+    let shown = c.args.self.now in
     on_ok_weaker c.end_map.result (λ end. (
       log c.begin_map.new.self,
       c.in_ok-begin_map.ensures,
@@ -36,7 +39,7 @@ returns g c =
               log c.send_number-3.new.out,
               half.key,
               half.value,
-              (
+              sends_with (Some shown.id.now) (members_worded shown.status shown.slots.now) (log c.send_number-3.new.out) (log c.send_id.new.out) (log c.end_map.new.self) c.in_ok-send_id.ensures (
                 log c.key-2.new.self,
                 log c.bool-2.new.self,
                 c.in_ok-key-2.ensures,

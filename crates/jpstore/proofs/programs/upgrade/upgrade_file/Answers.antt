@@ -18,8 +18,8 @@ returns-clause-upgraded g c =
     let after = g.O.Write.contents c.upgrade_store-ended.new.writer in
     record {
       opened = opened;
-      went = subst (λ (f : Format). WentTo c.args.held f opened closed) c.numbered.ensures
-          (went_to c.args.held c.numbered.result opened closed c.in_ok-store.ensures.opened e.any_moment e.honest e.standing);
-      upgraded = λ is. subst (λ (f : Format). IsUpgraded f opened closed) c.numbered.ensures (given ended e.done is);
+      went = subst (λ (f : Format). WentTo c.args.held f c.args.identity opened closed) c.numbered.ensures
+          (went_to c.args.held c.numbered.result c.args.identity opened closed c.in_ok-store.ensures.opened e.any_moment e.honest e.standing);
+      upgraded = λ is. subst (λ (f : Format). IsUpgraded f c.args.identity opened closed) c.numbered.ensures (given ended e.done is);
       shown = subst (λ (f : Format). Shows ended (line_of (upgrade_reply (number_of f) (number_of (format_of opened.account)))) before after) c.numbered.ensures e.shown;
     }
