@@ -5,8 +5,6 @@
 #![tactic(auto)]
 
 #[cfg(test)]
-mod anchors;
-#[cfg(test)]
 mod calls;
 #[cfg(test)]
 mod compact;
@@ -25,12 +23,6 @@ mod patches;
 #[cfg(test)]
 mod paths;
 #[cfg(test)]
-mod patterns;
-#[cfg(test)]
 mod plain_patches;
 #[cfg(test)]
 mod pointers;
-#[cfg(test)]
-mod profiles;
-#[cfg(test)]
-mod references;

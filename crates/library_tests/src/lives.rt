@@ -19,7 +19,7 @@ fn formatted(rt: &impl Abort, alloc: Global) -> MemDisk {
 
 fn formatted_in_3(rt: &impl Abort, alloc: Global) -> MemDisk {
     let mut disk = MemDisk::new(alloc, 160).expect(rt, "a disk");
-    format_in(&mut disk, true).expect(rt, "formatted");
+    format_in(&mut disk, true, 7).expect(rt, "formatted");
     disk.crash(&[])
 }
 

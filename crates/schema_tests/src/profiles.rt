@@ -24,7 +24,7 @@ fn is_refused(rt: &impl Abort, alloc: Global, text: &str, two: u16, three: u16) 
 }
 
 #[test]
-fn a_profile_refuses_by_its_own_keywords(rt: HostRuntime) {
+fn a_profile_refuses_dependent_schemas_or_reads_them(rt: HostRuntime) {
     let alloc = rt.alloc();
     is_refused(&rt, alloc, r#"{"dependentSchemas":{}}"#, SCHEMA_KEYWORD, 0);
     is_refused(
@@ -62,6 +62,11 @@ fn a_profile_refuses_by_its_own_keywords(rt: HostRuntime) {
         SCHEMA_KEYWORD,
         SCHEMA_LOOP,
     );
+}
+
+#[test]
+fn a_profile_refuses_properties_by_patterns_or_reads_them(rt: HostRuntime) {
+    let alloc = rt.alloc();
     is_refused(
         &rt,
         alloc,
@@ -104,6 +109,11 @@ fn a_profile_refuses_by_its_own_keywords(rt: HostRuntime) {
         SCHEMA_KEYWORD,
         0,
     );
+}
+
+#[test]
+fn what_no_profile_has_is_refused_in_each(rt: HostRuntime) {
+    let alloc = rt.alloc();
     is_refused(
         &rt,
         alloc,
