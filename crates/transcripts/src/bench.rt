@@ -13,6 +13,13 @@ const LONGEST_REPLY: usize = 16_777_217;
 /// A disk that may fail once, and from some call on.
 pub type Device = Fuse<FailOnce<MemDisk>>;
 
+/// The identities of a disk that is formatted in format 3, of a copy in it, and of a store that is brought to it.
+const FORMATTED: u128 = 0x0001_0203_0405_0607_0809_0a0b_0c0d_0e0f;
+
+const COPIED: u128 = 0x1011_1213_1415_1617_1819_1a1b_1c1d_1e1f;
+
+const UPGRADED: u128 = 0x2021_2223_2425_2627_2829_2a2b_2c2d_2e2f;
+
 /// A disk in memory, and the store over it while it is open.
 #[derive(Drop)]
 pub struct Bench {
@@ -159,7 +166,7 @@ impl Bench {
         } else {
             Format::Two
         };
-        match store.set_format(format) {
+        match store.set_format(format, UPGRADED) {
             Ok(()) => writeln!(said, "from {before}")?,
             Err(refusal) => {
                 let number = refusal.number;
@@ -189,7 +196,7 @@ impl Bench {
         match &self.store {
             Some(store) => Ok(
                 store
-                    .copy_to(device, format)
+                    .copy_to(device, format, COPIED)
                     .map_err(|refusal| refusal.number),
             ),
             None => Err(Fault::Script),
@@ -250,6 +257,6 @@ fn word_of(copy: CopyState) -> &'static str {
 /// A disk of `sectors` sectors, formatted in format 2 or 3, with nothing unsettled and no call on record.
 fn formatted(alloc: Global, sectors: u64, rides: bool) -> Result<MemDisk, Fault> {
     let mut disk = MemDisk::new(alloc, sectors)?;
-    format_in(&mut disk, rides)?;
+    format_in(&mut disk, rides, FORMATTED)?;
     Ok(disk.crash(&[]))
 }
