@@ -101,7 +101,8 @@ enum jpstore_fault {
     JPSTORE_REPLY = 11,     /* out of memory for the reply: the session is over */
     JPSTORE_UNKNOWN = 12,   /* the program ended for a reason, or answered what, this library doesn't know */
     JPSTORE_NO_SPACE = 13,  /* the disk, a quota or a limit has no room for the whole new file */
-    JPSTORE_WAITING = 14    /* jpstore_feed was given a part of a line, or changes whose replies are still to come */
+    JPSTORE_WAITING = 14,   /* jpstore_feed was given a part of a line, or changes whose replies are still to come */
+    JPSTORE_IDENTITY = 15   /* the system gave no random bytes for the identity of a store in format 3 */
 };
 
 /* Why the store refuses something; docs/use/PROTOCOL.md has the whole table. */
@@ -170,12 +171,16 @@ typedef struct jpstore_options {
     uint64_t reserved[6]; /* another number than 0 is answered JPSTORE_ARGUMENTS */
 } jpstore_options;
 
+/* The room of an identity in hexadecimal, 32 digits and the 0 after them. */
+#define JPSTORE_ID_ROOM 33
+
 /* How a file is made. Set all of it to 0 and then what you want. */
 typedef struct jpstore_format_options {
     uint64_t format; /* the format of the file, 2 or 3; 0 is 2 */
     uint64_t sparse; /* 1: the empty store alone is written, so that a full disk may refuse changes (61); 0: the whole file */
     uint64_t mode;   /* the file's permission bits, up to 0777, less the umask; 0 is 0600 */
-    uint64_t reserved[5]; /* another number than 0 is answered JPSTORE_ARGUMENTS */
+    const char *id;  /* the identity of the store in format 3, 32 hexadecimal digits; NULL: 16 random bytes of the system */
+    uint64_t reserved[4]; /* another number than 0 is answered JPSTORE_ARGUMENTS */
 } jpstore_format_options;
 
 /* What a store tells of itself. */
@@ -188,6 +193,7 @@ typedef struct jpstore_state {
     uint64_t sectors;   /* of 512 bytes, in the file */
     uint64_t seq;       /* accepted changes */
     uint64_t used;      /* bytes of the half in force that are taken */
+    char id[JPSTORE_ID_ROOM]; /* in format 3 the identity, which no other store has, in hexadecimal; else "" */
 } jpstore_state;
 
 /* Files: all calls of this part are FREE. */
@@ -207,8 +213,8 @@ int jpstore_open_memory(uint64_t sectors, jpstore **store, jpstore_cause *cause)
 /* Makes the file at path, which must not exist, with an empty store of so many sectors of 512 bytes, from 3 to 4294967296.
  *
  * Answers: *capacity, the number of bytes that one half has room for.
- * Faults: as jpstore_open, and JPSTORE_NO_SPACE, after which no file is left. A file that another fault left is removed by
- *     the caller. */
+ * Faults: as jpstore_open, and JPSTORE_NO_SPACE and JPSTORE_IDENTITY, after which no file is left. A file that another fault
+ *     left is removed by the caller. */
 int jpstore_format(const char *path, uint64_t sectors, const jpstore_format_options *options, uint64_t *capacity,
                    jpstore_cause *cause);
 
@@ -228,15 +234,16 @@ int jpstore_check(const char *path, jpstore_state *state, jpstore_cause *cause);
  *     with JPSTORE_REFUSAL_NEWER_SCHEMA: a schema is none of format 2. */
 int jpstore_copy(const char *path, const char *new_path, uint64_t sectors, jpstore_state *state, jpstore_cause *cause);
 
-/* The same in this format, 2 or 3; 0 is 2. No schema is refused in format 3. */
+/* The same in this format, 2 or 3; 0 is 2. No schema is refused in format 3, and the copy gets another identity. It adds the
+ * fault JPSTORE_IDENTITY. */
 int jpstore_copy_in(const char *path, const char *new_path, uint64_t sectors, uint64_t format, jpstore_state *state,
                     jpstore_cause *cause);
 
 /* Brings the store in the file at path to this format, 2 or 3; 0 is 3. It counts as an opening, and loses nothing if it is
- * stopped. Format 2 is made by a snapshot.
+ * stopped. Format 2 is made by a snapshot. In format 3 it gets an identity, unless it has one.
  *
  * Answers: *before, the format that it had.
- * Faults: as jpstore_open. */
+ * Faults: as jpstore_open, and JPSTORE_IDENTITY, after which it is in format 2. */
 int jpstore_upgrade(const char *path, uint64_t format, uint64_t *before, jpstore_cause *cause);
 
 /* Questions: all calls of this part are OWNED. Texts are the store's. Their faults are JPSTORE_REFUSED, JPSTORE_ARGUMENTS,

@@ -14,6 +14,7 @@ struct word {
 /* What may come after "jpstore: ". */
 static const struct word WORDS[] = {
     {"in-use", JPSTORE_IN_USE}, {"file", JPSTORE_FILE}, {"no-space", JPSTORE_NO_SPACE}, {"memory", JPSTORE_MEMORY}, {"writer", JPSTORE_REPLY},
+    {"identity", JPSTORE_IDENTITY},
 };
 
 static int fault_of_number(int number)
@@ -96,6 +97,7 @@ static const char *const TEXTS[] = {
     [JPSTORE_UNKNOWN] = "the program ended for an unknown reason",
     [JPSTORE_NO_SPACE] = "the disk, a quota or a limit has no room for the whole file",
     [JPSTORE_WAITING] = "replies to earlier lines are still to come",
+    [JPSTORE_IDENTITY] = "the system gave no random bytes for an identity",
 };
 
 const char *jpstore_fault_text(int fault)

@@ -21,6 +21,14 @@ bool read_number(const char *reply, const char *name, uint64_t *number)
     return true;
 }
 
+/* The identity, which a store in format 3 has. */
+static void read_id(const char *reply, char *id)
+{
+    const char *text = read_member(reply, "id");
+    if (text && *text == '"' && strlen(text) > JPSTORE_ID_ROOM)
+        memcpy(id, text + 1, JPSTORE_ID_ROOM - 1);
+}
+
 bool read_state(const char *reply, jpstore_state *state)
 {
     const char *broken = read_member(reply, "broken");
@@ -31,6 +39,7 @@ bool read_state(const char *reply, jpstore_state *state)
                        && read_number(reply, "sectors", &state->sectors) && read_number(reply, "seq", &state->seq)
                        && read_number(reply, "used", &state->used);
     state->half = half != 0;
+    read_id(reply, state->id);
     return found;
 }
 

@@ -47,6 +47,10 @@ int jpstore_format(const char *path, uint64_t sectors, const jpstore_format_opti
         session_add(session, "--format", options->format);
     if (options && options->mode)
         session_add_mode(session, options->mode);
+    if (options && options->id && !session_add_id(session, options->id)) {
+        session_free(session);
+        return JPSTORE_ARGUMENTS;
+    }
     if (options && options->sparse)
         session_add_flag(session, "--sparse");
     return ran_for_number(session, "capacity", capacity, cause);

@@ -120,6 +120,16 @@ void session_add_mode(jpstore *session, uint64_t mode)
     snprintf(add_option(session, "--mode"), NUMBER_ROOM, "%04" PRIo64, mode);
 }
 
+bool session_add_id(jpstore *session, const char *id)
+{
+    if (strlen(id) != JPSTORE_ID_ROOM - 1)
+        return false;
+    memcpy(session->id, id, JPSTORE_ID_ROOM);
+    session_add_flag(session, "--id");
+    add_word(session, session->id);
+    return true;
+}
+
 void session_add_flag(jpstore *session, const char *option)
 {
     add_word(session, (char *)(uintptr_t)option);

@@ -11,8 +11,8 @@
 #include <stdbool.h>
 #include <sys/types.h>
 
-/* The program's name, its command, and three options with numbers beside a file and a flag. */
-enum { MOST_WORDS = 10, MOST_PATHS = 2, MOST_NUMBERS = 3, NUMBER_ROOM = 21, COMPLAINT_ROOM = 256 };
+/* The program's name, its command, three options with numbers and an identity beside a file and a flag. */
+enum { MOST_WORDS = 12, MOST_PATHS = 2, MOST_NUMBERS = 3, NUMBER_ROOM = 21, COMPLAINT_ROOM = 256 };
 
 struct jpstore {
     struct fiber fiber;
@@ -30,6 +30,7 @@ struct jpstore {
     size_t numbers_count;
     char *paths[MOST_PATHS];
     size_t paths_count;
+    char id[JPSTORE_ID_ROOM];
 
     /* What is left of the input of this call, and whether more may come. */
     const char *input;
@@ -73,6 +74,9 @@ void session_add(jpstore *session, const char *option, uint64_t number);
 
 /* Adds the option for the permission bits of a new file. */
 void session_add_mode(jpstore *session, uint64_t mode);
+
+/* Adds the option for the identity of a store, whose text is copied; false if it hasn't as many characters. */
+bool session_add_id(jpstore *session, const char *id);
 
 /* Adds an option that has no number. */
 void session_add_flag(jpstore *session, const char *option);

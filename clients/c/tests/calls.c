@@ -93,10 +93,31 @@ static void formats(const char *file)
     remove(file);
     CHECK(jpstore_format(file, 64, &(jpstore_format_options){.format = 4}, NULL, NULL) == JPSTORE_ARGUMENTS);
     CHECK(jpstore_format(file, 64, &(jpstore_format_options){.sparse = 2}, NULL, NULL) == JPSTORE_ARGUMENTS);
-    CHECK(jpstore_format(file, 64, &(jpstore_format_options){.reserved = {[4] = 1}}, NULL, NULL) == JPSTORE_ARGUMENTS);
+    CHECK(jpstore_format(file, 64, &(jpstore_format_options){.reserved = {[3] = 1}}, NULL, NULL) == JPSTORE_ARGUMENTS);
     CHECK(jpstore_format(file, 65536, &(jpstore_format_options){.format = 3, .sparse = 1}, NULL, NULL) == JPSTORE_OK);
     struct stat made;
     CHECK(stat(file, &made) == 0 && made.st_size == 65536 * 512 && made.st_blocks < 6553);
+}
+
+/* The identity of a store in format 3: the one that was asked for, or one that no other store has. */
+static void identities(const char *folder, const char *file)
+{
+    static const char id[] = "00112233445566778899aabbccddeeff";
+    jpstore_state of, copied;
+    char copy[4096];
+    snprintf(copy, sizeof copy, "%s/identity.store", folder);
+    remove(file);
+    remove(copy);
+    CHECK(jpstore_format(file, 512, &(jpstore_format_options){.format = 3, .id = id}, NULL, NULL) == JPSTORE_OK);
+    CHECK(jpstore_check(file, &of, NULL) == JPSTORE_OK && strcmp(of.id, id) == 0);
+    CHECK(jpstore_copy_in(file, copy, 512, 3, &copied, NULL) == JPSTORE_OK);
+    CHECK(strlen(copied.id) == 32 && strcmp(copied.id, id) != 0);
+    CHECK(jpstore_upgrade(copy, 2, NULL, NULL) == JPSTORE_OK && jpstore_check(copy, &of, NULL) == JPSTORE_OK && of.id[0] == 0);
+    remove(copy);
+    remove(file);
+    CHECK(jpstore_format(file, 512, &(jpstore_format_options){.format = 3, .id = "0011"}, NULL, NULL) == JPSTORE_ARGUMENTS);
+    CHECK(jpstore_format(file, 512, &(jpstore_format_options){.format = 3, .id = "g0112233445566778899aabbccddeeff"}, NULL, NULL) == JPSTORE_ARGUMENTS);
+    CHECK(access(file, F_OK) != 0);
 }
 
 /* What a creation under a schema is refused by, in a new file of a format; 0 if it isn't. */
@@ -378,6 +399,7 @@ int main(int count, char **words)
     batches(file);
     statuses(file);
     formats(file);
+    identities(folder, file);
     profiles(file);
     modes(file);
     large_transactions(file);

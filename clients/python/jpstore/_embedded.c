@@ -459,17 +459,17 @@ static PyType_Spec session_spec = {
     .slots = slots,
 };
 
-/* format(path, sectors, format, sparse, mode): makes a file, and returns the capacity of a half. */
+/* format(path, sectors, format, sparse, mode, id): makes a file, and returns the capacity of a half. */
 static PyObject *format_file(PyObject *module, PyObject *arguments)
 {
-    const char *path;
+    const char *path, *id;
     unsigned long long sectors, format, mode;
     uint64_t capacity;
     int fault, sparse;
     jpstore_cause cause;
-    if (!PyArg_ParseTuple(arguments, "sKKpK", &path, &sectors, &format, &sparse, &mode))
+    if (!PyArg_ParseTuple(arguments, "sKKpKz", &path, &sectors, &format, &sparse, &mode, &id))
         return NULL;
-    const jpstore_format_options options = {.format = format, .sparse = sparse != 0, .mode = mode};
+    const jpstore_format_options options = {.format = format, .sparse = sparse != 0, .mode = mode, .id = id};
     Py_BEGIN_ALLOW_THREADS
     fault = jpstore_format(path, sectors, &options, &capacity, &cause);
     Py_END_ALLOW_THREADS
@@ -491,10 +491,11 @@ static PyObject *copy_file(PyObject *module, PyObject *arguments)
     Py_END_ALLOW_THREADS
     if (fault != JPSTORE_OK)
         return raise_fault(module, fault, cause, NULL);
-    return Py_BuildValue("{sNsKsKsisKsKsKsK}", "broken", PyBool_FromLong(status.broken), "capacity",
+    return Py_BuildValue("{sNsKsKsisKsKsKsKsz}", "broken", PyBool_FromLong(status.broken), "capacity",
                          (unsigned long long)status.capacity, "documents", (unsigned long long)status.documents, "half",
                          status.half, "opens", (unsigned long long)status.opens, "sectors", (unsigned long long)status.sectors,
-                         "seq", (unsigned long long)status.seq, "used", (unsigned long long)status.used);
+                         "seq", (unsigned long long)status.seq, "used", (unsigned long long)status.used, "id",
+                         status.id[0] ? status.id : NULL);
 }
 
 /* upgrade(path, format): brings a store to a format, and returns the format that it had. */
@@ -547,7 +548,8 @@ static bool add_numbers(PyObject *module)
            && PyModule_AddIntConstant(module, "FORKED", JPSTORE_FORKED) == 0
            && PyModule_AddIntConstant(module, "BUSY", JPSTORE_BUSY) == 0
            && PyModule_AddIntConstant(module, "REPLY", JPSTORE_REPLY) == 0
-           && PyModule_AddIntConstant(module, "NO_SPACE", JPSTORE_NO_SPACE) == 0;
+           && PyModule_AddIntConstant(module, "NO_SPACE", JPSTORE_NO_SPACE) == 0
+           && PyModule_AddIntConstant(module, "IDENTITY", JPSTORE_IDENTITY) == 0;
 }
 
 /* Adds a name for what the state holds. */

@@ -42,7 +42,7 @@ def _complaint(fault: int, refusal: int) -> str:
     """What the program would say on standard error."""
     words = {_embedded.IN_USE: "in-use", _embedded.FILE: "file", _embedded.NO_SPACE: "no-space",
              _embedded.MEMORY: "memory", _embedded.REPLY: "writer", _embedded.ARGUMENTS: "arguments",
-             _embedded.DEVICE: "device (61)"}
+             _embedded.DEVICE: "device (61)", _embedded.IDENTITY: "identity"}
     if fault == _embedded.REFUSED and refusal in REFUSALS:
         return f"jpstore: {REFUSALS[refusal].name} ({refusal})\n"
     return f"jpstore: {words[fault]}\n" if fault in words else ""
@@ -68,13 +68,15 @@ def _done(call: Callable[..., Any], *words: Any) -> Any:
         raise _error(", ".join(word for word in words if isinstance(word, str)), fault) from None
 
 
-def format_embedded(file: Path, sectors: int, version: int = 2, sparse: bool = False, mode: int = 0) -> int:
+def format_embedded(file: Path, sectors: int, version: int = 2, sparse: bool = False, mode: int = 0,
+                    identity: Optional[str] = None) -> int:
     """As `format_file`, by the library and not by the program.
 
     `version` is the format of the file, 2 or 3. With `sparse` only the empty store is written and not the whole file,
-    so that a full disk may refuse changes (61). `mode` has the file's permission bits; 0 is 0600.
+    so that a full disk may refuse changes (61). `mode` has the file's permission bits; 0 is 0600. In format 3 the store
+    gets `identity`, 32 hexadecimal digits that no other store has, or random ones.
     """
-    capacity: int = _done(_extension().format, os.fspath(file), sectors, version, sparse, mode)
+    capacity: int = _done(_extension().format, os.fspath(file), sectors, version, sparse, mode, identity)
     return capacity
 
 

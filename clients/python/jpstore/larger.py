@@ -30,7 +30,7 @@ class Larger:
         # A renaming would replace a symbolic link, and not what it leads to.
         self._file, self._sectors = os.path.realpath(file), sectors
         self._program = find_program(program)
-        self._format, self._head = 0, SECTOR
+        self._format, self._head, self._identity = 0, SECTOR, b""
         with accessing(self._file):
             self._old = open(self._file, "r+b")
         try:
@@ -51,7 +51,7 @@ class Larger:
         # A buffer of its own: one that is left from an earlier time has what the file no longer says.
         with accessing(self._file), open(os.dup(self._old.fileno()), "rb") as old:
             found = committed_in(old)
-            self._format, self._head = found.version, len(found.head)
+            self._format, self._head, self._identity = found.version, len(found.head), found.identity
             with contextlib.suppress(FileNotFoundError):
                 os.unlink(self._base)
             with create_private(self._base) as made:
@@ -60,10 +60,10 @@ class Larger:
         return found.seq
 
     def copy(self) -> None:
-        """Makes the larger file of that, in the same format."""
+        """Makes the larger file of that, in the same format: it is the same store, so it keeps its identity."""
         with contextlib.suppress(FileNotFoundError):
             os.unlink(self.path)
-        words = ["--format", str(self._format)] if self._format > 2 else []
+        words = ["--format", str(self._format), "--id", self._identity.hex()] if self._format > 2 else []
         self._run("copy", self._base, self.path, "--sectors", str(self._sectors), *words)
         os.unlink(self._base)
 

@@ -202,6 +202,9 @@ NAMES: Dict[int, str] = {**{row.number: row.name for row in _ROWS},
 COMPLAINTS: Dict[str, str] = {
     "file": "FILE, or NEW of `copy`, cannot be made or opened; `--why` tells the cause",
     "no-space": "the disk, a quota or a limit has no room for the new file; no file is left",
+    "identity": "the system gave no random bytes for the identity of a store in format 3: `/dev/urandom` can't be "
+                "opened or read. No file is made, and a store that was opened for `copy` or `upgrade` stays as it is; "
+                "`--id` gives one",
     "in-use": "another command uses FILE, under this name or another; no byte of it was read or changed",
     "device": "the device failed during the session; later changes were answered 62, and the replies that were written "
               "are true",

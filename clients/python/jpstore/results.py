@@ -2,7 +2,7 @@
 import json
 import re
 from dataclasses import dataclass, fields
-from typing import Any, Dict, Tuple, Union
+from typing import Any, Dict, Optional, Tuple, Union
 
 from .wire.values import escaped
 
@@ -38,7 +38,10 @@ def _name(quoted: str) -> str:
 
 @dataclass(frozen=True)
 class Status:
-    """The status of a store; `used` and `capacity` are bytes of one half, a sector has 512 bytes."""
+    """The status of a store; `used` and `capacity` are bytes of one half, a sector has 512 bytes.
+
+    `id` is the identity of a store in format 3, in hexadecimal, which no other store has.
+    """
 
     broken: bool
     capacity: int
@@ -48,6 +51,7 @@ class Status:
     sectors: int
     seq: int
     used: int
+    id: Optional[str] = None
 
     @property
     def most_documents(self) -> int:
@@ -57,7 +61,7 @@ class Status:
     @classmethod
     def of(cls, reply: Dict[str, Any]) -> "Status":
         """The status in a reply."""
-        return cls(**{field.name: reply[field.name] for field in fields(cls)})
+        return cls(**{field.name: reply[field.name] for field in fields(cls) if field.name != "id"}, id=reply.get("id"))
 
 
 @dataclass(frozen=True)

@@ -25,6 +25,7 @@ from jpstore import (
 from jpstore.embedded import Embedded, copy_embedded, embedded_version, format_embedded, upgrade_embedded
 from jpstore.wire import requests
 from jpstore.wire.conversation import Call
+from jpstore.wire.store_file import committed_in
 
 
 def raised(kind, call, *words):
@@ -34,6 +35,12 @@ def raised(kind, call, *words):
     except kind as error:
         return error
     raise AssertionError(f"{kind.__name__} is not raised")
+
+
+def identity_in(path):
+    """The identity of the store in a file of format 3, and None in format 2."""
+    with open(path, "rb") as file:
+        return committed_in(file).identity.hex() or None
 
 
 def new_file(folder, name, version=2):
@@ -230,8 +237,10 @@ def test_files_as_by_the_program(folder):
             store.patch("d", [{"op": "replace", "path": "/n", "value": 2}])
     assert copy_embedded(files[0], files[1], 1024) == copy_file(files[2], files[3], 1024)
     for to, before in ((3, 2), (3, 3), (2, 3)):
-        assert upgrade_embedded(files[0], to) == upgrade_file(files[2], to) == before
-    assert upgrade_embedded(files[1]) == upgrade_file(files[3]) == 2
+        assert upgrade_embedded(files[0], to) == before
+        assert upgrade_file(files[2], to, identity=identity_in(files[0])) == before
+    assert upgrade_embedded(files[1]) == 2
+    assert upgrade_file(files[3], identity=identity_in(files[1])) == 2
     for one, other in ((files[0], files[2]), (files[1], files[3])):
         with open(one, "rb") as first, open(other, "rb") as second:
             assert first.read() == second.read()
@@ -239,6 +248,10 @@ def test_files_as_by_the_program(folder):
     os.remove(files[1])
     format_embedded(files[1], 65536, 3, sparse=True)
     assert os.stat(files[1]).st_blocks < 6553 and upgrade_embedded(files[1]) == 3
+    os.remove(files[1])
+    format_embedded(files[1], 512, 3, identity="00112233445566778899aabbccddeeff")
+    assert identity_in(files[1]) == check_file(files[1]).id == "00112233445566778899aabbccddeeff"
+    assert raised(Ended, lambda: format_embedded(files[1] + "-2", 512, 3, identity="0")).status == 2
     assert raised(Ended, upgrade_embedded, files[1], 4).status == 2
 
 

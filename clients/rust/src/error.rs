@@ -50,6 +50,8 @@ pub enum Fault {
     Ended,
     /// Out of memory for the replies: the session is over.
     Reply,
+    /// The system gave no random bytes for the identity of a store in format 3.
+    Identity,
     /// The program ended for a reason that the library doesn't know, or answered what this crate can't read.
     Unknown,
 }
@@ -84,6 +86,7 @@ impl Error {
             10 => Fault::Ended,
             11 => Fault::Reply,
             13 => Fault::NoSpace(system_error),
+            15 => Fault::Identity,
             _ => Fault::Unknown,
         }))
     }
@@ -136,6 +139,7 @@ impl fmt::Display for Fault {
             Fault::Forked => "the store belongs to the parent process",
             Fault::Ended => "the session is over",
             Fault::Reply => "out of memory for the replies",
+            Fault::Identity => "the system gave no random bytes for an identity",
             Fault::Unknown => "the program ended for an unknown reason",
         })
     }

@@ -41,11 +41,12 @@ pub fn copy(
     copy_in(path, new_path, sectors, 2)
 }
 
-/// The same in this format, 2 or 3. No schema is refused in format 3.
+/// The same in this format, 2 or 3. No schema is refused in format 3, and the copy gets another identity.
 ///
 /// # Errors
 ///
-/// Those of [`copy`], and [`Fault::Arguments`](crate::Fault::Arguments) for another format.
+/// Those of [`copy`], [`Fault::Arguments`](crate::Fault::Arguments) for another format, and
+/// [`Fault::Identity`](crate::Fault::Identity) without random bytes.
 pub fn copy_in(
     path: impl AsRef<Path>,
     new_path: impl AsRef<Path>,
@@ -65,7 +66,8 @@ pub fn copy_in(
 ///
 /// # Errors
 ///
-/// Those of [`Store::open`](crate::Store::open), and [`Fault::Arguments`](crate::Fault::Arguments) for another format.
+/// Those of [`Store::open`](crate::Store::open), [`Fault::Arguments`](crate::Fault::Arguments) for another format, and
+/// [`Fault::Identity`](crate::Fault::Identity) without random bytes.
 pub fn upgrade(path: impl AsRef<Path>, format: u64) -> Result<u64, Error> {
     let path = c_path(path.as_ref())?;
     let (mut before, mut cause) = (0, sys::Cause::NONE);

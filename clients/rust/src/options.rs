@@ -1,6 +1,8 @@
 use crate::text::c_path;
 use crate::{sys, Error, Store};
+use std::ffi::CString;
 use std::path::Path;
+use std::ptr::NonNull;
 
 /// How a store is served.
 ///
@@ -66,6 +68,7 @@ pub struct FormatOptions {
     format: u64,
     sparse: bool,
     mode: u64,
+    identity: Option<u128>,
 }
 
 impl FormatOptions {
@@ -93,6 +96,12 @@ impl FormatOptions {
         self
     }
 
+    /// The identity of the store in format 3, which no other store may have. Without it, it is 16 random bytes of the system.
+    pub fn identity(mut self, identity: u128) -> FormatOptions {
+        self.identity = Some(identity);
+        self
+    }
+
     /// Makes a file, which must not exist, with an empty store of so many sectors of 512 bytes, from 3 to 2^32. Answers how
     /// many bytes one half has room for.
     ///
@@ -100,20 +109,29 @@ impl FormatOptions {
     ///
     /// [`Fault::File`](crate::Fault::File) if the file exists already, or can't be made;
     /// [`Fault::NoSpace`](crate::Fault::NoSpace) on a full disk; [`Fault::Arguments`](crate::Fault::Arguments) for a number
-    /// out of its range.
+    /// out of its range; [`Fault::Identity`](crate::Fault::Identity) without random bytes.
     pub fn make(self, path: impl AsRef<Path>, sectors: u64) -> Result<u64, Error> {
         let path = c_path(path.as_ref())?;
+        let id = self.identity.map(hexadecimal);
         let words = sys::FormatOptions {
             format: self.format,
             sparse: self.sparse.into(),
             mode: self.mode,
+            id: id
+                .as_ref()
+                .and_then(|id| NonNull::new(id.as_ptr() as *mut _)),
             ..Default::default()
         };
         let (mut capacity, mut cause) = (0, sys::Cause::NONE);
-        // SAFETY: the path ends by 0; it and the options aren't kept, and the places for results are here.
+        // SAFETY: the path and the identity end by 0; they and the options aren't kept, and the places for results are here.
         let fault = unsafe {
             sys::jpstore_format(path.as_ptr(), sectors, &words, &mut capacity, &mut cause)
         };
         Error::check(fault, &cause).map(|()| capacity)
     }
+}
+
+/// The 32 digits of an identity.
+fn hexadecimal(identity: u128) -> CString {
+    CString::new(format!("{identity:032x}")).expect("digits")
 }

@@ -20,6 +20,8 @@ pub struct Status {
     pub seq: u64,
     /// How many bytes of the half in force are taken.
     pub used: u64,
+    /// In format 3 the identity, which no other store has.
+    pub identity: Option<u128>,
 }
 
 impl From<sys::State> for Status {
@@ -33,8 +35,14 @@ impl From<sys::State> for Status {
             sectors: found.sectors,
             seq: found.seq,
             used: found.used,
+            identity: identity_of(&found.id),
         }
     }
+}
+
+/// The identity that these hexadecimal digits spell; zeros, of format 2, spell none.
+fn identity_of(digits: &[u8; 32]) -> Option<u128> {
+    u128::from_str_radix(std::str::from_utf8(digits).ok()?, 16).ok()
 }
 
 /// What a step of a copied snapshot left.

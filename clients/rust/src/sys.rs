@@ -1,6 +1,7 @@
 //! `jpstore.h`.
 
 use std::os::raw::{c_char, c_int, c_void};
+use std::ptr::NonNull;
 
 #[repr(C)]
 pub struct Handle {
@@ -21,7 +22,8 @@ pub struct FormatOptions {
     pub format: u64,
     pub sparse: u64,
     pub mode: u64,
-    pub reserved: [u64; 5],
+    pub id: Option<NonNull<c_char>>,
+    pub reserved: [u64; 4],
 }
 
 #[repr(C)]
@@ -57,6 +59,9 @@ pub struct State {
     pub sectors: u64,
     pub seq: u64,
     pub used: u64,
+    /// 32 hexadecimal digits, or zeros.
+    pub id: [u8; 32],
+    pub id_end: u8,
 }
 
 #[repr(C)]

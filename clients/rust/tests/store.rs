@@ -377,6 +377,22 @@ fn lines() {
 }
 
 #[test]
+fn a_store_in_format_3_has_an_identity() {
+    let file = File::none("identity");
+    FormatOptions::new()
+        .format(3)
+        .identity(7 << 64)
+        .make(&file.0, 512)
+        .unwrap();
+    assert_eq!(check(&file.0).unwrap().identity, Some(7 << 64));
+    let copied = File::none("identity-copied");
+    let status = copy_in(&file.0, &copied.0, 512, 3).unwrap();
+    assert!(status.identity.is_some() && status.identity != Some(7 << 64));
+    upgrade(&copied.0, 2).unwrap();
+    assert_eq!(check(&copied.0).unwrap().identity, None);
+}
+
+#[test]
 fn status_snapshots_and_pumps() {
     let file = File::new("status", 64);
     let mut store = opened(&file, 0);

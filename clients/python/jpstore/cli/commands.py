@@ -13,7 +13,7 @@ from ..once import KEPT, NOTES
 from ..server import run_server
 from ..watch import Watch
 from ..wire.commands import set_schema
-from .display import printable, shown, shown_status
+from .display import members_of, printable, shown, shown_status
 from .file_commands import FILE_COMMANDS
 from .opening import Row, Word, opened, program_of, value_in, value_of_word
 from .printing import accepted, print_record, said
@@ -149,7 +149,7 @@ def _rev(words: argparse.Namespace) -> None:
 def _status(words: argparse.Namespace) -> None:
     with opened(words) as store:
         status = store.status()
-    said(words, vars(status), shown_status(status))
+    said(words, members_of(status), shown_status(status))
 
 
 def _snapshot(words: argparse.Namespace) -> None:

@@ -1,13 +1,13 @@
 """Values and errors as a person reads them: what fits is on one line, and nothing is sent raw to a terminal."""
 import json
-from typing import Any, List, Union
+from typing import Any, Dict, List, Union
 
 from ..dump import LoadStopped
 from ..errors import Invalid
 from ..explain import first_reason
 from ..results import Status
 
-__all__ = ["printable", "shown", "shown_error", "shown_status"]
+__all__ = ["members_of", "printable", "shown", "shown_error", "shown_status"]
 
 _WIDTH = 100
 
@@ -27,6 +27,11 @@ def printable(text: str) -> str:
     return "".join(character if character.isprintable() else json.dumps(character)[1:-1] for character in text)
 
 
+def members_of(status: Status) -> Dict[str, Any]:
+    """What the store told in its status."""
+    return {name: told for name, told in vars(status).items() if told is not None}
+
+
 def shown_status(status: Status) -> str:
     """The status of a store, with how full it is."""
     full = 100 * status.used / status.capacity
@@ -37,6 +42,8 @@ def shown_status(status: Status) -> str:
         ["openings", f"{status.opens:,}"],
         ["file", f"{status.sectors:,} sectors, {status.sectors * 512:,} bytes; half {status.half} in force"],
     ]
+    if status.id:
+        rows.append(["identity", status.id])
     if status.broken:
         rows.append(["broken", "the device failed: end the program and open the store again"])
     return "\n".join(f"{what:<10} {said}" for what, said in rows)

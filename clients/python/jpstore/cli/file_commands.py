@@ -9,7 +9,7 @@ from ..errors import JpstoreError, accessing
 from ..sizes import sectors_of_size
 from ..wire.program import check_file, copy_file, format_file, upgrade_file
 from ..wire.store_file import SECTOR
-from .display import shown_status
+from .display import members_of, shown_status
 from .opening import Row, Word, is_socket, opened, program_of
 from .printing import said
 
@@ -33,7 +33,7 @@ def _sectors_in(file: str) -> int:
 def _format(words: argparse.Namespace) -> None:
     sectors = words.sectors or _SECTORS
     capacity = format_file(words.store, sectors, program_of(words), words.mode, version=words.format,
-                           sparse=words.sparse)
+                           sparse=words.sparse, identity=words.id)
     said(words, {"capacity": capacity, "sectors": sectors},
          f"{words.store} is an empty store of {sectors * SECTOR:,} bytes, {capacity:,} of them for the "
          "documents")
@@ -41,13 +41,13 @@ def _format(words: argparse.Namespace) -> None:
 
 def _check(words: argparse.Namespace) -> None:
     status = check_file(words.store, program_of(words))
-    said(words, vars(status), f"{words.store} is a store\n{shown_status(status)}")
+    said(words, members_of(status), f"{words.store} is a store\n{shown_status(status)}")
 
 
 def _copy(words: argparse.Namespace) -> None:
     status = copy_file(words.store, words.new, words.sectors or _sectors_in(words.store), program_of(words),
-                       version=words.format)
-    said(words, vars(status), f"{words.new} has the same documents\n{shown_status(status)}")
+                       version=words.format, identity=words.id)
+    said(words, members_of(status), f"{words.new} has the same documents\n{shown_status(status)}")
 
 
 def _grow(words: argparse.Namespace) -> None:
@@ -58,18 +58,18 @@ def _grow(words: argparse.Namespace) -> None:
     if words.new is not None:
         status = grow(words.store, words.new, words.sectors or 2 * _sectors_in(words.store), program_of(words),
                       version=words.format)
-        said(words, vars(status), f"{words.new} has the same documents\n{shown_status(status)}")
+        said(words, members_of(status), f"{words.new} has the same documents\n{shown_status(status)}")
         return
     if is_socket(words.store):
         with opened(words) as store:
             status = store.grow(words.sectors or 2 * store.status().sectors)
     else:
         status = grow_file(words.store, words.sectors or 2 * _sectors_in(words.store), program_of(words))
-    said(words, vars(status), f"{words.store} has grown\n{shown_status(status)}")
+    said(words, members_of(status), f"{words.store} has grown\n{shown_status(status)}")
 
 
 def _upgrade(words: argparse.Namespace) -> None:
-    before = upgrade_file(words.store, words.format, program_of(words))
+    before = upgrade_file(words.store, words.format, program_of(words), identity=words.id)
     said(words, {"format": words.format, "from": before},
          f"{words.store} is in format {words.format}; before it was in format {before}")
 
@@ -89,6 +89,9 @@ def _format_of_new(otherwise: str) -> Word:
                          "help": f"the format of the new file, 2 or 3 ({otherwise})"})
 
 
+_IDENTITY: Word = ("--id", {"metavar": "HEX",
+                            "help": "the identity of the store in format 3, 32 hexadecimal digits (random)"})
+
 #: The words of which one is given at most.
 SIZE_WORDS: Tuple[str, ...] = ("--size", "--sectors")
 
@@ -98,10 +101,11 @@ FILE_COMMANDS: Dict[str, Row] = {
         *_sizes("16M"),
         ("--format", {"metavar": "V", "type": int, "choices": (2, 3), "help": "the format of the file, 2 or 3 (2)"}),
         ("--mode", {"metavar": "MODE", "type": _mode, "help": "its permission bits in octal (600)"}),
+        _IDENTITY,
         ("--sparse", {"action": "store_true", "help": "leave its blocks to be allocated as they are written"})]),
     "check": (_check, "reads and judges all of a store, and shows its status", "check inventory", []),
     "copy": (_copy, "copies a store into a new file, with its revisions and counts", "copy inventory saved", [
-        _NEW, *_sizes("that of STORE"), _format_of_new("that of STORE")]),
+        _NEW, *_sizes("that of STORE"), _format_of_new("that of STORE"), _IDENTITY]),
     "grow": (_grow, "makes a store larger: in its place, also while a hub serves it, or as another file",
              "grow inventory.socket --size 32M", [
                  ("new", {"metavar": "NEW", "nargs": "?", "help": "a new file for the larger store; STORE, a file that "
@@ -109,5 +113,6 @@ FILE_COMMANDS: Dict[str, Row] = {
                  *_sizes("twice that of STORE"), _format_of_new("that of STORE; with NEW alone")]),
     "upgrade": (_upgrade, "brings a store to format 3, or back to 2", "upgrade inventory", [
         ("--format", {"metavar": "V", "type": int, "choices": (2, 3), "default": 3,
-                      "help": "the format to bring it to, 2 or 3 (3)"})]),
+                      "help": "the format to bring it to, 2 or 3 (3)"}),
+        _IDENTITY]),
 }

@@ -154,17 +154,20 @@ def _shown(words: List[str]) -> Dict[str, Any]:
 
 
 def format_file(file: Path, sectors: int, program: Optional[Path] = None, mode: Optional[int] = None, *,
-                version: Optional[int] = None, sparse: bool = False) -> int:
+                version: Optional[int] = None, sparse: bool = False, identity: Optional[str] = None) -> int:
     """Makes `file`, which must not exist, with an empty store of this size; returns the capacity of a half.
 
     Its owner alone reads and writes it, unless `mode` has other permission bits, such as 0o640. With `version` it is in
-    format 2 or 3; with `sparse` its blocks are allocated as they are written.
+    format 2 or 3; with `sparse` its blocks are allocated as they are written. In format 3 the store gets `identity`, 32
+    hexadecimal digits that no other store has, or random ones.
     """
     words = [find_program(program), "format", path_word(file), "--sectors", str(sectors)]
     if mode is not None:
         words += ["--mode", f"{mode:04o}"]
     if version is not None:
         words += ["--format", str(version)]
+    if identity is not None:
+        words += ["--id", identity]
     if sparse:
         words.append("--sparse")
     capacity: int = _shown(words)["capacity"]
@@ -177,27 +180,33 @@ def check_file(file: Path, program: Optional[Path] = None) -> Status:
 
 
 def copy_file(file: Path, new: Path, sectors: int, program: Optional[Path] = None, *,
-              version: Optional[int] = None) -> Status:
+              version: Optional[int] = None, identity: Optional[str] = None) -> Status:
     """Copies the store in `file` into `new`, which must not exist, with this many sectors, and returns its status.
 
     The copy has the documents with their schemas and revisions, and the counts of changes and openings; it is in format
-    2 or 3 by `version`, and without it in that of `file`. After a stop `new` holds no store, or all of this; if the
-    program fails it removes `new`. It counts as an opening of `file`.
+    2 or 3 by `version`, and without it in that of `file`. In format 3 it gets another identity, as by `format_file`.
+    After a stop `new` holds no store, or all of this; if the program fails it removes `new`. It counts as an opening of
+    `file`.
     """
     words = [find_program(program), "copy", path_word(file), path_word(new), "--sectors", str(sectors)]
     kept = format_kept(os.fspath(file)) if version is None else version
     # Each program makes format 2 without this word, also one that doesn't know it.
     if kept != 2:
         words += ["--format", str(kept)]
+    if identity is not None:
+        words += ["--id", identity]
     return Status.of(_shown(words))
 
 
-def upgrade_file(file: Path, version: int = 3, program: Optional[Path] = None) -> int:
+def upgrade_file(file: Path, version: int = 3, program: Optional[Path] = None, *,
+                 identity: Optional[str] = None) -> int:
     """Brings the store in `file` to format 3 or 2, and returns the number of the format that it was in.
 
     The documents, their revisions and the count of changes stay, also after a stop at any moment. It counts as an
-    opening.
+    opening. A store that comes to format 3 gets an identity, as by `format_file`.
     """
     words = [find_program(program), "upgrade", path_word(file), "--format", str(version)]
+    if identity is not None:
+        words += ["--id", identity]
     before: int = _shown(words)["from"]
     return before

@@ -38,6 +38,8 @@ class Committed(NamedTuple):
     begin: int
     #: The last committed bytes, which format 3 has in the slot.
     tail: bytes
+    #: The identity of a store in format 3; format 2 has none.
+    identity: bytes
 
     @property
     def settled(self) -> int:
@@ -84,9 +86,9 @@ def committed_in(file: BinaryIO) -> Committed:
         _, _, half, length, seq, opens, sectors = _FIELDS.unpack_from(head)
         capacity = SECTOR * ((sectors - 1) // 2)
         begin = SECTOR + half * capacity
-        return Committed(2, head[:SECTOR], half, length, seq, opens, sectors, inode, capacity, begin, b"")
+        return Committed(2, head[:SECTOR], half, length, seq, opens, sectors, inode, capacity, begin, b"", b"")
     slot = counting(head) if len(head) == SLOTS else None
     if slot is None:
         raise JpstoreError(f"{file.name} is not a store of format 2 or 3")
     return Committed(3, head, slot.half, slot.length, slot.seq, slot.opens, slot.sectors, inode,
-                     capacity_of(slot.sectors), begin_of(slot.half, slot.sectors), slot.tail)
+                     capacity_of(slot.sectors), begin_of(slot.half, slot.sectors), slot.tail, slot.identity)

@@ -15,7 +15,7 @@ SLOTS = _SECTORS_OF_SLOTS * _SECTOR
 # How each sector of a slot begins: letters and format.
 _BEGIN = b"JPSTORE1\0\0\0\x03"
 _HEAD = struct.Struct(">12sIQI")
-_FIELDS = struct.Struct(">QQQQIII")
+_FIELDS = struct.Struct(">QQQQIII16s")
 
 
 class Slot(NamedTuple):
@@ -27,6 +27,7 @@ class Slot(NamedTuple):
     opens: int
     sectors: int
     half: int
+    identity: bytes
     tail: bytes
 
 
@@ -64,11 +65,11 @@ def _valid(place: int, slot: bytes) -> Optional[Slot]:
         content += sector[_HEAD.size:]
     if not content:
         return None
-    length, seq, opens, sectors, half, blocks, _ = _FIELDS.unpack_from(content)
+    length, seq, opens, sectors, half, blocks, _, identity = _FIELDS.unpack_from(content)
     rest = length - blocks * _BLOCK
     if number % 2 != place // 2 or not 0 <= rest <= len(content) - _FIELDS.size:
         return None
-    return Slot(number, length, seq, opens, sectors, half, content[_FIELDS.size:_FIELDS.size + rest])
+    return Slot(number, length, seq, opens, sectors, half, identity, content[_FIELDS.size:_FIELDS.size + rest])
 
 
 def _blocks_of_half(sectors: int) -> int:

@@ -235,6 +235,11 @@ def test_the_files_of_stores_are_made_judged_and_copied(place):
     assert json.loads(told(place, "format", "new", "--sparse", "--format", "3", "--json")) == {
         "capacity": 2038 * 4096, "sectors": 32768}
     assert json.loads(told(place, "upgrade", "new", "--json"))["from"] == 3
+    identity = "00112233445566778899aabbccddeeff"
+    told(place, "format", "named", "--sectors", "512", "--format", "3", "--id", identity)
+    assert json.loads(told(place, "check", "named", "--json"))["id"] == identity
+    assert json.loads(told(place, "copy", "named", "other", "--id", identity[::-1], "--json"))["id"] == identity[::-1]
+    assert "id" not in json.loads(told(place, "check", "store", "--json"))
     assert told(place, "get", "larger", "d") == "1"
 
 

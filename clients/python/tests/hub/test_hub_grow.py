@@ -36,7 +36,7 @@ def test_a_store_grows_while_clients_change_it(place, version):
     os.chmod(place.file, 0o640)
     with Hub(place) as hub, hub.connect() as store:
         store.create("d", {"n": 0}, {"type": "object"})
-        watch = Watch(hub.path, 0)
+        watch, identity = Watch(hub.path, 0), store.status().id
         with Writers(hub, 4) as writers:
             until(lambda: writers.written > 50, "some changes")
             status = store.grow(4096)
@@ -44,6 +44,8 @@ def test_a_store_grows_while_clients_change_it(place, version):
         # In format 3 a half has 248 blocks, of which one is for checks.
         capacity = {2: 4095 // 2 * 512, 3: 247 * 4096}[version]
         assert (status.sectors, status.capacity, status.broken) == (4096, capacity, False)
+        # It is the same store.
+        assert (status.id, identity is None) == (identity, version == 2)
         assert os.stat(place.file).st_size == 4096 * 512
         assert (stat.S_IMODE(os.stat(place.file).st_mode), leftovers(place)) == (0o640, [])
         last, counts = store.status().seq, counts_of(store)
@@ -197,8 +199,10 @@ def test_a_file_grows_in_its_place(place):
     with place.made(512) as store:
         store.group([create("d", {"n": 0}), put(1), create("e", [1])])
     upgrade_file(place.file, 3, place.program)
+    with place.store() as store:
+        identity = store.status().id
     status = grow_file(place.file, 1024, place.program)
-    assert (status.sectors, status.seq, status.documents) == (1024, 3, 2)
+    assert (status.sectors, status.seq, status.documents, status.id) == (1024, 3, 2, identity)
     place.shows("get", "store", "d", output='{"n": 1}\n')
     with open(place.file, "rb") as opened:
         assert opened.read(12)[8:] == (3).to_bytes(4, "big")
@@ -208,7 +212,7 @@ def test_a_file_grows_in_its_place(place):
     with place.store():
         assert "store is in use" in place.run("grow", "store", status=1).stderr.decode()
     os.symlink("store", place.path("link"))
-    assert grow_file(place.path("link"), 4096, place.program).sectors == 4096
+    assert grow_file(place.path("link"), 4096, place.program).id == identity
     assert os.path.islink(place.path("link")) and os.stat(place.file).st_size == 4096 * 512
 
 

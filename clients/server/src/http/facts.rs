@@ -58,11 +58,15 @@ async fn status_of(request: &Request<'_>) -> Result<Status, Problem> {
 pub async fn status(request: &Request<'_>) -> Result<Response, Problem> {
     let [] = parameters(&request.query, [])?;
     let found = status_of(request).await?;
-    let told = Object::new()
+    let mut told = Object::new()
         .json("broken", if found.broken { "true" } else { "false" })
         .number("capacity", found.capacity)
         .number("documents", found.documents)
-        .number("half", found.half)
+        .number("half", found.half);
+    if let Some(identity) = found.identity {
+        told = told.text("id", &format!("{identity:032x}"));
+    }
+    let told = told
         .number("opens", found.opens)
         .number("sectors", found.sectors)
         .number("seq", found.seq)

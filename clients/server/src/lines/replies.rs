@@ -118,6 +118,8 @@ pub struct Status {
     pub documents: u64,
     /// The half in force.
     pub half: u64,
+    /// The identity of a store of format 3; format 2 has none.
+    pub identity: Option<u128>,
     /// How often the store was opened.
     pub opens: u64,
     /// The sectors of the file.
@@ -138,6 +140,7 @@ impl Status {
             capacity: number("capacity")?,
             documents: number("documents")?,
             half: number("half")?,
+            identity: value.get("id").and_then(|id| u128::from_str_radix(id.as_str()?, 16).ok()),
             opens: number("opens")?,
             sectors: number("sectors")?,
             seq: number("seq")?,

@@ -43,6 +43,8 @@ pub struct Larger {
     folder: PathBuf,
     sectors: u64,
     format: u64,
+    /// The identity of the store, in hexadecimal; format 2 has none.
+    identity: String,
     /// How many bytes at the beginning of the other file say what is committed.
     head: usize,
 }
@@ -57,7 +59,7 @@ impl Larger {
         check(&file, &old, sectors)?;
         remove_leftovers(&file);
         let folder = new_folder(&file).map_err(told)?;
-        Ok(Larger { file, old, folder, sectors, format: 0, head: 0 })
+        Ok(Larger { file, old, folder, sectors, format: 0, identity: String::new(), head: 0 })
     }
 
     /// The larger file, until it has the other's name.
@@ -79,6 +81,7 @@ impl Larger {
         let old = self.old.try_clone().map_err(|error| Error::of_path(&self.file, error))?;
         let found = Committed::in_file(old, &self.file)?;
         (self.format, self.head) = (found.format, found.head.len());
+        self.identity = found.identity.iter().map(|byte| format!("{byte:02x}")).collect();
         let base = self.base();
         let told = |error| Error::of_path(&base, error);
         remove_if_there(&base).map_err(told)?;
@@ -88,14 +91,15 @@ impl Larger {
         Ok(found.seq)
     }
 
-    /// Makes the larger file of that, in the same format, unless it is stopped.
+    /// Makes the larger file of that, in the same format, unless it is stopped. It is the same store, so it keeps its
+    /// identity.
     pub async fn copy(&self, program: &Path, stop: &mut watch::Receiver<bool>) -> Result<(), Error> {
         remove_if_there(&self.path()).map_err(|error| Error::of_path(self.path(), error))?;
         let (from, to, sectors) = (self.base(), self.path(), self.sectors.to_string());
         let mut made = Command::new(program);
         made.arg("copy").arg(&from).arg(&to).args(["--sectors", &sectors, "--why"]);
         if self.format > 2 {
-            made.args(["--format", &self.format.to_string()]);
+            made.args(["--format", &self.format.to_string(), "--id", &self.identity]);
         }
         run(made, stop).await?;
         fs::remove_file(&from).map_err(|error| Error::of_path(&from, error))

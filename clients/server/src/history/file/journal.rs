@@ -54,6 +54,8 @@ pub struct Committed {
     pub begin: u64,
     /// The last committed bytes, which format 3 has in the slot.
     tail: Vec<u8>,
+    /// The identity of a store of format 3; format 2 has none.
+    pub identity: Vec<u8>,
 }
 
 fn first_bytes(file: &File, count: usize) -> io::Result<Vec<u8>> {
@@ -101,6 +103,7 @@ impl Committed {
             inode,
             begin: SECTOR + half * capacity,
             tail: Vec::new(),
+            identity: Vec::new(),
             head: sector,
         }
     }
@@ -120,6 +123,7 @@ impl Committed {
             capacity: capacity_of(found.sectors),
             inode,
             begin: begin_of(found.half, found.sectors),
+            identity: found.identity.to_vec(),
             tail: found.tail,
         })
     }

@@ -19,7 +19,7 @@ const BEGIN: &[u8] = b"JPSTORE1\0\0\0\x03";
 /// Before the content of a slot each sector has fields of this length.
 const HEAD: usize = 28;
 /// Before the tail the content has fields of this length.
-const FIELDS: usize = 44;
+const FIELDS: usize = 60;
 
 /// The remainders of all bytes, by the polynomial of CRC-32C.
 const REMAINDERS: [u32; 256] = remainders();
@@ -59,6 +59,8 @@ pub struct Slot {
     pub sectors: u64,
     /// The half in force.
     pub half: u64,
+    /// The identity of the store.
+    pub identity: [u8; 16],
     /// The committed bytes after the blocks in the half.
     pub tail: Vec<u8>,
 }
@@ -87,6 +89,7 @@ fn valid(place: u64, slot: &[u8]) -> Option<Slot> {
     let (length, blocks) = (number(&fields[..8]), number(&fields[36..40]));
     let rest = usize::try_from(length.checked_sub(blocks * BLOCK)?).ok()?;
     let tail = content.get(FIELDS..FIELDS.checked_add(rest)?)?.to_vec();
+    let identity = fields[44..].try_into().ok()?;
     (commit % 2 == place / 2).then(|| Slot {
         number: commit,
         length,
@@ -94,6 +97,7 @@ fn valid(place: u64, slot: &[u8]) -> Option<Slot> {
         opens: number(&fields[16..24]),
         sectors: number(&fields[24..32]),
         half: number(&fields[32..36]),
+        identity,
         tail,
     })
 }
@@ -156,6 +160,7 @@ mod tests {
         for places in [&[64, 96][..], &[64], &[96]] {
             let slot = counting(&slots(&shown(), places)).unwrap();
             assert_eq!((slot.number, slot.length, slot.seq, slot.opens, slot.sectors, slot.half), (3, 67, 1, 1, 160, 0));
+            assert_eq!(slot.identity, *b"\0\x01\x02\x03\x04\x05\x06\x07\x08\x09\x0a\x0b\x0c\x0d\x0e\x0f");
             assert!(slot.tail.ends_with(b",\"schema\":true}"));
         }
     }
