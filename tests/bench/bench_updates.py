@@ -23,7 +23,7 @@ from bench_lines import Program, create, formatted, in_memory, line_of, patch, r
 
 SECTOR, BLOCK = 512, 4_096
 # The first sector after the slots, the sectors of a slot, and the bytes of the tail in its first sector and in each other.
-SLOTS_END, SLOT, FIRST_BYTES, SECTOR_BYTES = 128, 32, 440, 484
+SLOTS_END, SLOT, FIRST_BYTES, SECTOR_BYTES = 128, 32, 424, 484
 # The bytes of a frame before its body.
 FRAME_HEAD = 12
 NUMBERS = 900_000

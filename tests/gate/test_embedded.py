@@ -291,8 +291,11 @@ class Embedded:
             for file in files:
                 if os.path.exists(file):
                     os.remove(file)
-            run([self.program, "format", files[0], "--sectors", "4096", "--format", version])
             run([session, "0", "format", files[1], "4096", version])
+            with open(files[1], "rb") as made:
+                # In format 3 the library drew this identity.
+                identity = ["--id", made.read(88)[72:].hex()] if version == "3" else []
+            run([self.program, "format", files[0], "--sectors", "4096", "--format", version, *identity])
             wanted = run([self.program, "serve", files[0], *options], given=data)
             same("a file's session", run([session, "1000", "serve", files[1], batch, pump], given=data), wanted)
             contents = [open(file, "rb").read() for file in files]

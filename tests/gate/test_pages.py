@@ -90,8 +90,9 @@ def parts_of_format():
 
 def a_store_has_the_bytes_that_format_shows(place):
     second, third, _ = parts_of_format()
-    assert (len(second), len(third)) == (9, 9)
-    for sectors, option, shown in ((16, "", second), (160, " --format 3", {**third, **{at + 32 * SECTOR: row for at, row in third.items()}})):
+    assert (len(second), len(third)) == (9, 10)
+    third_words = " --format 3 --id 000102030405060708090a0b0c0d0e0f"
+    for sectors, option, shown in ((16, "", second), (160, third_words, {**third, **{at + 32 * SECTOR: row for at, row in third.items()}})):
         place.store().unlink(missing_ok=True)
         assert place.run(f"jpstore format store --sectors {sectors}{option} && jpstore serve store", CREATE).returncode == 0
         contents = place.store().read_bytes()

@@ -101,11 +101,15 @@ class Jpstore:
 # A half of 16 sectors has 7, and one of 300 sectors 149, in format 2. In format 3 it has 80: ten blocks, of which one is kept free.
 CAPACITIES = {(16, 2): 7 * 512, (300, 2): 149 * 512, (300, 3): 9 * 4096}
 
+# The identity of a store of format 3, and that of another.
+IDENTITY, OTHER = "0123456789abcdef0123456789abcdef", "fedcba9876543210fedcba9876543210"
 
-def status_line(documents, opens, seq, used, half=0, sectors=16, version=2, slots=None):
+
+def status_line(documents, opens, seq, used, half=0, sectors=16, version=2, slots=None, identity=IDENTITY):
+    told = f'"id":"{identity}",' if version == 3 else ""
     found = f'"slots":"{slots}",' if slots else ""
     return (
-        f'{{"broken":false,"capacity":{CAPACITIES[sectors, version]},"documents":{documents},"half":{half},"ok":true,"opens":{opens},'
+        f'{{"broken":false,"capacity":{CAPACITIES[sectors, version]},"documents":{documents},"half":{half},{told}"ok":true,"opens":{opens},'
         f'"sectors":{sectors},"seq":{seq},{found}"used":{used}}}\n'
     )
 
@@ -347,13 +351,40 @@ def a_store_is_copied_into_either_format(jpstore):
     jpstore.fails("copy", jpstore.file, new, "--sectors", "159", "--format", "3", errors="jpstore: small (71)\n")
     if os.path.exists(new):
         raise Wrong("a file without a store was left")
-    jpstore.shows("copy", jpstore.file, new, *BOTH, "--format", "3", output=status_line(1, 3, 2, 67, sectors=300, version=3))
+    jpstore.shows("copy", jpstore.file, new, *BOTH, "--format", "3", "--id", IDENTITY, output=status_line(1, 3, 2, 67, sectors=300, version=3))
     questions = '{"cmd":"rev","name":"d"}\n{"cmd":"get","name":"d","path":""}\n'
     jpstore.shows("serve", new, given=questions, output='{"ok":true,"rev":2}\n{"ok":true,"value":{"a":1}}\n')
     jpstore.shows("upgrade", new, output=upgraded(3, 3))
     # And back, from that of format 3.
     jpstore.shows("copy", new, third, *SIXTEEN, "--format=2", output=status_line(1, 6, 2, 67))
     jpstore.shows("upgrade", third, "--format", "2", output=upgraded(2, 2))
+
+
+def identity_of(jpstore, file):
+    return json.loads(jpstore.run("serve", file, given='{"cmd":"status"}\n').stdout).get("id")
+
+
+def a_store_of_format_3_keeps_its_identity(jpstore):
+    """Through changes, snapshots and openings; a copy and an upgrade get another one, and format 2 has none."""
+    new, third = os.path.join(jpstore.folder, "new"), os.path.join(jpstore.folder, "third")
+    jpstore.run("format", jpstore.file, *BOTH, "--format", "3", "--id", IDENTITY)
+    for given in (CREATE, '{"cmd":"snapshot"}\n', '{"cmd":"patch","name":"d","ops":[]}\n{"cmd":"pump","max":9}\n', '{"cmd":"seal"}\n'):
+        jpstore.run("serve", jpstore.file, given=given)
+        if identity_of(jpstore, jpstore.file) != IDENTITY:
+            raise Wrong(f"another identity after {given}")
+    jpstore.run("upgrade", jpstore.file, "--id", OTHER)
+    if identity_of(jpstore, jpstore.file) != IDENTITY:
+        raise Wrong("an upgrade that had nothing to do changed the identity")
+    drawn = set()
+    for name in (new, third):
+        jpstore.run("copy", jpstore.file, name, *BOTH, "--format", "3")
+        drawn.add(identity_of(jpstore, name))
+    if len(drawn | {IDENTITY, None}) != 4 or any(len(identity) != 32 for identity in drawn):
+        raise Wrong(f"the copies have {drawn}")
+    for words, identity in ((["--format", "2"], None), (["--id", OTHER], OTHER), (["--format", "2", "--id", IDENTITY], None)):
+        jpstore.run("upgrade", jpstore.file, *words)
+        if identity_of(jpstore, jpstore.file) != identity:
+            raise Wrong(f"another identity after an upgrade by {words}")
 
 
 def a_store_in_use_is_not_copied(jpstore):
@@ -446,7 +477,7 @@ def a_store_of_format_1_is_brought_to_format_3(jpstore):
     os.unlink(jpstore.file)
     # The same bytes are a store of 300 sectors, if it says so: half 0 is in force.
     jpstore.put(small[:40] + (300).to_bytes(8, "big") + small[48:] + bytes((300 - 16) * 512))
-    jpstore.shows("upgrade", jpstore.file, output=upgraded(3, 2))
+    jpstore.shows("upgrade", jpstore.file, "--id", IDENTITY.upper(), output=upgraded(3, 2))
     jpstore.shows("check", jpstore.file, output=status_line(2, 3, 6, 168, half=0, sectors=300, version=3, slots="whole"))
 
 
@@ -460,7 +491,7 @@ def damaged_slots(image, slots):
 
 def what_the_slots_say_is_told(jpstore):
     """Of each number of damaged slots: what is said, what is there, and how many openings it takes until all is whole."""
-    jpstore.run("format", jpstore.file, *BOTH, "--format", "3")
+    jpstore.run("format", jpstore.file, *BOTH, "--format", "3", "--id", IDENTITY)
     jpstore.shows("serve", jpstore.file, given=CREATE, output=DONE)
     jpstore.serves_until_killed('{"cmd":"delete","name":"d"}\n', '{"ok":true,"seq":2}\n')
     image = jpstore.contents()
@@ -706,6 +737,8 @@ def words_that_are_no_call_end_with_2(jpstore):
         "mem --sectors 16 --why", "check f --why --why", "check f --strict=yes", "check f --strict --strict", "repair", "repair f g", "repair f --strict",
         "copy f g --sectors 16 --strict", "serve f --why=yes", "check f --mode 600", "copy f g --sectors 16 --mode 600",
         "format f --sectors 16 --mode", "format f --sectors 16 --mode 8", "format f --sectors 16 --mode 600 --mode 600",
+        "format f --sectors 160 --id", "format f --sectors 160 --id 0", f"format f --sectors 160 --id {IDENTITY}0", f"format f --sectors 160 --id {IDENTITY[:-1]}g",
+        f"copy f g --sectors 160 --id {IDENTITY[1:]}", f"upgrade f --id -{IDENTITY[1:]}", f"check f --id {IDENTITY}", f"serve f --id {IDENTITY}",
     ]
     for call in calls:
         ended = jpstore.run(*call.split())
@@ -821,6 +854,7 @@ TESTS = [
     a_new_file_on_a_full_disk_is_not_made,
     a_store_is_brought_to_format_3_and_back,
     a_store_of_format_1_is_brought_to_format_3,
+    a_store_of_format_3_keeps_its_identity,
     what_the_slots_say_is_told,
     formats_1_and_2_have_no_slots,
     formats_read_their_keywords,

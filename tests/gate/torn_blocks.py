@@ -36,7 +36,8 @@ from debian_packages import install
 
 SECTOR, BLOCK = 512, 4096
 SECTORS = 256
-FIELDS = 72  # Of the first sector of a slot; the later ones have fewer.
+IDENTITY = "0123456789abcdef" * 2
+FIELDS = 88  # Of the first sector of a slot; the later ones have fewer.
 MOST_IMAGES = 243  # Of one stop: every combination of five blocks. Of more blocks some combinations are left to chance.
 MIXED_IMAGES = 12  # Of one stop, sector by sector.
 REOPENED = 60
@@ -340,7 +341,7 @@ def main():
     chance, states = random.Random(1), States()
     with tempfile.TemporaryDirectory() as folder:
         store = os.path.join(folder, "store")
-        subprocess.run([program, "format", store, "--sectors", str(SECTORS), "--format", "3"], check=True, stdout=subprocess.DEVNULL)
+        subprocess.run([program, "format", store, "--sectors", str(SECTORS), "--format", "3", "--id", IDENTITY], check=True, stdout=subprocess.DEVNULL)
         with open(store, "rb") as file:
             image = file.read()
         opener = Opener(program, folder, states)
