@@ -1,17 +1,19 @@
-"""A back end for orders with prices such as 19.99, by aiohttp: a document an hour, amounts as whole numbers.
+"""A back end for orders with prices such as 19.99, by aiohttp: a document an order, amounts as whole numbers.
 
     orders.py SOCKET PORT
 
-SOCKET is that of a hub. `POST /orders` with the field `Idempotency-Key` takes an order, `GET /orders/HOUR` lists those
-of an hour, and `GET /orders/HOUR/KEY` has one.
+SOCKET is that of a hub; in a store of format 3 there is room for 65,536 documents. `POST /orders` with the field
+`Idempotency-Key` takes an order, `GET /orders/KEY` has one, and `GET /customers/NAME` those of a customer.
+`POST /payments` keeps what a payment provider says, one time for each `id`.
 """
+import asyncio
 import json
+import re
 import sys
-import time
 from decimal import Decimal
 
 from aiohttp import web
-from jpstore import AsyncStore, Conflict, Invalid, NotFound, Scaled, patch
+from jpstore import AsyncStore, Conflict, Ended, Invalid, NotFound, Scaled, create, patch
 
 MONEY = Scaled(price=2, total=2)
 LINE = {
@@ -19,33 +21,53 @@ LINE = {
     "properties": MONEY.schema(sku={"type": "string", "minLength": 1}, count={"type": "integer", "minimum": 1},
                                price={"type": "integer", "minimum": 0}),
 }
-HOUR = {"additionalProperties": {
-    "type": "object", "required": ["lines", "total_e2", "state"],
+ORDER = {
+    "type": "object", "required": ["customer", "lines", "total_e2", "state"],
     "properties": MONEY.schema(
-        lines={"type": "array", "minItems": 1, "maxItems": 100, "items": LINE},
+        customer={"type": "string"}, lines={"type": "array", "minItems": 1, "maxItems": 100, "items": LINE},
         total={"type": "integer", "minimum": 0}, state={"enum": ["open", "sent"]}),
-}}
+}
+
+#: Seconds for which a request waits for the store.
+PATIENCE = 10
+
+# Part of a name, which has at most 64 characters.
+_KEY = re.compile(r"[A-Za-z0-9_.-]{1,50}")
 
 
-def hour_now():
-    return time.strftime("orders-%Y-%m-%d-%H", time.gmtime())
+class Wrong(Exception):
+    """A request that can't be taken: its status and why."""
+
+
+def checked(key, what):
+    if not _KEY.fullmatch(key or ""):
+        raise Wrong(400, f"{what} has 1 to 50 letters, digits, `.`, `_` and `-`")
+    return key
 
 
 def stored_order(text):
     """The order in a request, as the store has it; its total is reckoned here."""
     order = json.loads(text, parse_float=Decimal)
     total = sum(Decimal(line["price"]) * line["count"] for line in order["lines"])
-    return MONEY.stored({"lines": order["lines"], "total": total, "state": "open"})
+    customer = checked(order["customer"], "`customer`")
+    return MONEY.stored({"customer": customer, "lines": order["lines"], "total": total, "state": "open"})
 
 
 async def keep(store, key, order):
-    """Keeps an order, one time for each key."""
-    hour = hour_now()
-    try:
-        await store.create(hour, {}, HOUR)
-    except Conflict:
-        pass  # Another request was first in this hour.
-    await store.once(key, [patch(hour, [{"op": "add", "path": f"/{key}", "value": order}])], notes="once-web")
+    """Keeps an order and its customer's list, one time for each key: what is kept, and whether this call did it."""
+    name, index = f"order-{key}", f"customer-{order['customer']}"
+    changes = [create(name, order, ORDER), patch(index, [{"op": "add", "path": "/-", "value": key}])]
+    while True:
+        try:
+            await store.transaction(changes)
+            return order, True
+        except Conflict:
+            return await store.get(name), False  # An earlier try has made it.
+        except NotFound:
+            try:
+                await store.create(index, [], {"items": {"type": "string"}})
+            except Conflict:
+                pass  # Another request made the customer's list.
 
 
 class Orders:
@@ -53,49 +75,67 @@ class Orders:
         self._store = store
 
     async def take(self, request):
-        key = request.headers.get("Idempotency-Key", "")
-        if not (key.isalnum() and len(key) <= 64):
-            return problem(400, "send `Idempotency-Key`, of up to 64 letters and digits")
-        try:
-            order = stored_order(await request.text())
-        except (ValueError, KeyError, TypeError, ArithmeticError) as error:
-            return problem(400, str(error))
-        try:
-            await keep(self._store, key, order)
-        except Invalid as refused:
-            return problem(422, "; ".join(map(str, refused.why())))
-        return web.json_response({"key": key, "total": str(MONEY.read(order)["total"])}, status=201)
-
-    async def hour(self, request):
-        return await self._answer(request, "")
+        key = checked(request.headers.get("Idempotency-Key"), "the field `Idempotency-Key`")
+        order = stored_order(await request.text())
+        kept, is_new = await keep(self._store, key, order)
+        if {**kept, "state": "open"} != order:
+            raise Wrong(409, "another order came with this key")
+        return shown({"key": key, **MONEY.read(kept)}, 201 if is_new else 200)
 
     async def one(self, request):
-        return await self._answer(request, "/" + request.match_info["key"])
+        return shown(MONEY.read(await self._store.get("order-" + checked(request.match_info["key"], "a key"))))
 
-    async def _answer(self, request, place):
+    async def customer(self, request):
+        keys = await self._store.get("customer-" + checked(request.match_info["name"], "a name"))
+        orders = await asyncio.gather(*(self._store.get(f"order-{key}") for key in keys))
+        return shown([MONEY.read(order) for order in orders])
+
+    async def pay(self, request):
+        # All its digits are kept, as texts; what is compared or added up is a whole number beside it.
+        message = json.loads(await request.text(), parse_float=str)
+        name = "payment-" + checked(message["id"], "`id`")
+        cents = MONEY.stored({"price": Decimal(message["amount"])})["price_e2"]
         try:
-            found = await self._store.get(f"orders-{request.match_info['hour']}", place)
-        except NotFound:
-            return problem(404, "there is no such order")
-        return web.json_response(MONEY.read(found), dumps=lambda value: json.dumps(value, default=str))
+            await self._store.create(name, {"amount_e2": cents, "message": message})
+        except Conflict:
+            pass  # The provider sends a message until it is answered.
+        return shown({})
 
 
-def problem(status, text):
-    return web.json_response({"status": status, "detail": text}, status=status)
+def shown(value, status=200):
+    return web.json_response(value, status=status, dumps=lambda value: json.dumps(value, default=str))
+
+
+@web.middleware
+async def with_problems(request, handler):
+    """Says why a request failed, and whether it may be sent again."""
+    try:
+        return await asyncio.wait_for(handler(request), PATIENCE)
+    except Wrong as wrong:
+        status, text = wrong.args
+    except Invalid as refused:
+        status, text = 422, "; ".join(map(str, refused.why()))
+    except NotFound:
+        status, text = 404, "there is nothing of this name"
+    except (Ended, asyncio.TimeoutError):
+        status, text = 503, "perhaps it is stored: send it again, with the same key"
+    except (ValueError, KeyError, TypeError, ArithmeticError) as error:
+        status, text = 400, str(error)
+    return shown({"status": status, "detail": text}, status)
 
 
 async def application(path):
-    app = web.Application()
+    app = web.Application(middlewares=[with_problems])
 
     async def with_store(_):
         async with AsyncStore.connect(path, wait=20) as store:
-            orders = Orders(store)
-            app.update(orders=orders)
+            app.update(orders=Orders(store))
             yield
     app.cleanup_ctx.append(with_store)
     app.router.add_post("/orders", lambda request: app["orders"].take(request))
-    app.router.add_get("/orders/{hour}", lambda request: app["orders"].hour(request))
-    app.router.add_get("/orders/{hour}/{key}", lambda request: app["orders"].one(request))
+    app.router.add_get("/orders/{key}", lambda request: app["orders"].one(request))
+    app.router.add_get("/customers/{name}", lambda request: app["orders"].customer(request))
+    app.router.add_post("/payments", lambda request: app["orders"].pay(request))
     return app
 
 

@@ -1,4 +1,5 @@
 """The programs of clients/python/examples do what they say, over a hub that is killed in the midst."""
+import concurrent.futures
 import contextlib
 import http.client
 import json
@@ -12,6 +13,7 @@ import time
 
 import pytest
 from hubs import Hub
+from jpstore import format_file
 from support import PACKAGE, PATIENCE, until
 
 
@@ -90,22 +92,42 @@ def answers(port):
         return ask(port, "GET", "/orders/none")[0] == 404
 
 
+def many(port, count):
+    """The statuses of orders of several customers at once, each sent twice."""
+    def order(number):
+        body = '{"customer": "c%d", "lines": [{"sku": "a", "count": 1, "price": 19.99}]}' % (number % 5)
+        return [ask(port, "POST", "/orders", body, f"many-{number}")[0] for _ in range(2)]
+    with concurrent.futures.ThreadPoolExecutor(20) as clients:
+        return list(clients.map(order, range(count)))
+
+
+@pytest.mark.time_limit(2 * PATIENCE)
 def test_the_back_end_for_orders(place):
     for library in ("aiohttp", "jsonschema", "jsonpatch"):
         pytest.importorskip(library)
-    place.format()
+    format_file(place.file, 4096, place.program, version=3)
     with Hub(place) as hub, back_end(place, hub) as port:
         until(lambda: answers(port), "the back end")
-        order = '{"lines": [{"sku": "a", "count": 3, "price": 19.99}, {"sku": "b", "count": 1, "price": 5}]}'
-        for _ in range(2):
-            assert ask(port, "POST", "/orders", order, "k1") == (201, {"key": "k1", "total": "64.97"})
+        order = ('{"customer": "ann", "lines": [{"sku": "a", "count": 3, "price": 19.99}, {"sku": "b", "count": 1, '
+                 '"price": 5}]}')
+        for status in (201, 200):
+            answered, found = ask(port, "POST", "/orders", order, "k1")
+            assert (answered, found["key"], found["total"]) == (status, "k1", "64.97")
+        assert ask(port, "POST", "/orders", order.replace("3", "4"), "k1")[0] == 409
         with hub.connect() as store:
-            hour, = store.names("orders-")
-            assert list(store.get(hour)) == ["k1"] and store.get(hour, "/k1/total_e2") == 6497
-        status, found = ask(port, "GET", f"/orders/{hour.partition('-')[2]}/k1")
+            assert store.names("order-") == ["order-k1"] and store.get("order-k1", "/total_e2") == 6497
+        status, found = ask(port, "GET", "/orders/k1")
         assert (status, found["total"], found["lines"][0]["price"]) == (200, "64.97", "19.99")
         status, refused = ask(port, "POST", "/orders", order.replace("19.99", "19.995"), "k2")
         assert status == 400 and "/lines/0/price: 19.995 has more than 2 places" in refused["detail"]
         status, refused = ask(port, "POST", "/orders", order.replace('"count": 3', '"count": 0'), "k2")
         assert status == 422 and "0 is less than the minimum of 1" in refused["detail"]
         assert ask(port, "POST", "/orders", order)[0] == 400
+        payment = '{"id": "p1", "amount": 64.97, "position": [48.20849, 16.37208]}'
+        assert [ask(port, "POST", "/payments", payment)[0] for _ in range(2)] == [200, 200]
+        assert many(port, 100) == [[201, 200]] * 100
+        assert [len(ask(port, "GET", f"/customers/{name}")[1]) for name in ("ann", "c0", "c4")] == [1, 20, 20]
+        with hub.connect() as store:
+            assert len(store.names("order-")) == 101
+            assert store.get("payment-p1") == {
+                "amount_e2": 6497, "message": {"id": "p1", "amount": "64.97", "position": ["48.20849", "16.37208"]}}
