@@ -223,7 +223,8 @@ ADVICE: Dict[str, str] = {
                "`jpstore-cli hub FILE --socket PATH` serves one at a socket",
     "folder": "name a file in it",
     "denied": "a store is read and written by its owner, even to look at it, and made in a folder of theirs: run this "
-              "as that user, or change the rights of the file and its folder (`chmod`, `chown`)",
+              "as that user, or change the rights of the file and its folder (`chmod`, `chown`); `jpstore dump FILE "
+              "--read-only` needs no right to write",
     "read-only": "copy the file to a file system that can be written",
     "descriptors": "close files, or raise the limit (`ulimit -n`)",
     "no-space": "make room, or choose a smaller size; `--sparse` leaves the room to be taken later",

@@ -212,6 +212,17 @@ def _check_store(parser: argparse.ArgumentParser, first: str, others: Sequence[s
                      "makes one)")
 
 
+def _parsed(parser: argparse.ArgumentParser, given: Sequence[str]) -> argparse.Namespace:
+    """What the words ask for; it ends if they are refused, or after a help text."""
+    try:
+        options, left = parser.parse_known_args(_with_command(parser, given))
+    except BrokenPipeError:
+        sys.exit(_unread())
+    if left:
+        _refuse_words(options, left)
+    return options
+
+
 def main(words: Optional[Sequence[str]] = None) -> int:
     """Does what the words of the command line say, and returns the exit status."""
     parser = _parser()
@@ -222,9 +233,7 @@ def main(words: Optional[Sequence[str]] = None) -> int:
         pass
     given = sys.argv[1:] if words is None else words
     _Parser.as_json = "--json" in given
-    options, left = parser.parse_known_args(_with_command(parser, given))
-    if left:
-        _refuse_words(options, left)
+    options = _parsed(parser, given)
     _prepare_streams()
     warnings.simplefilter("always", JpstoreWarning)
     warnings.showwarning = _show_warning
@@ -233,9 +242,7 @@ def main(words: Optional[Sequence[str]] = None) -> int:
         sys.stdout.flush()
         return status or 0
     except BrokenPipeError:
-        # Nobody reads what is left, nor an error about it.
-        os.dup2(os.open(os.devnull, os.O_WRONLY), sys.stdout.fileno())
-        return 1
+        return _unread()
     except KeyboardInterrupt:
         print("interrupted", file=sys.stderr)
         return 130
@@ -248,6 +255,12 @@ def main(words: Optional[Sequence[str]] = None) -> int:
             error = JpstoreError(f"standard input or output: {error.strerror or error}")
         print(_told(error) if getattr(options, "json", False) else shown_error(error), file=sys.stderr)
         return exit_status(error)
+
+
+def _unread() -> int:
+    """The exit status if nobody reads what is left, nor an error about it."""
+    os.dup2(os.open(os.devnull, os.O_WRONLY), sys.stdout.fileno())
+    return 1
 
 
 def _prepare_streams() -> None:

@@ -15,7 +15,7 @@ from ..watch import Watch
 from ..wire.commands import set_schema
 from .display import members_of, printable, shown, shown_status
 from .file_commands import FILE_COMMANDS
-from .opening import Row, Word, opened, program_of, value_in, value_of_word
+from .opening import Row, Word, opened, program_of, value_in, value_of_word, wait_for
 from .printing import accepted, print_record, said
 from .shell import run_shell
 
@@ -195,7 +195,8 @@ def _watch(words: argparse.Namespace) -> None:
 
 
 def _follow(words: argparse.Namespace) -> None:
-    with opened(words) as store:
+    # A file, or nothing, is refused as `watch` does it.
+    with Store.connect(words.store, wait=wait_for(words), timeout=getattr(words, "timeout", None)) as store:
         for latest in store.follow(words.name, words.pointer):
             print_record({"rev": None} if latest is None else vars(latest))
 

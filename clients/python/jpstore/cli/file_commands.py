@@ -1,11 +1,13 @@
 """The sub-commands that make, judge and copy the files of stores."""
 import argparse
+import errno
 import os
 import re
 from typing import Dict, List, Tuple
 
 from ..dump import grow, grow_file
 from ..errors import JpstoreError, accessing
+from ..refusals import ADVICE
 from ..sizes import sectors_of_size
 from ..wire.program import check_file, copy_file, format_file, upgrade_file
 from ..wire.store_file import SECTOR
@@ -26,7 +28,7 @@ def _mode(text: str) -> int:
 
 
 def _sectors_in(file: str) -> int:
-    with accessing(file):
+    with accessing(file, {errno.ENOENT: ADVICE["missing"]}):
         return os.stat(file).st_size // SECTOR
 
 

@@ -3,6 +3,7 @@ import cmd
 import contextlib
 import inspect
 import os
+import re
 import sys
 from typing import Any, Callable, ContextManager, List, Optional, Sequence, Union
 
@@ -58,6 +59,8 @@ class Shell(cmd.Cmd):
     def do_ls(self, line: str) -> str:
         """ls [--prefix PREFIX]: the names of the documents, in the order of creation."""
         prefix, rest = option_and_rest(line, "--prefix")
+        if rest and prefix is None:
+            raise Usage(f"what is `{rest}` for? `ls --prefix PREFIX` lists the names that begin with it")
         nothing_more(rest)
         return "\n".join(self.store.names(prefix or ""))
 
@@ -77,6 +80,8 @@ class Shell(cmd.Cmd):
         """
         name, query = word_and_rest(line, "NAME")
         prefix, query = option_and_rest(query, "--prefix") if name == "--all" else (None, query)
+        if name == "--all" and re.search(r"[^'\"]\s--prefix\s+\S+$", query):
+            raise Usage("`--prefix PREFIX` comes before the query: `find --all --prefix PREFIX QUERY`")
         if not query:
             raise Usage("QUERY is missing")
         if name == "--all":
@@ -85,7 +90,10 @@ class Shell(cmd.Cmd):
         return "\n".join(map(_told, self.store.query(name, query)))
 
     def do_new(self, line: str) -> str:
-        """new NAME [SCHEMA-FILE] DOC, or new NAME [SCHEMA-FILE] < FILE: makes a document: `new shelf {"bolts": 40}`."""
+        """new NAME [SCHEMA-FILE] DOC, or new NAME [SCHEMA-FILE] < FILE: makes a document: `new shelf {"bolts": 40}`.
+
+        The schema may also be given as on the command line, by `--schema FILE`.
+        """
         name, rest = word_and_rest(line, "NAME")
         schema, doc = schema_and_doc(rest)
         if self._draft is None:

@@ -85,7 +85,8 @@ def value_of(text: str, what: str = "VALUE") -> Any:
     try:
         return value_of_text(text)
     except JpstoreError as error:
-        raise Usage(f"`{text}` is {error}") from None
+        late = re.search(r"\s(--[a-z-]+)(\s+\S+)?$", text) if what in ("DOC", "PATCH") else None
+        raise Usage(f"`{text}` is {error}" + (f" (`{late.group(1)}` comes before {what})" if late else "")) from None
 
 
 def value_in(file: str) -> Any:
@@ -98,7 +99,14 @@ def value_in(file: str) -> Any:
 
 
 def schema_and_doc(rest: str, without: Any = True) -> Tuple[Any, Any]:
-    """The words of `new` and `put`: `[SCHEMA-FILE] DOC` or `[SCHEMA-FILE] < FILE`, and `without` if no file is."""
+    """The words of `new` and `put`: `[SCHEMA-FILE] DOC` or `[SCHEMA-FILE] < FILE`, and `without` if no file is.
+
+    As on the command line, `--schema FILE` may come before or after DOC.
+    """
+    has_option, rest = flag_and_rest(rest, "--schema")
+    found = None if has_option else re.fullmatch(r"(.*\S)\s+--schema\s+(\S+)", rest)
+    if found and _json_or_none(found.group(1)) is not None:
+        rest = f"{found.group(2)} {found.group(1)}"
     doc = _json_or_none(rest)
     if doc is not None:
         return without, doc[0]

@@ -220,7 +220,7 @@ def told_pattern(pattern: str, none: NoPattern) -> str:
 
 
 def _told_loop(loop: List[Trail]) -> str:
-    way = " then ".join(place_in(pointer_of(trail)) for trail in loop[:_MOST_STEPS])
+    way = " then ".join(place_in(pointer_of(trail)) if trail else "from the root" for trail in loop[:_MOST_STEPS])
     more = f" then {len(loop) - _MOST_STEPS:,} more" if len(loop) > _MOST_STEPS else ""
     return f"the way {way}{more} leads back to it for the same value: put `properties` or `items` between"
 

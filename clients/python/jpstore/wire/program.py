@@ -17,6 +17,9 @@ __all__ = [
     "path_word", "serve_words", "upgrade_file", "version_of",
 ]
 
+_HOW_TO_GET = ("it is in the Debian package jpstore, and `./build` of a clone puts it into `crates/jpstore/out`; "
+               "`--program PATH`, or in Python `program=PATH`, names one at another place")
+
 #: A path of a file or a socket.
 Path = Union[str, "os.PathLike[str]"]
 
@@ -26,7 +29,8 @@ def find_program(program: Optional[Path] = None) -> str:
     named = os.fspath(program) if program is not None else "jpstore"
     found = shutil.which(named)
     if found is None:
-        raise JpstoreError(f"{named} is not {'a program' if program is not None else 'on PATH'}")
+        where = "a program" if program is not None else "on PATH"
+        raise JpstoreError(f"{named} is not {where}" + ("" if program is not None else f": {_HOW_TO_GET}"))
     return found
 
 

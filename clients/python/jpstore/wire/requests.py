@@ -81,9 +81,10 @@ def change(command: Command, if_rev: Optional[int] = None) -> Request[int]:
 
 def transaction(changes: Sequence[Command]) -> Request[int]:
     """Changes, all or none; the number of the last."""
-    for command in changes:
+    for place, command in enumerate(changes):
         if not is_change(command):
-            raise JpstoreError("a transaction has changes only: create, patch, schema and delete")
+            known = "a transaction has changes only: create, patch, schema and delete"
+            raise JpstoreError(f"{known}; `cmd` of change {place}, counted from 0, is none of them")
         warn_of_command(command)
     return _numbered([commands.transaction(changes)])
 

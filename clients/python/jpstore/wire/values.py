@@ -8,7 +8,7 @@ from .limits import MOST_DEPTH
 __all__ = ["LEAST", "MOST", "WHOLE", "canonical", "check_value", "escaped", "text_of"]
 
 #: What to do about a fraction in a document.
-WHOLE = "send a whole number, or a text"
+WHOLE = "send a whole number, as 1999 cents or 25 percent, or a text"
 
 #: The least and the greatest number of a document.
 LEAST, MOST = -(1 << 63), (1 << 63) - 1

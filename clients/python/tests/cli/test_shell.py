@@ -88,6 +88,14 @@ def test_commands_are_done(place):
     place.shows("store", given=LINES.encode(), output=SHOWN)
 
 
+def test_a_schema_is_given_as_on_the_command_line_too(place):
+    place.format()
+    place.text("counts.json", '{"items":{"type":"integer"}}')
+    lines = b"new a [1] --schema counts.json\nput b --schema counts.json [2]\nnew c \"--schema d\"\n"
+    kept = '{"items": {"type": "integer"}}\n'
+    place.shows("store", given=lines + b"schema a\nschema b\n", output=f"done, change 1\ndone, change 2\ndone, change 3\n{2 * kept}")
+
+
 def test_a_refusal_is_shown_with_what_to_do(place):
     place.format()
     place.shows("store", given=b"cat shelf\nnew d 1\n", output="done, change 1\n", status=1,
@@ -111,12 +119,17 @@ def test_what_is_no_command_is_told(place):
         (b"rm d --if-rev", "the value of --if-rev is missing\n"), (b"rm d /a /b", "what is `/b` for?\n"),
         (b"schema a b c", "what is `c` for?\n"),
         (b"schema --prefix x --to nowhere", "no document's name begins with x\n"),
-        (b"ls x", "what is `x` for?\n"),
+        (b"ls x", "what is `x` for? `ls --prefix PREFIX` lists the names that begin with it\n"),
         (b"cat", "NAME is missing\n"),
         (b"cat \"d", "NAME has no closing quote: \"d\n"),
         (b"new d", "DOC is missing\n"), (b"set d /a", "VALUE is missing\n"), (b"find d", "QUERY is missing\n"),
         (b"new d abc", "`abc` is not JSON: line 1, column 1: Expecting value (a text needs double quotes: \"abc\")\n"),
-        (b"new d 1.5", "create d: /doc: 1.5 is not a whole number: send a whole number, or a text\n"),
+        (b"new d 1.5", "create d: /doc: 1.5 is not a whole number: send a whole number, as 1999 cents or 25 percent, "
+                       "or a text\n"),
+        (b"put d [1] --if-rev 3", "`[1] --if-rev 3` is not JSON: line 1, column 5: Extra data (`--if-rev` comes before "
+                                  "DOC)\n"),
+        (b"find --all $[0] --prefix d",
+         "`--prefix PREFIX` comes before the query: `find --all --prefix PREFIX QUERY`\n"),
         (b"schema d nowhere", "nowhere: No such file or directory\n"),
         *((line, "the name of a file has no NUL\n") for line in (b"schema d a\0b", b"new d < a\0b", b"new d a\0b 1")),
         (b"new d \"\xff\"", "create d: /doc: '\\udcff' has half of a surrogate pair\n"),

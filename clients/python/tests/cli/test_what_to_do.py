@@ -39,6 +39,10 @@ def test_a_file_that_cannot_be_made_or_opened(place):
          "`python3 -m jpstore format FILE` makes a store"),
         (["format", "nowhere/store"], "nowhere/store: No such file or directory", "whose folder must exist"),
         (["check", "folder"], "folder: Is a directory", "name a file in it"),
+        (["copy", "nowhere", "new"], "nowhere: No such file or directory", "compare the path"),
+        (["grow", "nowhere"], "nowhere: No such file or directory", "compare the path"),
+        (["follow", "nowhere", "d"], "nowhere: No such file or directory", "no hub serves here"),
+        (["follow", "store", "d"], "store: this is not the socket of a hub", "name the PATH that the hub"),
     ]
     for words, cause, advice in rows:
         shown = told(place, *words, status=1)
@@ -52,6 +56,7 @@ def test_a_file_that_may_not_be_written(place):
     ended = subprocess.run(words, stderr=subprocess.PIPE, cwd=place.folder, env=place.environment(), check=False)
     assert ended.returncode == 1
     assert b"Permission denied" in ended.stderr and b"run this as that user" in ended.stderr
+    assert b"`jpstore dump FILE --read-only` needs no right to write" in ended.stderr
 
 
 def test_a_file_that_is_in_use(place):
@@ -120,7 +125,7 @@ def test_what_is_wrong_in_a_document_a_schema_or_a_query(place):
     rows = [
         (["schema", "store", "d", "--to", "schema.json"], "at `/properties/a/pattern`: `pattern` needs a store of "),
         (["find", "store", "d", "$[?@.a = 1]"], "at character 8 (`= 1]`): one `=` compares nothing: write `==`"),
-        (["new", "store", "e", "[0.5]"], "/doc/0: 0.5 is not a whole number: send a whole number, or a text"),
+        (["new", "store", "e", "[0.5]"], "/doc/0: 0.5 is not a whole number: send a whole number, as 1999 cents or"),
         (["new", "store", "e", "[1,\n}"], "line 2, column 1"), (["new", "store", "e", "\ufeff[]"], "byte order mark"),
         (["new", "store", "a/b", "1"], "`a/b` has '/' as its character 2"),
         (["transaction", "store", '[{"cmd": "create", "name": "e", "doc": 1}]'], "`create` lacks `schema`"),
@@ -243,6 +248,28 @@ def test_a_full_disk_under_standard_output(place):
         ended = subprocess.run(place.words("get", "store", "a"), stdout=full, stderr=subprocess.PIPE, cwd=place.folder,
                                env=place.environment(), check=False)
     assert (ended.returncode, ended.stderr) == (1, b"standard input or output: No space left on device\n")
+
+
+def test_nobody_reads_the_help(place):
+    ending, writing = os.pipe()
+    os.close(ending)
+    with open(writing, "wb") as closed:
+        ended = subprocess.run(place.words("--help"), stdout=closed, stderr=subprocess.PIPE, cwd=place.folder,
+                               env=place.environment(), check=False)
+    assert (ended.returncode, ended.stderr) == (1, b"")
+
+
+def test_who_has_no_program_is_told_how_to_get_it(place):
+    ended = subprocess.run([sys.executable, "-m", "jpstore", "ls", "store"], stderr=subprocess.PIPE, cwd=place.folder,
+                           env={**place.environment(), "PATH": place.folder}, check=False)
+    assert ended.returncode == 1
+    assert ended.stderr.startswith(b"jpstore is not on PATH: it is in the Debian package jpstore, and `./build` ")
+
+
+def test_a_transaction_of_something_else(place):
+    place.format(16)
+    shown = told(place, "transaction", "store", '[{"cmd": "crate", "name": "d"}]', status=1)
+    assert shown.endswith("; `cmd` of change 0, counted from 0, is none of them\n")
 
 
 def test_advice_has_the_form_in_which_the_command_line_was_called(place):

@@ -14,6 +14,7 @@ from jpstore import (
     AccessError, Conflict, Ended, Full, Invalid, JpstoreError, Malformed, Node, NotFound, Outdated, Pumped, Refused,
     Status, Store, TimedOut, TooLarge, Unsendable, check_file, create, delete, format_file, patch, set_schema,
 )
+from jpstore.wire.values import WHOLE
 from support import GROUPING, SILENCE, Place, raised
 
 SHELF = {"bolts": 40, "nuts": 12}
@@ -133,7 +134,7 @@ def test_what_no_line_can_carry_is_refused_before_it_is_sent(place):
         for value in numbers + [{1: 2}, {"a": {2}}, b"x", "\ud800", itself]:
             raised(Unsendable, store.create, "d", value)
         refused = raised(Unsendable, store.create, "d", {"a/b": [0, {"~": 0.5}]})
-        assert str(refused) == "create d: /doc/a~1b/1/~0: 0.5 is not a whole number: send a whole number, or a text"
+        assert str(refused) == f"create d: /doc/a~1b/1/~0: 0.5 is not a whole number: {WHOLE}"
         raised(Unsendable, store.group, [create("d", 1), create("e", 1.5)])
         raised(JpstoreError, store.group, [create("d", 1), {"cmd": "list"}])
         assert (store.list(), store.status().seq) == ([], 0)
@@ -181,7 +182,7 @@ def test_what_is_wrong_in_a_line_is_told_with_its_place(place):
     with place.made() as store:
         number, no_text, no_json = store.group_lines(lines)
         assert (number.number, no_text.number, no_json.number) == (12, 11, 11)
-        assert str(number).endswith("create d: /doc/a/1: 1.5 is not a whole number: send a whole number, or a text")
+        assert str(number).endswith(f"create d: /doc/a/1: 1.5 is not a whole number: {WHOLE}")
         assert str(no_text).endswith("not UTF-8: line 1, column 17: byte 0xff")
         assert str(no_json).endswith("not JSON: line 1, column 8: Expecting value")
 

@@ -554,7 +554,7 @@ _PLACES = [
     ("PUT", "/schemas/d", {"$schema": "http://json-schema.org/draft-07/schema#"}, 41, "at `/$schema`: ",
      "`jpstore-cli schema adapt FILE` makes a schema of it that the store reads"),
     ("PUT", "/schemas/d", {"items": {"$ref": "#/none"}}, 42, "at `/items/$ref`: ", "define the schema under `$defs`"),
-    ("PUT", "/schemas/d", {"$ref": "#"}, 43, "the way `` leads back to it for the same value",
+    ("PUT", "/schemas/d", {"$ref": "#"}, 43, "the way from the root leads back to it for the same value",
      "put `properties` or `items` between"),
     ("GET", "/documents/d?query=%24.a%5B", None, 50, "at character 5 (the end): ", "compare the query with RFC 9535"),
     ("GET", "/documents/d?query=%24%5B?%40.a%3E1.5%5D", None, 51, "at character 8 (`1.5]`): ",
