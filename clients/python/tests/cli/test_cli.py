@@ -315,7 +315,7 @@ def test_a_document_is_followed_and_the_changes_of_one_are_shown(place):
             store.delete("d")
             assert following.stdout.readline() == b'{"rev":null}\n'
             following.terminate()
-    assert "only the store of a hub" in errors(place, "follow", "store", "d", status=1)
+    assert "this is not the socket of a hub" in errors(place, "follow", "store", "d", status=1)
 
 
 def test_a_store_may_have_the_name_of_a_command(place):

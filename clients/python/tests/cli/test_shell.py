@@ -92,8 +92,8 @@ def test_a_schema_is_given_as_on_the_command_line_too(place):
     place.format()
     place.text("counts.json", '{"items":{"type":"integer"}}')
     lines = b"new a [1] --schema counts.json\nput b --schema counts.json [2]\nnew c \"--schema d\"\n"
-    kept = '{"items": {"type": "integer"}}\n'
-    place.shows("store", given=lines + b"schema a\nschema b\n", output=f"done, change 1\ndone, change 2\ndone, change 3\n{2 * kept}")
+    shown_lines = "done, change 1\ndone, change 2\ndone, change 3\n" + 2 * '{"items": {"type": "integer"}}\n'
+    place.shows("store", given=lines + b"schema a\nschema b\n", output=shown_lines)
 
 
 def test_a_refusal_is_shown_with_what_to_do(place):
