@@ -2,7 +2,8 @@
 
     configuration.py SOCKET
 
-SOCKET is that of a hub over a new store. `docs/use/MODELLING.md` says why it is done in this way.
+SOCKET is that of a hub over a new store of format 3, which reads patterns. `docs/use/MODELLING.md` says why it is done
+in this way.
 """
 import copy
 import sys
@@ -10,9 +11,14 @@ import threading
 
 from jpstore import Invalid, Store, create, set_schema
 
+# The labels of a host, and a date; `format` would not be checked.
+HOST = r"^[a-z0-9]([a-z0-9-]*[a-z0-9])?(\.[a-z0-9]([a-z0-9-]*[a-z0-9])?)*$"
+DATE = "^[0-9]{4}-(0[1-9]|1[0-2])-(0[1-9]|[12][0-9]|3[01])$"
 SERVICE = {
-    "type": "object", "required": ["port", "log", "sampling_percent"], "additionalProperties": False,
+    "type": "object", "required": ["host", "port", "log", "sampling_percent", "since"], "additionalProperties": False,
     "properties": {
+        "host": {"type": "string", "maxLength": 253, "pattern": HOST},
+        "since": {"type": "string", "pattern": DATE},
         "port": {"type": "integer", "minimum": 1, "maximum": 65535},
         "log": {"enum": ["debug", "info", "warn"]},
         "sampling_percent": {"type": "integer", "minimum": 0, "maximum": 100},
@@ -23,7 +29,8 @@ NAMES = [f"service-{number:02}" for number in range(30)]
 
 def seed(store):
     """All services at once, so that no reader sees a part of them."""
-    store.transaction(create(name, {"port": 8000 + number, "log": "info", "sampling_percent": 25}, SERVICE)
+    store.transaction(create(name, {"host": f"{name}.example.org", "port": 8000 + number, "log": "info",
+                                    "sampling_percent": 25, "since": "2026-11-29"}, SERVICE)
                       for number, name in enumerate(NAMES))
 
 
@@ -56,12 +63,14 @@ def main(path):
         print("the service saw", seen)
 
         set_log(store, "service-03", "debug")
-        print("on debug:", list(store.query_all("$[?@ == 'debug']", prefix="service-")))
+        levels = store.query_all("$.log", prefix="service-")
+        print("on debug:", [name for name, nodes in levels.items() if nodes[0].value == "debug"])
 
-        try:
-            store.patch("service-03", [{"op": "replace", "path": "/sampling_percent", "value": 101}])
-        except Invalid as refused:
-            print("refused:", *refused.why())
+        for member, value in (("sampling_percent", 101), ("host", "Host_3"), ("since", "29.11.2026")):
+            try:
+                store.patch("service-03", [{"op": "replace", "path": "/" + member, "value": value}])
+            except Invalid as refused:
+                print("refused:", *(fault.place for fault in refused.why()))
 
         later = copy.deepcopy(SERVICE)
         later["properties"]["owner"] = {"type": "string"}

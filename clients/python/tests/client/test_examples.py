@@ -31,14 +31,14 @@ def said(place, name, *more):
 def test_the_configuration(place):
     pytest.importorskip("jsonschema")
     pytest.importorskip("jsonpatch")
-    place.format()
+    format_file(place.file, 4096, place.program, version=3)
     with Hub(place) as hub:
         assert said(place, "configuration", hub.path) == (
             "the service saw ['info', 'debug', 'warn']\n"
             "on debug: ['service-03']\n"
-            "refused: at `/sampling_percent`: 101 is greater than the maximum of 100 "
-            "(schema `/properties/sampling_percent/maximum`)\n"
-            "{'log': 'debug', 'owner': 'payments', 'port': 8003, 'sampling_percent': 25}\n")
+            "refused: /sampling_percent\nrefused: /host\nrefused: /since\n"
+            "{'host': 'service-03.example.org', 'log': 'debug', 'owner': 'payments', 'port': 8003, "
+            "'sampling_percent': 25, 'since': '2026-11-29'}\n")
 
 
 @pytest.mark.time_limit(4 * PATIENCE)
