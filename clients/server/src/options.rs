@@ -120,7 +120,7 @@ impl Options {
                 self.pump = value.parse().ok().filter(|count| *count <= 1_000_000).ok_or_else(wrong)?;
             }
             "--cache" => self.cache = value.parse().map_err(|_| wrong())?,
-            _ => return Err(Error::new(format!("{option} is no option of jpstored: see `jpstored --help`"))),
+            _ => return Err(Error::new(unknown(option))),
         }
         Ok(())
     }
@@ -151,6 +151,16 @@ fn wrong(option: &str, value: &str) -> Error {
     Error::new(format!("`{value}` is no value of {option}: see `jpstored --help`"))
 }
 
+/// The error of an option without a value: each that `--help` shows with one needs it.
+fn without_value(name: &str) -> Error {
+    let is_known = HELP.lines().filter_map(|line| line.split_whitespace().next()).any(|word| word == name);
+    Error::new(if is_known { format!("{name} needs a value: see `jpstored --help`") } else { unknown(name) })
+}
+
+fn unknown(option: &str) -> String {
+    format!("{option} is no option of jpstored: see `jpstored --help`")
+}
+
 /// Reads the words after the name of the program.
 pub fn read(words: impl IntoIterator<Item = OsString>) -> Result<Asked, Error> {
     let (mut options, mut store) = (Options::new(), None);
@@ -165,7 +175,7 @@ pub fn read(words: impl IntoIterator<Item = OsString>) -> Result<Asked, Error> {
             option if !plain && option.starts_with(b"--") => {
                 let (name, value) = parts_of(option);
                 let value = value.or_else(|| words.next());
-                options.set(&name, value.ok_or_else(|| Error::new(format!("{name} needs a value")))?)?;
+                options.set(&name, value.ok_or_else(|| without_value(&name))?)?;
             }
             _ if store.is_none() => store = Some(PathBuf::from(word)),
             word => {
@@ -242,6 +252,8 @@ mod tests {
         ] {
             assert!(options(words).is_err(), "{words:?}");
         }
+        assert!(options(&["a", "--none"]).unwrap_err().contains("no option"));
+        assert!(options(&["a", "--pump"]).unwrap_err().contains("needs a value"));
         assert!(options(&["a", "--socket", &long[1..]]).is_ok());
         assert!(options(&["--version"]).unwrap_err().starts_with("jpstored "));
     }

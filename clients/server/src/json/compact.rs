@@ -241,7 +241,10 @@ impl<'t> Scanner<'t> {
         let text = std::str::from_utf8(&self.text[begin..end]).unwrap_or("");
         match text.parse::<i64>() {
             Ok(number) if whole => self.made.extend_from_slice(number.to_string().as_bytes()),
-            Ok(_) => self.cannot_be_sent(begin, "a number is not whole: send a whole number, or a text"),
+            Ok(_) => self.cannot_be_sent(
+                begin,
+                "a number is not whole: send a whole number, as 1999 cents or 25 percent, or a text",
+            ),
             Err(_) => self.cannot_be_sent(begin, "a number is beyond 64 bits: send a text"),
         }
         Ok(())
