@@ -190,6 +190,8 @@ def _groups(lines: Iterable[bytes]) -> Iterator[List[_Line]]:
 def _change_line(number: int, line: bytes) -> _Line:
     try:
         command = json.loads(line)
+    except json.JSONDecodeError as error:
+        raise Unsendable(f"not JSON: column {min(error.pos, len(error.doc.rstrip())) + 1}: {error.msg}") from None
     except (ValueError, RecursionError) as error:
         raise Unsendable(f"not JSON: {error}") from None
     if not is_changing(command):

@@ -6,7 +6,8 @@ import os
 import re
 from types import MappingProxyType
 from typing import (
-    TYPE_CHECKING, Any, Callable, Dict, Iterator, List, Mapping, NamedTuple, Optional, Sequence, Tuple, Type, Union,
+    TYPE_CHECKING, Any, Callable, ContextManager, Dict, Iterator, List, Mapping, NamedTuple, Optional, Sequence, Tuple,
+    Type, Union,
 )
 
 from .called import as_called
@@ -17,7 +18,8 @@ if TYPE_CHECKING:
 
 __all__ = [
     "AccessError", "Broken", "Conflict", "Ended", "Full", "Invalid", "JpstoreError", "JpstoreWarning", "Malformed",
-    "NoMemory", "NotFound", "Outdated", "Refused", "TimedOut", "TooLarge", "Unsendable", "accessing", "refusal_of",
+    "NoMemory", "NotFound", "Outdated", "Refused", "TimedOut", "TooLarge", "Unsendable", "accessing", "accessing_store",
+    "refusal_of",
 ]
 
 
@@ -54,6 +56,18 @@ def accessing(path: Union[str, "os.PathLike[str]"], advice: Mapping[int, str] = 
         told = AccessError(error.errno or 0, error.strerror or str(error), named)
         told.advice = as_called(advice.get(told.errno or 0, ""))
         raise told from error
+
+
+# What to do about the file of a store, by the system's number.
+_STORE_ADVICE = {
+    errno.ENOENT: ADVICE["missing"], errno.EISDIR: ADVICE["folder"], errno.EACCES: ADVICE["denied"],
+    errno.EROFS: ADVICE["read-only"], errno.ENOSPC: ADVICE["no-space"], errno.EEXIST: ADVICE["exists"],
+}
+
+
+def accessing_store(path: Union[str, "os.PathLike[str]"]) -> ContextManager[None]:
+    """As `accessing`, for the file of a store: an error says what to do."""
+    return accessing(path, _STORE_ADVICE)
 
 
 class Unsendable(JpstoreError, ValueError):

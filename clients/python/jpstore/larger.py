@@ -11,7 +11,7 @@ import subprocess
 import tempfile
 from typing import IO, BinaryIO, Optional
 
-from .errors import JpstoreError, accessing
+from .errors import JpstoreError, accessing, accessing_store
 from .wire.program import ended_program, find_program
 from .wire.rights import create_private
 from .wire.store_file import SECTOR, Committed, committed_in
@@ -31,12 +31,12 @@ class Larger:
         self._file, self._sectors = os.path.realpath(file), sectors
         self._program = find_program(program)
         self._format, self._head, self._identity = 0, SECTOR, b""
-        with accessing(self._file):
+        with accessing_store(self._file):
             self._old = open(self._file, "r+b")
         try:
             self._check()
             _remove_leftovers(self._file)
-            with accessing(self._file):
+            with accessing_store(self._file):
                 self._folder = tempfile.mkdtemp(prefix=os.path.basename(self._file) + _FOLDER,
                                                 dir=os.path.dirname(self._file))
         except BaseException:
@@ -49,7 +49,7 @@ class Larger:
     def take(self) -> int:
         """Copies what the store has now, while nobody writes it; returns the number of its last change."""
         # A buffer of its own: one that is left from an earlier time has what the file no longer says.
-        with accessing(self._file), open(os.dup(self._old.fileno()), "rb") as old:
+        with accessing_store(self._file), open(os.dup(self._old.fileno()), "rb") as old:
             found = committed_in(old)
             self._format, self._head, self._identity = found.version, len(found.head), found.identity
             with contextlib.suppress(FileNotFoundError):
@@ -74,7 +74,7 @@ class Larger:
         other under its name, and waits for its lock, finds no store in it.
         """
         self._check()
-        with accessing(self._file):
+        with accessing_store(self._file):
             _sync_folder(self._folder)
             os.rename(self.path, self._file)
         try:
@@ -92,7 +92,7 @@ class Larger:
         shutil.rmtree(self._folder, ignore_errors=True)
 
     def _check(self) -> None:
-        with accessing(self._file):
+        with accessing_store(self._file):
             opened, named = os.fstat(self._old.fileno()), os.stat(self._file)
         if (opened.st_dev, opened.st_ino) != (named.st_dev, named.st_ino):
             raise JpstoreError(f"{self._file} is another file than the one that is served: end what serves it")

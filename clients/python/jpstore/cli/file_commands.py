@@ -1,13 +1,11 @@
 """The sub-commands that make, judge and copy the files of stores."""
 import argparse
-import errno
 import os
 import re
 from typing import Dict, List, Tuple
 
 from ..dump import grow, grow_file
-from ..errors import JpstoreError, accessing
-from ..refusals import ADVICE
+from ..errors import JpstoreError, accessing_store
 from ..sizes import sectors_of_size
 from ..wire.program import check_file, copy_file, format_file, upgrade_file
 from ..wire.store_file import SECTOR
@@ -28,7 +26,7 @@ def _mode(text: str) -> int:
 
 
 def _sectors_in(file: str) -> int:
-    with accessing(file, {errno.ENOENT: ADVICE["missing"]}):
+    with accessing_store(file):
         return os.stat(file).st_size // SECTOR
 
 

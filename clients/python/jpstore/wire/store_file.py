@@ -3,7 +3,7 @@ import os
 import struct
 from typing import BinaryIO, Iterator, NamedTuple
 
-from ..errors import JpstoreError, accessing
+from ..errors import JpstoreError, accessing_store
 from .store_slots import SLOTS, begin_of, capacity_of, counting
 
 __all__ = ["SECTOR", "Committed", "committed_in", "format_kept", "format_of"]
@@ -65,7 +65,7 @@ class Committed(NamedTuple):
 
 def format_of(path: str) -> int:
     """The format of the store in a file."""
-    with accessing(path), open(path, "rb") as opened:
+    with accessing_store(path), open(path, "rb") as opened:
         return committed_in(opened).version
 
 

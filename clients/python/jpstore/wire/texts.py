@@ -6,12 +6,16 @@ from collections import Counter
 from typing import Any, Dict, Iterator, List, Tuple, Union
 
 from ..errors import JpstoreWarning, Unsendable
+from .limits import MOST_DEPTH
 from .values import escaped
 
 __all__ = ["value_of_text"]
 
 # Words that are perhaps a text whose quotes were forgotten.
 _WORDS = re.compile(r"\s*[^\s\"{}\[\]\x00-\x1f][^\"{}\[\]\x00-\x1f]{0,60}\s*")
+
+# Texts, in which brackets mean nothing, and brackets.
+_BRACKETS = re.compile(r'"(?:[^"\\]|\\.)*"|[\[\]{}]')
 
 # A whole number with this number of digits is beyond 64 bits in any case.
 _MOST_DIGITS = 30
@@ -56,11 +60,10 @@ def value_of_text(text: Union[str, bytes], where: str = "", quoted: str = '"{}"'
         raise Unsendable(f"{prefix}not JSON: line {error.lineno}, column {error.colno}: {told}"
                          f"{_hint(error.doc, quoted)}") from None
     except RecursionError:
-        raise Unsendable(f"{prefix}not JSON: it nests too deeply") from None
+        raise Unsendable(f"{prefix}not JSON: {_depth(_decoded(text))}") from None
     except UnicodeDecodeError as error:
-        line, column = _line_and_column(error.object, error.start)
-        byte = error.object[error.start]
-        raise Unsendable(f"{prefix}not UTF-8: line {line}, column {column}: byte 0x{byte:02x}") from None
+        place, byte = _end_of(error.object[:error.start].decode("utf-8")), error.object[error.start]
+        raise Unsendable(f"{prefix}not UTF-8: {place}: byte 0x{byte:02x}") from None
     for place in _repeated(value) if objects.repeating else ():
         warnings.warn(f"{prefix}`{place}` is there more than once; the last one counts", JpstoreWarning, stacklevel=2)
     return value
@@ -71,13 +74,24 @@ def _hint(text: str, quoted: str) -> str:
     return f" (a text needs double quotes: {quoted.format(text.strip())})" if _WORDS.fullmatch(text) else ""
 
 
+def _depth(text: str) -> str:
+    """What is said of a text that nests too deeply to be read: the place of the first level that no line has."""
+    level = 0
+    for part in _BRACKETS.finditer(text):
+        level += {"[": 1, "{": 1, "]": -1, "}": -1}.get(part.group(), 0)
+        if level > MOST_DEPTH:
+            return f"{_end_of(text[:part.start()])}: level {level} begins"
+    return "it nests too deeply"
+
+
 def _decoded(text: Union[str, bytes]) -> str:
     return text if isinstance(text, str) else text.decode("utf-8")
 
 
-def _line_and_column(text: bytes, place: int) -> Tuple[int, int]:
-    before = text[:place].split(b"\n")
-    return len(before), len(before[-1].decode("utf-8", "replace")) + 1
+def _end_of(text: str) -> str:
+    """The line and the column of what comes after a text."""
+    lines = text.split("\n")
+    return f"line {len(lines)}, column {len(lines[-1]) + 1}"
 
 
 def _whole(text: str) -> int:

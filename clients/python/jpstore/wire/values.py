@@ -50,7 +50,8 @@ def check_value(value: Any) -> None:
             return
         waiting = [inner for part, trail in waiting for inner in _checked(part, trail)]
     if waiting:
-        raise Unsendable(f"a value nests deeper than {MOST_DEPTH} levels")
+        from ..faults.words import place_in, pointer_of
+        raise Unsendable(f"level {MOST_DEPTH + 1} begins at {place_in(pointer_of(waiting[0][1]))}")
 
 
 def _checked(part: Any, trail: _Trail) -> Iterator[Tuple[Any, _Trail]]:

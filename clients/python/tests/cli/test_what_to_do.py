@@ -39,10 +39,12 @@ def test_a_file_that_cannot_be_made_or_opened(place):
          "`python3 -m jpstore format FILE` makes a store"),
         (["format", "nowhere/store"], "nowhere/store: No such file or directory", "whose folder must exist"),
         (["check", "folder"], "folder: Is a directory", "name a file in it"),
-        (["copy", "nowhere", "new"], "nowhere: No such file or directory", "compare the path"),
-        (["grow", "nowhere"], "nowhere: No such file or directory", "compare the path"),
         (["follow", "nowhere", "d"], "nowhere: No such file or directory", "no hub serves here"),
         (["follow", "store", "d"], "store: this is not the socket of a hub", "name the PATH that the hub"),
+        *((words, "nowhere: No such file or directory", "format FILE` makes a store") for words in (
+            ["copy", "nowhere", "new"], ["grow", "nowhere"], ["grow", "nowhere", "new"], ["upgrade", "nowhere"],
+            ["hub", "nowhere", "--socket", "socket"], ["http", "nowhere", "--listen", "127.0.0.1:0"])),
+        (["hub", "folder", "--socket", "socket"], "folder: Is a directory", "name a file in it"),
     ]
     for words, cause, advice in rows:
         shown = told(place, *words, status=1)
@@ -52,11 +54,12 @@ def test_a_file_that_cannot_be_made_or_opened(place):
 
 def test_a_file_that_may_not_be_written(place):
     os.chmod(place.format(16), 0o400)
-    words = [*AS_ONE_MAY, *place.words("check", "store")]
-    ended = subprocess.run(words, stderr=subprocess.PIPE, cwd=place.folder, env=place.environment(), check=False)
-    assert ended.returncode == 1
-    assert b"Permission denied" in ended.stderr and b"run this as that user" in ended.stderr
-    assert b"`jpstore dump FILE --read-only` needs no right to write" in ended.stderr
+    for words in (["check"], ["grow"], ["hub", "--socket", "socket"]):
+        words = [*AS_ONE_MAY, *place.words(words[0], "store", *words[1:])]
+        ended = subprocess.run(words, stderr=subprocess.PIPE, cwd=place.folder, env=place.environment(), check=False)
+        assert ended.returncode == 1 and ended.stderr.startswith(b"store: Permission denied"), ended
+        assert b"\n  what to do: " in ended.stderr and b"run this as that user" in ended.stderr
+        assert b"`jpstore dump FILE --read-only` needs no right to write" in ended.stderr
 
 
 def test_a_file_that_is_in_use(place):
@@ -64,6 +67,8 @@ def test_a_file_that_is_in_use(place):
         shown = told(place, "ls", "store", status=1)
         assert shown.startswith("store is in use: another command uses it, under this name or another; ")
         assert "connect to the socket of the hub that serves it" in shown and "`--wait SECONDS`" in shown
+        shown = told(place, "hub", "store", "--socket", "socket", "--wait", "0", status=1)
+        assert shown.startswith("store is in use: ") and "\n  what to do: connect to the socket of the hub" in shown
 
 
 def test_no_hub_serves(place):
@@ -133,8 +138,19 @@ def test_what_is_wrong_in_a_document_a_schema_or_a_query(place):
     for words, said in rows:
         assert said in told(place, *words, status=6)
     assert "level 65 begins at `/doc/0/0/0" in told(place, "new", "store", "e", "[" * 70 + "]" * 70, status=7)
+    assert "level 128 begins at `/doc/0/0/0" in told(place, "new", "store", "e", "[" * 200 + "]" * 200, status=6)
     shown = told(place, "schema", "store", "d", "--to", "schema.json", "--json", status=6)
     assert '"detail": "at `/properties/a/pattern`' in shown
+
+
+def test_what_is_wrong_in_a_line_to_load(place):
+    place.format(16)
+    lines = b'{"cmd":"create","name":"a","doc":1,"schema":true}\n'
+    for wrong, said in ((b'{"cmd":"create",}\n', "not JSON: column 17: "), (b'{"cmd":\n', "not JSON: column 8: "),
+                        (b'{"cmd":"list"}\n', "it is none of create, patch, ")):
+        shown = told(place, "load", "store", "--partial", given=lines + wrong, status=6)
+        assert shown.startswith("line 2 is refused; 1 change was made\n" + said), shown
+        told(place, "rm", "store", "a", status=0)
 
 
 def test_what_is_wrong_in_a_patch_or_a_pointer(place):

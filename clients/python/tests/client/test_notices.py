@@ -123,7 +123,8 @@ def test_a_name_that_is_repeated_is_told():
     ('{"a": 1,\n  "b": }', "not JSON: line 2, column 8: Expecting value"),
     (b'{"a":\n "\xc3\xa4\xff"}', "not UTF-8: line 2, column 4: byte 0xff"),
     (b"\xef\xbb\xbf{}", "not JSON: line 1, column 1: it begins with a byte order mark: save it without"),
-    ("[" * 100000, "not JSON: it nests too deeply"),
+    ("[" * 100000, "not JSON: line 1, column 128: level 128 begins"),
+    ('{"[": [\n' + "[ " * 5000, "not JSON: line 2, column 251: level 128 begins"),
 ])
 def test_the_place_of_a_fault_is_told(text, told):
     assert str(raised(Unsendable, value_of_text, text)) == told

@@ -4,7 +4,7 @@ import re
 
 import pytest
 from jpstore import REFUSALS, Refused, errors
-from jpstore.refusals import COMPLAINTS, table
+from jpstore.refusals import ADVICE, COMPLAINTS, table
 from support import PACKAGE
 
 _PROTOCOL = os.path.join(PACKAGE, "..", "..", "docs", "use", "PROTOCOL.md")
@@ -46,6 +46,9 @@ def test_the_tables_of_all_clients_are_the_same():
     server = re.findall(r'^    row\((\d+), "([a-z-]+)", \d+, "(.*)", "(.*)"\),$',
                         _source("server", "src", "refusals.rs"), re.M)
     assert server == rows
+    complaints = re.findall(r'^    \("([a-z-]+)", "(.*)"\),$',
+                            _source("server", "src", "program", "complaints.rs"), re.M)
+    assert len(complaints) == 6 and set(complaints) <= set(ADVICE.items())
     crate = re.findall(r'^    \(\s*(\d+),\s*"([^"]*)",\s*"([^"]*)",\s*\),$',
                        _joined(_source("rust", "src", "meanings.rs")), re.M)
     assert crate == [(number, means, advice) for number, _, means, advice in rows]

@@ -219,7 +219,8 @@ def test_both_doors_lead_to_one_store(place):
 def test_wrong_words_are_told(place, server):
     rows = [(["--help"], 0, b""), (["--version"], 0, b""), ([], 2, b"which store?"), ([""], 2, b"which store?"),
             (["a", "--none", "1"], 2, b"--none is no option"), (["a", "b"], 2, b"one word too many"),
-            ([place.path("none"), "--socket", place.path("s"), "--program", place.program], 1, b"jpstore: file")]
+            ([place.path("none"), "--socket", place.path("s"), "--program", place.program], 1,
+             b"none: No such file or directory (")]
     for words, status, told in rows:
         check_refused(server, words, status, told)
 

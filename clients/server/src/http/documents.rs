@@ -10,7 +10,7 @@ use super::problem::Problem;
 use super::response::{Body, Response};
 use super::target::parameters;
 use crate::json::canonical::{canonical, value_of};
-use crate::json::compact::LEVELS_OF_A_DOCUMENT;
+use crate::json::compact::{LEVELS_OF_A_DOCUMENT, LEVELS_OF_A_LINE};
 use crate::json::{compact, quoted, Compact, Fault};
 use crate::lines::replies::{self, names_in, text_in, told_names};
 use crate::lines::MOST_LINE;
@@ -22,9 +22,6 @@ use bytes::Bytes;
 pub const JSON: &str = "application/json";
 const PATCHES: [&str; 2] = ["application/json-patch+json", "application/merge-patch+json"];
 const ACCEPT_PATCH: &str = "application/json-patch+json, application/merge-patch+json";
-
-/// The most levels of a line.
-const MOST_LEVELS_OF_A_LINE: usize = 127;
 
 /// What the line of a change has at most beside its document or its operations.
 const MOST_BESIDE: usize = 256;
@@ -143,10 +140,19 @@ pub async fn text_of(request: &mut Request<'_>) -> Result<Compact, Problem> {
 
 /// A text that was checked, or the problem of one that no line can carry.
 pub fn checked(text: &[u8]) -> Result<Compact, Problem> {
-    compact(text).map_err(|fault| match fault {
+    let made = compact(text).map_err(|fault| match fault {
         Fault::NotJson(told) => Problem::refused(11, told),
         Fault::Unsendable(told) => Problem::refused(12, told),
-    })
+    })?;
+    match made.too_deep_for_a_line {
+        Some(place) => Err(too_deep(11, place, LEVELS_OF_A_LINE)),
+        None => Ok(made),
+    }
+}
+
+/// The problem of a text at this line and column, at which the first level begins that is too deep.
+fn too_deep(number: u64, (line, column): (usize, usize), most: usize) -> Problem {
+    Problem::refused(number, format!("line {line}, column {column}: level {} begins", most + 1))
 }
 
 /// The line of a creation.
@@ -216,16 +222,11 @@ async fn put_once(
 
 /// Refuses a document that nests too deep as one, and not as a part of the patch that replaces another.
 fn check_levels(name: &str, doc: &Compact) -> Result<(), Problem> {
-    if doc.levels >= MOST_LEVELS_OF_A_LINE {
-        return Err(Problem::refused(11, "the document nests deeper than 126 levels"));
-    }
-    // Else it is refused for its name, or for its length.
-    let is_refused = replies::is_name(name) && doc.text.len() < MOST_LINE - MOST_BESIDE;
+    // Else it is refused for its name, or for its length. Within a line a document is a level deeper.
+    let is_line = doc.levels < LEVELS_OF_A_LINE;
+    let is_refused = !is_line || (replies::is_name(name) && doc.text.len() < MOST_LINE - MOST_BESIDE);
     match doc.too_deep.filter(|_| is_refused) {
-        Some((line, column)) => {
-            let told = format!("line {line}, column {column}: level {} begins", LEVELS_OF_A_DOCUMENT + 1);
-            Err(Problem::refused(13, told))
-        }
+        Some(place) => Err(too_deep(if is_line { 13 } else { 11 }, place, LEVELS_OF_A_DOCUMENT)),
         None => Ok(()),
     }
 }

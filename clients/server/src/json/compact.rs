@@ -9,6 +9,9 @@ const MOST_LEVELS: usize = 1000;
 /// The most levels of a document.
 pub const LEVELS_OF_A_DOCUMENT: usize = 64;
 
+/// The most levels of a line.
+pub const LEVELS_OF_A_LINE: usize = 127;
+
 /// A text that was checked.
 #[derive(Debug, PartialEq, Eq)]
 pub struct Compact {
@@ -18,6 +21,8 @@ pub struct Compact {
     pub levels: usize,
     /// The line and the column of the first level that no document has.
     pub too_deep: Option<(usize, usize)>,
+    /// Those of the first level that no line has.
+    pub too_deep_for_a_line: Option<(usize, usize)>,
 }
 
 /// Why a text can't be sent.
@@ -46,8 +51,9 @@ pub fn compact(text: &[u8]) -> Result<Compact, Fault> {
     match scanner.unsendable {
         Some(wrong) => Err(Fault::Unsendable(wrong.told("", text))),
         None => {
-            let too_deep = scanner.too_deep.map(|at| line_and_column(text, at));
-            Ok(Compact { text: scanner.made, levels: scanner.most, too_deep })
+            let [too_deep, too_deep_for_a_line] =
+                scanner.too_deep.map(|found| found.map(|at| line_and_column(text, at)));
+            Ok(Compact { text: scanner.made, levels: scanner.most, too_deep, too_deep_for_a_line })
         }
     }
 }
@@ -85,14 +91,14 @@ struct Scanner<'t> {
     made: Vec<u8>,
     within: Vec<Within>,
     most: usize,
-    too_deep: Option<usize>,
+    too_deep: [Option<usize>; 2],
     unsendable: Option<Wrong>,
 }
 
 impl<'t> Scanner<'t> {
     fn new(text: &'t [u8]) -> Scanner<'t> {
         let made = Vec::with_capacity(text.len());
-        Scanner { text, at: 0, made, within: Vec::new(), most: 0, too_deep: None, unsendable: None }
+        Scanner { text, at: 0, made, within: Vec::new(), most: 0, too_deep: [None; 2], unsendable: None }
     }
 
     fn wrong<T>(&self, what: &'static str) -> Result<T, Wrong> {
@@ -152,8 +158,10 @@ impl<'t> Scanner<'t> {
         if self.within.len() >= MOST_LEVELS {
             return self.wrong("it nests too deeply");
         }
-        if self.within.len() == LEVELS_OF_A_DOCUMENT {
-            self.too_deep.get_or_insert(self.at);
+        for (found, most) in self.too_deep.iter_mut().zip([LEVELS_OF_A_DOCUMENT, LEVELS_OF_A_LINE]) {
+            if self.within.len() == most {
+                found.get_or_insert(self.at);
+            }
         }
         self.take(begin);
         self.most = self.most.max(self.within.len() + 1);

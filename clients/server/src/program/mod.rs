@@ -2,6 +2,7 @@
 
 pub mod cache;
 mod changes;
+mod complaints;
 pub mod engine;
 pub mod export;
 mod growing;

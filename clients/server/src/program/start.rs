@@ -1,5 +1,6 @@
 //! How the program is found and started, and how it ended.
 
+use super::complaints::{cause_in, what_to_do};
 use super::pipes::Pipes;
 use crate::error::{system_words, Error};
 use crate::lines::STATUS;
@@ -67,15 +68,11 @@ pub async fn start(program: &Path, store: &Path, wait: Duration) -> Result<Progr
         }
         let ended = started.ended().await;
         if !ended.said.contains("jpstore: in-use") {
-            return Err(Error::new(ended.told_of(store)));
+            return Err(Error::new(ended.to_string()));
         }
         if Instant::now() >= until {
-            let advice =
-                "end that program, connect to the socket at which it serves the file, or wait longer by --wait";
-            return Err(Error::new(format!(
-                "{} is in use: another program has it open ({ended}): {advice}",
-                store.display()
-            )));
+            let (store, to_do) = (store.display(), what_to_do("in-use"));
+            return Err(Error::new(format!("{store} is in use: another program has it open ({ended}){to_do}")));
         }
         tokio::time::sleep(PAUSE).await;
     }
@@ -153,18 +150,6 @@ impl Ended {
     pub fn is_well(&self) -> bool {
         self.status.map_or(false, |status| status.success())
     }
-
-    /// How it ended over a file, first of all why that can't be opened.
-    fn told_of(&self, store: &Path) -> String {
-        let told = self.to_string();
-        match cause_in(&self.said) {
-            Some((line, error, advice)) => {
-                let told = told.replace(line, "");
-                format!("{}: {} ({}): {advice}", store.display(), system_words(&error), told.trim())
-            }
-            None => told,
-        }
-    }
 }
 
 impl std::fmt::Display for Ended {
@@ -174,6 +159,9 @@ impl std::fmt::Display for Ended {
             Some((_, Some(signal))) => format!("by signal {signal}"),
             _ => "in an unknown way".to_owned(),
         };
+        if let Some(cause) = cause_in(&self.said) {
+            return write!(formatter, "{} ({} ended {how}){}", cause.told, self.words, what_to_do(&cause.word));
+        }
         write!(formatter, "{} ended {how}", self.words)?;
         let said = self.said.trim();
         if !said.is_empty() {
@@ -194,34 +182,9 @@ fn refused_in(said: &str) -> Option<&'static Refusal> {
     })
 }
 
-/// The line that `--why` adds to `jpstore: file`, why the program can't open its file, and what to do then.
-fn cause_in(said: &str) -> Option<(&str, std::io::Error, &'static str)> {
-    let line = said.lines().find(|line| line.starts_with("{\"cause\":"))?;
-    let told: serde_json::Value = serde_json::from_str(line).ok()?;
-    let number = i32::try_from(told.get("errno")?.as_i64()?).ok().filter(|number| *number != 0)?;
-    let advice = match told.get("cause")?.as_str()? {
-        "missing" => "compare the path; `jpstore format FILE --sectors N` makes a store",
-        "folder" => "name a file in it",
-        "denied" => "run this as the owner of the file, or change its rights (`chmod`, `chown`)",
-        "read-only" => "copy the file to a file system that can be written",
-        "descriptors" => "close files, or raise the limit (`ulimit -n`)",
-        _ => "look at the path and its file system",
-    };
-    Some((line, std::io::Error::from_raw_os_error(number), advice))
-}
-
 #[cfg(test)]
 mod tests {
-    use super::{cause_in, refused_in};
-
-    #[test]
-    fn why_a_file_is_not_opened_is_said_in_words() {
-        let said = "jpstore: file\n{\"cause\":\"missing\",\"errno\":2,\"path\":\"none\"}\n";
-        let (line, error, advice) = cause_in(said).unwrap();
-        assert_eq!((error.kind(), advice.contains("jpstore format")), (std::io::ErrorKind::NotFound, true));
-        assert_eq!(said.replace(line, "").trim(), "jpstore: file");
-        assert!(cause_in("jpstore: file\n").is_none() && cause_in("{\"cause\":").is_none());
-    }
+    use super::refused_in;
 
     #[test]
     fn a_refused_opening_is_known_by_its_number() {

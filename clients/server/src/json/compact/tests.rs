@@ -78,5 +78,7 @@ fn levels_are_counted() {
     let deep = format!("{}\n {}{}", "[".repeat(63), "[[1],[2],3", "]".repeat(64));
     assert_eq!(compact(deep.as_bytes()).unwrap().too_deep, Some((2, 3)));
     assert_eq!(compact(deep.replace("[1],[2]", "1").as_bytes()).unwrap().too_deep, None);
+    let deepest = |levels: usize| compact(("[\n".repeat(levels) + &"]".repeat(levels)).as_bytes()).unwrap();
+    assert_eq!((deepest(127).too_deep_for_a_line, deepest(128).too_deep_for_a_line), (None, Some((128, 1))));
     assert!(matches!(compact("[".repeat(3000).as_bytes()), Err(Fault::NotJson(_))));
 }
