@@ -28,6 +28,13 @@ DEBIAN_PYTHON = "/usr/bin/python3"
 PATIENCE = 20
 COUNTS = {"type": "object", "properties": {"bolts": {"type": "integer", "minimum": 0}}}
 TOKEN = "a-token-of-the-page-test"
+# Texts that are no JSON: Python's reader says the line and the column.
+MISTYPED = ["warning", '{"a": 1,}', '{"a":\n [1 2]}', '{"\u00e4": tru}', "[1,\n", "1 2", "{a: 1}", '{"a" 1}']
+# Texts that no document is, with the refusal of the store, and what is said.
+BEYOND = [("[1,\n 0.5]", "12 number", "line 2, column 2: a number is not whole"),
+          ("[9223372036854775807, 9223372036854775808]", "12 number", "line 1, column 23: a number is beyond 64 bits"),
+          ("1e400", "12 number", "line 1, column 1: a number is not whole"),
+          ("[" * 65 + "]" * 65, "13 depth", "line 1, column 65: level 65 begins")]
 
 
 def missing():
@@ -199,6 +206,29 @@ def see_a_refusal(page):
     assert "/bolts" in told and "/properties/bolts/minimum" in told and "45 invalid" in told, told
     assert page.ask("GET", "documents/shelf-1")["bolts"] == 39
     page.picture("refusal")
+
+
+def place_by_python(text):
+    """The line and the column at which a text ends to be JSON, as Python says it."""
+    try:
+        json.loads(text)
+    except json.JSONDecodeError as error:
+        return f"line {error.lineno}, column {error.colno}: "
+    raise AssertionError(f"{text} is JSON")
+
+
+def see_what_is_mistyped(page):
+    """What no document can be is said with its line and column while it is typed, and is not sent."""
+    seq = page.ask("GET", "status")["seq"]
+    for text, name, said in [*((text, "11 not-json", place_by_python(text)) for text in MISTYPED), *BEYOND]:
+        page.write("#value", text)
+        page.until(lambda said=said: said in page.text("#patch"), f"{said} for {text}")
+        page.one("#edit-form button.main").click()
+        page.until(lambda name=name, said=said: name in page.text("#edit-result") and said in page.text("#edit-result"), said)
+        if text == "warning":
+            assert "a text needs double quotes" in page.text("#edit-result")
+            page.picture("mistyped")
+    assert page.ask("GET", "status")["seq"] == seq
 
 
 def see_the_change_of_another(page):
@@ -468,10 +498,10 @@ def ask_for_the_token(page):
     page.picture("token")
 
 
-WITHOUT_TOKEN = [make_a_document, see_a_refused_document, change_a_value, see_a_refusal, see_the_change_of_another,
-                 keep_what_is_written, add_and_remove_a_value, see_a_transaction, query, find_in_a_long_value,
-                 see_earlier_changes, change_the_schema, see_a_warning, make_one_as_another, run_the_recipe, use_the_keyboard,
-                 use_a_phone, delete, no_errors_in_the_console]
+WITHOUT_TOKEN = [make_a_document, see_a_refused_document, change_a_value, see_a_refusal, see_what_is_mistyped,
+                 see_the_change_of_another, keep_what_is_written, add_and_remove_a_value, see_a_transaction, query,
+                 find_in_a_long_value, see_earlier_changes, change_the_schema, see_a_warning, make_one_as_another,
+                 run_the_recipe, use_the_keyboard, use_a_phone, delete, no_errors_in_the_console]
 
 
 def tried(program, pictures, parts, with_token):

@@ -35,6 +35,85 @@ function textOf(value, indent) {
   return text.replace(new RegExp(`"${quoted}(-?\\d+)"`, "g"), "$1");
 }
 
+// The value of a text that somebody has typed. What the store would refuse of it is shown with its line and column.
+function typed(text) {
+  let value;
+  try {
+    value = parse(text);
+  } catch {
+    throw mistyped(text, stopOf(text), 11, "not-json", "This is not JSON yet.");
+  }
+  const [place, what] = firstBeyond(text);
+  if (what === LEVEL) throw mistyped(text, [place, what], 13, "depth", "The document would nest too deep.");
+  if (what) throw mistyped(text, [place, what], 12, "number", "The store has no such number.");
+  return value;
+}
+
+function mistyped(text, [place, what], number, name, title) {
+  const lines = text.slice(0, place).split("\n");
+  return new Refused({ number, name, title, detail: `line ${lines.length}, column ${[...lines.at(-1)].length + 1}: ${what}.` });
+}
+
+// The tokens of JSON, and blanks (RFC 8259, section 2).
+const TOKEN = new RegExp([/"[^"\\\u0000-\u001f]*(?:\\(?:["\\/bfnrt]|u[\da-fA-F]{4})[^"\\\u0000-\u001f]*)*"/,
+  /-?(?:0|[1-9]\d*)(?:\.\d+)?(?:[eE][+-]?\d+)?/, /true|false|null|[{}[\],:]/].map((part) => part.source).join("|"), "y");
+const BLANKS = /[ \t\n\r]*/y;
+
+// What may come next in a JSON text.
+const VALUE = "a value", ITEM = "a value or `]`", NAME = "a name in double quotes", MEMBER = "a name in double quotes or `}`",
+  COLON = "`:`", REST = "`,` or the end of what is begun", NOTHING = "nothing more";
+
+// What may come after a token; nothing if the token may not come.
+function after(wanted, token, within) {
+  const end = { "[": "]", "{": "}" }[within.at(-1)];
+  if (token === end && [ITEM, MEMBER, REST].includes(wanted)) {
+    within.pop();
+    return within.length ? REST : NOTHING;
+  }
+  if (wanted === REST) return token === "," ? (end === "}" ? NAME : VALUE) : undefined;
+  if (wanted === COLON) return token === ":" ? VALUE : undefined;
+  if (wanted === NAME || wanted === MEMBER) return token[0] === '"' ? COLON : undefined;
+  if (wanted === NOTHING || "]}:,".includes(token)) return undefined;
+  if (!"[{".includes(token)) return within.length ? REST : NOTHING;
+  within.push(token);
+  return token === "[" ? ITEM : MEMBER;
+}
+
+// The place at which a text goes on as no JSON text does, and what may come there.
+function stopOf(text) {
+  const within = [];
+  for (let place = 0, wanted = VALUE; ;) {
+    BLANKS.lastIndex = place;
+    place += BLANKS.exec(text)[0].length;
+    TOKEN.lastIndex = place;
+    const token = TOKEN.exec(text)?.[0];
+    const next = token && after(wanted, token, within);
+    if (!next) {
+      const isWord = wanted.startsWith(VALUE) && /^\p{L}/u.test(text.slice(place));
+      return [place, `${wanted} is expected${isWord ? "; a text needs double quotes, as \"bolts\"" : ""}`];
+    }
+    wanted = next;
+    place += token.length;
+  }
+}
+
+// The most levels of a document, and the numbers that it may have.
+const MOST_LEVELS = 64, LEVEL = `level ${MOST_LEVELS + 1} begins`, LEAST = -(2n ** 63n), MOST = 2n ** 63n - 1n;
+
+// The place in a JSON text of the first level or number that no document has, and what it is; nothing if there is none.
+function firstBeyond(text) {
+  let level = 0;
+  for (const { 0: token, index } of text.matchAll(/"[^"\\]*(?:\\.[^"\\]*)*"|[[\]{}]|-?\d[\d.eE+-]*/g)) {
+    if (token === "[" || token === "{") level += 1;
+    else if (token === "]" || token === "}") level -= 1;
+    else if (token[0] === '"') continue;
+    else if (/[.eE]/.test(token)) return [index, "a number is not whole: send a whole number, or a text"];
+    else if (BigInt(token) < LEAST || BigInt(token) > MOST) return [index, "a number is beyond 64 bits: send a text"];
+    if (level > MOST_LEVELS) return [index, LEVEL];
+  }
+  return [];
+}
+
 const isContainer = (value) => value !== null && typeof value === "object";
 const escaped = (token) => String(token).replaceAll("~", "~0").replaceAll("/", "~1");
 const unescaped = (token) => token.replaceAll("~1", "/").replaceAll("~0", "~");
@@ -91,9 +170,7 @@ function toldDone(place, what, { warnings = [] }) {
 }
 
 function toldProblem(place, error) {
-  const problem = error instanceof Refused ? error.problem
-    : error instanceof SyntaxError ? { title: "This is not JSON yet.", detail: `${error.message}. A text needs double quotes: "bolts".` }
-      : { title: "This page failed.", detail: error.message };
+  const problem = error instanceof Refused ? error.problem : { title: "This page failed.", detail: error.message };
   const number = problem.number === undefined ? "" : ` (${problem.number} ${problem.name})`;
   const parts = [element("strong", {}, `${problem.status ? "Refused: " : ""}${problem.title}${number}`)];
   if (problem.op !== undefined) parts.push(element("p", {}, `Operation ${problem.op} of the patch is at fault.`));
@@ -207,7 +284,7 @@ $("filter").addEventListener("input", listNames);
 function create(name, doc, as) {
   const fields = { "Content-Type": "application/json", "If-None-Match": "*" };
   if (as) fields.Link = `<${schemaPath(as)}>; rel="describedby"`;
-  const schema = as ? "" : `?schema=${encodeURIComponent(textOf(parse($("new-schema").value)))}`;
+  const schema = as ? "" : `?schema=${encodeURIComponent(textOf(typed($("new-schema").value)))}`;
   return ask(documentPath(name) + schema, "PUT", textOf(doc), fields);
 }
 
@@ -215,7 +292,7 @@ $("new-form").addEventListener("submit", async (event) => {
   event.preventDefault();
   const name = $("new-name").value;
   try {
-    const response = await create(name, parse($("new-doc").value), $("new-as").value);
+    const response = await create(name, typed($("new-doc").value), $("new-as").value);
     toldDone($("new-result"), `${name} is created.`, await response.json());
     $("new-name").value = "";
     await showNames();
@@ -510,7 +587,7 @@ let read = { text: null, value: undefined };
 
 function valueNow() {
   const text = $("value").value;
-  if (read.text !== text) read = { text, value: parse(text) };
+  if (read.text !== text) read = { text, value: typed(text) };
   return read.value;
 }
 
@@ -527,7 +604,7 @@ function showPatch() {
   try {
     text = patchNow();
   } catch (error) {
-    text = `The value is not JSON yet: ${error.message}`;
+    text = `${error.problem?.title ?? "This page failed."}\n${error.message}`;
   }
   if (text.length > MOST_LETTERS) text = `${text.slice(0, MOST_LETTERS)}\n.. and ${grouped(text.length - MOST_LETTERS)} letters more`;
   $("patch").textContent = `PATCH ${documentPath(state.name ?? "")}\nIf-Match: ${begun.rev}\n` +
@@ -593,7 +670,7 @@ $("schema-panel").addEventListener("toggle", () => {
 $("schema-form").addEventListener("submit", async (event) => {
   event.preventDefault();
   try {
-    const response = await saveSchema(state.name, textOf(parse($("schema").value)));
+    const response = await saveSchema(state.name, textOf(typed($("schema").value)));
     const done = await response.json();
     await showSchema();
     toldDone($("schema-result"), `Done: change ${done.seq} is stored.`, done);
