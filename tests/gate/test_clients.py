@@ -26,6 +26,8 @@ TOOLS = {
     "venv": "python3-venv", "wheel": "python3-wheel",
 }
 DEBIAN_PYTHON = "/usr/bin/python3"
+# What `Schema.adapt` makes is judged by these tests too.
+SUITE, SUITE_PACKAGE = "/usr/share/json-schema-test-suite", "json-schema-test-suite"
 
 
 def has_tools(python):
@@ -38,8 +40,9 @@ def python_with_tools():
     """An interpreter that has the tools; None if they are missing and can't be installed."""
     for python in (sys.executable, DEBIAN_PYTHON):
         if has_tools(python):
+            install([] if os.path.isdir(SUITE) else [SUITE_PACKAGE])
             return python
-    install(TOOLS.values())
+    install([*TOOLS.values(), SUITE_PACKAGE])
     return DEBIAN_PYTHON if has_tools(DEBIAN_PYTHON) else None
 
 
