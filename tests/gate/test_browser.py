@@ -315,7 +315,12 @@ def query(page):
     page.until(lambda: [each.text for each in page.all(".tree .marked")] == ['"price": 12', '"price": 22'], "the marks")
     page.picture("query")
     page.write("#query", "$..[\n")
-    page.until(lambda: "JSONPath" in page.text("#query-result"), "the refusal of the query")
+    page.until(lambda: "JSONPath" in page.text("#query-result strong"), "the refusal of the query")
+    # The meaning, the place and the advice are apart.
+    assert page.text("#query-result strong").endswith("(50 path)")
+    place, advice = [each.text for each in page.all("#query-result p")]
+    assert place.startswith("at character 5 ") and advice.startswith("compare the query with RFC 9535"), (place, advice)
+    page.picture("query-refused")
     assert not page.all(".tree .marked")
 
 

@@ -169,7 +169,8 @@ function toldDone(place, what, { warnings = [] }) {
   told(place, true, what, ...warnings.map((warning) => element("p", { className: "warning" }, `Warning: ${warning}.`)));
 }
 
-function toldProblem(place, error) {
+// A refusal: what it means, and apart from that the place of the fault and what to do.
+function partsOf(error) {
   const problem = error instanceof Refused ? error.problem : { title: "This page failed.", detail: error.message };
   const number = problem.number === undefined ? "" : ` (${problem.number} ${problem.name})`;
   const parts = [element("strong", {}, `${problem.status ? "Refused: " : ""}${problem.title}${number}`)];
@@ -182,8 +183,10 @@ function toldProblem(place, error) {
     parts.push(element("p", {}, problem.detail));
     if (problem.advice) parts.push(element("p", {}, problem.advice));
   }
-  told(place, false, ...parts);
+  return parts;
 }
+
+const toldProblem = (place, error) => told(place, false, ...partsOf(error));
 
 
 // The token.
@@ -521,8 +524,7 @@ $("query-form").addEventListener("submit", async (event) => {
   } catch (error) {
     mark();
     $("query-result").className = "error";
-    const title = error.problem?.title;
-    $("query-result").replaceChildren(...title ? [element("strong", {}, `${title}. `)] : [], error.message);
+    $("query-result").replaceChildren(...partsOf(error));
   }
 });
 
