@@ -418,29 +418,43 @@ def run_the_recipe(page):
 
 
 def use_the_keyboard(page):
-    """A document is chosen and a value is opened without a mouse."""
+    """A document is chosen, a value is opened, and another is changed without a mouse."""
     from selenium.webdriver.common.action_chains import ActionChains
     from selenium.webdriver.common.keys import Keys
 
     def focused():
-        return page.browser.execute_script("return document.activeElement.textContent.trim()")
+        return page.browser.execute_script("const at = document.activeElement; return at.id || at.textContent.trim();")
+
+    def press(*keys):
+        ActionChains(page.browser).send_keys(*keys).perform()
 
     def tab_to(text):
         for _ in range(60):
             if focused() == text:
                 return
-            ActionChains(page.browser).send_keys(Keys.TAB).perform()
+            press(Keys.TAB)
         raise AssertionError(f"{text} is not reached, but {focused()}")
     page.browser.get(page.url)
     page.until(lambda: page.all("#names a"), "the names")
-    ActionChains(page.browser).send_keys(Keys.TAB).perform()
+    press(Keys.TAB)
     assert focused() == "Skip to the document"
     tab_to("books")
-    ActionChains(page.browser).send_keys(Keys.ENTER).perform()
+    press(Keys.ENTER)
     page.until(lambda: page.text("#title") == "books", "the document")
     tab_to("\"it's\": [ 3 items ]")
-    ActionChains(page.browser).send_keys(Keys.ENTER).perform()
+    press(Keys.ENTER)
     page.until(lambda: "0: { 1 member }" in page.text("#tree"), "the value that is opened")
+    tab_to("0: { 1 member }")
+    press(Keys.ENTER)
+    page.until(lambda: '"price": 12' in page.text("#tree"), "the value in it")
+    tab_to('"price": 12')
+    press(Keys.ENTER)
+    page.until(lambda: page.one("#edit-form").is_displayed(), "the panel of the edit")
+    tab_to("value")
+    ActionChains(page.browser).key_down(Keys.CONTROL).send_keys("a").key_up(Keys.CONTROL).send_keys("13").perform()
+    tab_to("Send")
+    press(Keys.ENTER)
+    page.until(lambda: page.ask("GET", "documents/books")["it's"][0]["price"] == 13, "the change")
 
 
 def use_a_phone(page):

@@ -9,7 +9,6 @@ tools are missing, it installs Debian's packages, or names them if this user may
 """
 import os
 import re
-import shutil
 import subprocess
 import sys
 
