@@ -1,10 +1,10 @@
 """The process that tells why lines are refused, for the server `jpstored` at the other end of its pipes.
 
-Each line of its input has the number of a refusal, the command, the changes before it in its transaction, and the
-document and the schema that the store has, if they are needed. Each is answered with an object in a line: `detail`, a
-text that tells the place of the fault, `advice`, what to do about it, and `errors`, the faults of a document that is
-not valid, or null. A schema may take the library very long, so a process looks, whose processor time and memory are
-limited by the system.
+Each line of its input has the number of a refusal, the command, the operation at fault of a patch or null, the changes
+before it in its transaction, and the document and the schema that the store has, if they are needed. Each is answered
+with an object in a line: `detail`, a text that tells the place of the fault, `advice`, what to do about it, and
+`errors`, the faults of a document that is not valid, or null. A schema may take the library very long, so a process
+looks, whose processor time and memory are limited by the system.
 """
 import contextlib
 import importlib
@@ -54,8 +54,8 @@ def _told(asked: Dict[str, Any]) -> Dict[str, Any]:
     number: int = asked["number"]
     detail = ""
     with contextlib.suppress(RecursionError, MemoryError):
-        detail = detail_of(number, asked["command"])
-    advice = advice_for(number, asked["command"], None) or REFUSALS[number].advice
+        detail = detail_of(number, asked["command"], asked["op"])
+    advice = advice_for(number, asked["command"], asked["op"]) or REFUSALS[number].advice
     return {"advice": advice, "detail": detail, "errors": _faults(asked) if number == _INVALID else None}
 
 

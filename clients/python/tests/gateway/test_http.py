@@ -551,6 +551,11 @@ _PLACES = [
      "change 0, counted from 0: `create` lacks `schema`; it has `", "compare with the command in"),
     ("POST", "/transactions", {"changes": [{"cmd": "delete", "name": "a b"}]}, 15, "`a b` has ' ' as its character 2",
      "use the letters A to Z"),
+    ("POST", "/transactions", {"changes": [{"cmd": "patch", "name": "d", "ops": [
+        {"op": "replace", "path": "", "value": 1}, {"op": "replac", "path": ""}]}]}, 30,
+     '`op` is "replac": perhaps "replace" is meant', "compare the operations with RFC 6902"),
+    ("POST", "/transactions", {"changes": [{"cmd": "patch", "name": "d", "ops": [{"op": "remove", "path": "n"}]}]}, 31,
+     "`path`: `n` doesn't begin with `/`", "begin it with `/`"),
     ("PUT", "/schemas/d", {"properties": {"a": {"minimum": "1"}}}, 40, "at `/properties/a/minimum`: ",
      "compare the schema with JSON Schema Validation"),
     ("PUT", "/schemas/d", {"items": {"pattern": "x"}}, 41, "at `/items/pattern`: ", "leave the keyword out"),

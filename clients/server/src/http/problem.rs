@@ -6,7 +6,7 @@ use crate::refusals::{self, by_number, NO_MAJORITY};
 use serde_json::Value;
 
 /// The refusals of which a place is told: in a text, a line, a schema or a query.
-const PLACED: [u64; 12] = [11, 12, 13, 14, 15, 40, 41, 42, 43, 44, 50, 51];
+const PLACED: [u64; 15] = [11, 12, 13, 14, 15, 30, 31, 33, 40, 41, 42, 43, 44, 50, 51];
 
 /// A request that is refused: its status, and the members of its Problem Details.
 #[derive(Debug, Default)]

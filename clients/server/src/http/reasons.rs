@@ -1,7 +1,7 @@
 //! Why something is refused: the place of the fault, if a process of Python finds it in time.
 //!
-//! The store tells a number. Each line of the process's input has the number, the change, those before it in its
-//! transaction, and the document and the schema that the store has, if they are needed. It is answered with a line that has
+//! The store tells a number. Each line of the process's input has the number, the change, the operation at fault of a
+//! patch, the changes before it in its transaction, and the document and the schema that the store has, if they are needed. It is answered with a line that has
 //! the faults of a document, a text that tells the place, and one that tells what to do. A process that takes too long is killed.
 
 use super::app::App;
@@ -24,8 +24,9 @@ use tokio::runtime::Handle;
 use tokio::sync::Semaphore;
 use tokio::time::timeout;
 
-/// The refusals of which more can be told.
-const TOLD: [u64; 11] = [13, 14, 15, 40, 41, 42, 43, 44, 45, 50, 51];
+/// The refusals of which more can be told. Those that clients meet as they work beside others, such as 34, aren't among
+/// them: they are answered at once.
+const TOLD: [u64; 14] = [13, 14, 15, 30, 31, 33, 40, 41, 42, 43, 44, 45, 50, 51];
 const INVALID: u64 = 45;
 
 /// How many processes look beside each other.
@@ -96,7 +97,8 @@ impl Reasons {
         match problem.number {
             Some(number) if TOLD.contains(&number) => {
                 let command = String::from_utf8_lossy(line);
-                self.added(problem, asked(number, &[], command.trim_end(), &[])).await
+                let asked = asked(number, problem.op, &[], command.trim_end(), &[]);
+                self.added(problem, asked).await
             }
             _ => problem,
         }
@@ -117,8 +119,8 @@ impl Reasons {
             Some(name) if number == INVALID => pair_of(&app.store, name).await,
             _ => Vec::new(),
         };
-        let (before, command) = (&refused.before[..], &refused.command[..]);
-        self.added(problem, asked(number, before, command, &pair)).await
+        let asked = asked(number, problem.op, &refused.before, &refused.command, &pair);
+        self.added(problem, asked).await
     }
 
     async fn added(&self, mut problem: Problem, asked: Vec<u8>) -> Problem {
@@ -194,9 +196,11 @@ impl Refused {
 }
 
 /// What a process is asked: a line with these JSON texts.
-fn asked(number: u64, before: &[String], command: &str, pair: &[String]) -> Vec<u8> {
+fn asked(number: u64, op: Option<u64>, before: &[String], command: &str, pair: &[String]) -> Vec<u8> {
     let (before, pair) = (before.join(","), pair.join(","));
-    format!("{{\"before\":[{before}],\"command\":{command},\"number\":{number},\"pair\":[{pair}]}}\n").into_bytes()
+    let op = op.map_or("null".to_owned(), |op| op.to_string());
+    let of_command = format!("\"command\":{command},\"number\":{number},\"op\":{op}");
+    format!("{{\"before\":[{before}],{of_command},\"pair\":[{pair}]}}\n").into_bytes()
 }
 
 /// The texts of the document and the schema that the store has.
