@@ -44,6 +44,8 @@ pub struct Connection {
     stream: TcpStream,
     buffer: BytesMut,
     looked: usize,
+    /// Whether the buffer has held a long head.
+    was_long: bool,
     body: BodyState,
     app: Arc<App>,
     ending: Ending,
@@ -83,7 +85,7 @@ enum After {
 impl Connection {
     fn new(stream: TcpStream, app: Arc<App>, ending: Ending) -> Connection {
         let body = BodyState::new(head::Framing::Length(0), false);
-        Connection { stream, buffer: BytesMut::new(), looked: 0, body, app, ending }
+        Connection { stream, buffer: BytesMut::new(), looked: 0, was_long: false, body, app, ending }
     }
 
     async fn serve(mut self) {
@@ -120,13 +122,14 @@ impl Connection {
                 Err(malformed) => return Ok(Some(Err(malformed))),
             }
             if self.buffer.len() > size {
+                self.was_long = true;
                 if !taken.more(self.buffer.len() - size) {
                     return Ok(Some(Err(head::NO_ROOM)));
                 }
                 size = self.buffer.len();
             }
-            if self.buffer.is_empty() && self.buffer.capacity() > PIECE {
-                self.buffer = BytesMut::new();
+            if self.was_long && self.buffer.is_empty() {
+                (self.buffer, self.was_long) = (BytesMut::new(), false);
             }
             self.buffer.reserve(READ);
             let Connection { stream, buffer, ending, .. } = self;

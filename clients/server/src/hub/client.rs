@@ -1,12 +1,14 @@
 //! A client at the socket: its lines are taken, and its replies are handed to it, as fast as it takes them.
 
-use super::watch;
+use super::{watch, Rooms};
 use crate::ending::Ending;
 use crate::lines::framing::Framing;
 use crate::lines::kinds::{kind_of, own_command, Kind, Own};
 use crate::lines::{Line, Lines};
-use crate::program::room::Room;
+use crate::program::room::{Room, Taken};
 use crate::program::{Handle, Job, Reply, Spool};
+use bytes::BytesMut;
+use std::future::Future;
 use std::io;
 use std::time::Duration;
 use tokio::io::{AsyncReadExt, AsyncWriteExt};
@@ -31,14 +33,22 @@ pub(super) struct Client {
     /// Whether the client sends nothing more.
     pub ended: bool,
     store: Handle,
-    room: Room,
+    replies: Room,
+    /// The room of what it has sent beyond a piece. One that finds none is given up.
+    lines: Taken,
+    /// Whether the buffer has held more than a piece.
+    was_long: bool,
 }
 
 /// Serves a client until it says that no more lines come and all are answered, it goes away, or the server ends.
-pub async fn attend(stream: UnixStream, store: Handle, room: Room, ending: Ending) {
-    let mut client = Client { stream, framing: Framing::default(), ending, next: None, ended: false, store, room };
-    // A client that has gone away is no error.
-    let _ = client.serve().await;
+pub fn attend(stream: UnixStream, store: Handle, rooms: &Rooms, ending: Ending) -> impl Future<Output = ()> {
+    let (framing, replies, lines) = (Framing::default(), rooms.replies.clone(), rooms.lines.begin());
+    let mut client =
+        Client { stream, framing, ending, next: None, ended: false, store, replies, lines, was_long: false };
+    async move {
+        // A client that has gone away is no error.
+        let _ = client.serve().await;
+    }
 }
 
 impl Client {
@@ -103,21 +113,32 @@ impl Client {
         Some((kind_of(&line), line))
     }
 
-    /// Reads what has come; false if the server ends.
+    /// Reads what has come; false if the server ends, or there is no room for a long line.
     async fn read(&mut self) -> io::Result<bool> {
+        if self.was_long && self.framing.buffer.is_empty() {
+            // What a long line took isn't kept for the next one.
+            (self.framing.buffer, self.was_long) = (BytesMut::new(), false);
+        }
         self.framing.buffer.reserve(PIECE);
         tokio::select! {
             count = self.stream.read_buf(&mut self.framing.buffer) => self.ended = count? == 0,
             () = self.ending.begun() => return Ok(false),
         }
-        Ok(true)
+        Ok(self.has_room())
+    }
+
+    /// Whether there is room for what was read and isn't answered.
+    pub(super) fn has_room(&mut self) -> bool {
+        let more = self.framing.buffer.len().saturating_sub(PIECE);
+        self.was_long |= more > 0;
+        self.lines.becomes(more)
     }
 
     /// Has lines done, and hands over the replies; false if the server ends, or there is no room for the replies.
     async fn answer(&mut self, mut lines: Lines) -> io::Result<bool> {
         while !lines.is_empty() {
             let (reply, answer) = oneshot::channel();
-            self.store.ask(Job { lines, room: self.room.clone(), whole: false, reply: Reply::Lines(reply) });
+            self.store.ask(Job { lines, room: self.replies.clone(), whole: false, reply: Reply::Lines(reply) });
             let answer = match answer.await {
                 Ok(Ok(answer)) => answer,
                 _ => return Ok(false),
@@ -143,7 +164,7 @@ impl Client {
 
     /// Hands the client all documents of one moment.
     async fn export(&mut self) -> io::Result<()> {
-        let mut spool: Spool = match self.store.export("", &self.room).await {
+        let mut spool: Spool = match self.store.export("", &self.replies).await {
             Ok(spool) => spool?,
             Err(_) => return Err(io::ErrorKind::BrokenPipe.into()),
         };

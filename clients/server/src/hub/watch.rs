@@ -69,6 +69,9 @@ async fn wait(client: &mut Client, news: &mut tokio::sync::watch::Receiver<u64>)
         count = client.stream.read_buf(&mut client.framing.buffer), if !client.ended => client.ended = count? == 0,
         () = tokio::time::sleep(LOOK), if client.ended => return Ok(!has_gone(client)),
     }
+    if !client.has_room() {
+        return Ok(false);
+    }
     if client.ended && client.framing.last().is_some() {
         client.write(&refusal(WATCHING)).await?;
         return Ok(false);

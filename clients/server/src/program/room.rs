@@ -42,6 +42,16 @@ impl Taken {
         enough
     }
 
+    /// Has as many bytes taken as this; whether there is enough for them.
+    pub fn becomes(&mut self, size: usize) -> bool {
+        if size > self.size {
+            return self.more(size - self.size);
+        }
+        self.room.left.fetch_add(self.size - size, Ordering::Relaxed);
+        self.size = size;
+        true
+    }
+
     /// Gives back what was taken.
     pub fn give_back(&mut self) {
         self.room.left.fetch_add(std::mem::take(&mut self.size), Ordering::Relaxed);
@@ -63,6 +73,7 @@ mod tests {
         let room = Room::new(10);
         let mut some = room.take(4).unwrap();
         assert!(some.more(6) && !some.more(1) && room.take(1).is_none());
+        assert!(some.becomes(3) && room.take(8).is_none() && some.becomes(9) && !some.becomes(11));
         drop(some);
         assert!(room.take(10).is_some() && room.take(11).is_none());
     }
