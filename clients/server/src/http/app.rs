@@ -4,6 +4,7 @@ use super::date::Clock;
 use super::facts::Counts;
 use super::guard::Guard;
 use super::reasons::Reasons;
+use super::trees::Trees;
 use crate::program::room::Room;
 use crate::store::Store;
 use std::sync::Arc;
@@ -13,9 +14,8 @@ use tokio::sync::Semaphore;
 /// The most bytes of bodies that are in memory at once.
 const BODIES: usize = 1 << 25;
 
-/// The most queries that are asked at once: a reply to one may have 16 MiB. The most bodies that are taken apart at once.
+/// The most queries that are asked at once: a reply to one may have 16 MiB.
 const MOST_QUERIES: usize = 8;
-const MOST_TREES: usize = 8;
 
 /// The most clients that read all documents at once: each may have a file of them.
 const MOST_EXPORTS: usize = 16;
@@ -40,7 +40,7 @@ pub struct App {
     /// The queries that are asked.
     pub queries: Semaphore,
     /// The bodies that are taken apart.
-    pub trees: Semaphore,
+    pub trees: Trees,
     /// The clients that read all documents.
     pub exports: Arc<Semaphore>,
     /// The followers that there may be.
@@ -60,7 +60,7 @@ impl App {
             date: Clock::default(),
             bodies: Room::new(BODIES),
             queries: Semaphore::new(MOST_QUERIES),
-            trees: Semaphore::new(MOST_TREES),
+            trees: Trees::new(),
             exports: Arc::new(Semaphore::new(MOST_EXPORTS)),
             followers: Room::new(MOST_FOLLOWERS),
             patience,

@@ -314,7 +314,7 @@ async fn revision_allowed(
 /// The operations of a merge patch on the document. It is of the revision that was asked for before, or they are refused.
 async fn merging(request: &Request<'_>, name: &str, patch: &Compact) -> Result<Vec<u8>, Problem> {
     let document = request.app.store.document(name).await?;
-    let _turn = request.app.trees.acquire().await;
+    let _turn = request.app.trees.turn(document.text.len() + patch.text.len()).await;
     match (value_of(&document.text), value_of(&patch.text)) {
         (Some(doc), Some(patch)) => {
             let operations = canonical(&operations_of(&doc, &patch));

@@ -23,6 +23,7 @@ mod routes;
 mod schemas;
 mod target;
 mod transactions;
+mod trees;
 
 pub use app::App;
 pub use connection::serve;

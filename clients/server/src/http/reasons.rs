@@ -112,7 +112,7 @@ impl Reasons {
         };
         let refused = {
             // The values take much more memory than the line, so only a few clients have them at once, and not for long.
-            let _turn = app.trees.acquire().await;
+            let _turn = app.trees.turn(line.len()).await;
             Refused::of(line, problem.change)
         };
         let pair = match &refused.document {

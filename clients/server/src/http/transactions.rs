@@ -23,7 +23,7 @@ pub async fn make_all(request: &mut Request<'_>) -> Result<Response, Problem> {
     }
     let body = text_of(request).await?.text;
     let (line, warnings) = {
-        let _turn = request.app.trees.acquire().await;
+        let _turn = request.app.trees.turn(body.len()).await;
         let changes = changes_in(&body)?;
         let line = [b"{\"changes\":", &canonical(&changes)[..], b",\"cmd\":\"transaction\"}\n"].concat();
         (line, warnings_of(&changes))
