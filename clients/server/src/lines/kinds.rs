@@ -1,9 +1,10 @@
 //! The kinds of lines, which decide in which part of a round a line is done.
 
 use super::MOST_CHANGES;
-use crate::json::canonical::value_in;
+use crate::json::compact;
 use memchr::memmem;
-use serde_json::Value;
+use serde_json::value::RawValue;
+use std::collections::BTreeMap;
 
 /// What a line asks for.
 #[derive(Clone, Copy, Debug, PartialEq, Eq)]
@@ -55,9 +56,21 @@ pub fn kind_of(line: &[u8]) -> Kind {
         // So that a long line isn't read. The quotes at its end are none of a text, since no `\` is before them.
         return Kind::Change;
     }
-    let value = value_in(line);
-    let word = value.as_ref().and_then(|value| value.get("cmd")).and_then(Value::as_str);
+    let word = compact(line).ok().and_then(|made| text_of(&members_in(&made.text)?, "cmd"));
     word.map_or(Kind::Question, |word| kind_of_word(word.as_bytes()))
+}
+
+/// The members of an object, as texts: values would take a hundred times the memory of a long line.
+fn members_in(text: &[u8]) -> Option<BTreeMap<String, &RawValue>> {
+    serde_json::from_slice(text).ok()
+}
+
+fn text_of(members: &BTreeMap<String, &RawValue>, name: &str) -> Option<String> {
+    serde_json::from_str(members.get(name)?.get()).ok()
+}
+
+fn number_of(members: &BTreeMap<String, &RawValue>, name: &str) -> Option<u64> {
+    serde_json::from_str(members.get(name)?.get()).ok()
 }
 
 /// Whether there is only one reading: without an escape, and with one such member.
@@ -92,14 +105,14 @@ pub fn most_changes(line: &[u8]) -> usize {
 
 /// The command of the server's own that a line is. The program refuses what only looks like one.
 pub fn own_command(line: &[u8]) -> Option<Own> {
-    let value = value_in(line)?;
-    let members = value.as_object()?;
-    match members.get("cmd")?.as_str()? {
+    let made = compact(line).ok()?;
+    let members = members_in(&made.text)?;
+    match text_of(&members, "cmd")?.as_str() {
         "export" if members.len() == 1 => Some(Own::Export),
-        "grow" if members.len() == 2 => members.get("sectors")?.as_u64().map(Own::Grow),
+        "grow" if members.len() == 2 => number_of(&members, "sectors").map(Own::Grow),
         "watch" => {
-            let from = members.get("from").map(Value::as_u64);
-            let history = members.get("history").map(|name| name.as_str().map(str::to_owned));
+            let from = members.get("from").map(|_| number_of(&members, "from"));
+            let history = members.get("history").map(|_| text_of(&members, "history"));
             let known = 1 + usize::from(from.is_some()) + usize::from(history.is_some());
             // A history is that of a number.
             let whole = from != Some(None) && history != Some(None) && (history.is_none() || from.is_some());
