@@ -50,6 +50,8 @@ pub struct Malformed {
 pub const NO_ROOM: Malformed =
     Malformed { status: 503, told: "too many bytes of requests are on their way: send the request again" };
 
+const TOO_MANY: &str = "the request has too many fields";
+
 const fn malformed<T>(told: &'static str) -> Result<T, Malformed> {
     Err(Malformed { status: 400, told })
 }
@@ -121,9 +123,10 @@ fn check_begun(begun: &[u8]) -> Result<(), Malformed> {
     check_lines(begun, false)
 }
 
-/// Each line ends with CR and LF, and isn't too long.
+/// Each line ends with CR and LF, and isn't too long. There aren't too many: else who sends byte after byte has all of them
+/// looked at each time.
 fn check_lines(head: &[u8], is_whole: bool) -> Result<(), Malformed> {
-    let mut begin = 0;
+    let (mut begin, mut lines) = (0, 0);
     for place in memchr::memchr2_iter(b'\r', b'\n', head) {
         let is_end = head[place] == b'\r' && head.get(place + 1).map_or(!is_whole, |next| *next == b'\n');
         let is_second = head[place] == b'\n' && place > 0 && head[place - 1] == b'\r';
@@ -132,7 +135,11 @@ fn check_lines(head: &[u8], is_whole: bool) -> Result<(), Malformed> {
         }
         if is_second {
             check_length(place - 1 - begin, begin == 0)?;
-            begin = place + 1;
+            (begin, lines) = (place + 1, lines + 1);
+            // Those of the fields, the first, and the empty one at the end.
+            if lines > MOST_FIELDS + 2 {
+                return malformed(TOO_MANY);
+            }
         }
     }
     check_length(head.len() - begin, begin == 0)
@@ -155,7 +162,7 @@ fn parsed(head: &[u8]) -> Result<Head, Malformed> {
     let mut request = httparse::Request::new(&mut fields);
     match request.parse(head) {
         Ok(httparse::Status::Complete(length)) if length == head.len() => (),
-        Err(httparse::Error::TooManyHeaders) => return malformed("the request has too many fields"),
+        Err(httparse::Error::TooManyHeaders) => return malformed(TOO_MANY),
         Err(httparse::Error::Version) => return malformed("this version of HTTP is not known"),
         _ => return malformed("this is no request of HTTP/1.1"),
     }
@@ -291,7 +298,7 @@ mod tests {
         for text in [
             format!("GET /{}", "x".repeat(70_000)),
             format!("GET / HTTP/1.1\r\nX: {}", "x".repeat(17_000)),
-            format!("GET / HTTP/1.1\r\n{}", "X: 1\r\n".repeat(30_000)),
+            format!("GET / HTTP/1.1\r\n{}", "X: 1\r\n".repeat(102)),
             "GET / HTTP/1.1\nHost".to_owned(),
         ] {
             assert!(head_of(&text).is_err());
