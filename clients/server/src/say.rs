@@ -15,10 +15,19 @@ static WAITS: AtomicBool = AtomicBool::new(false);
 /// The most that wait.
 const MOST_WAITING: usize = 16;
 
+/// Writes a line to a standard stream, unless that takes nothing now, such as a pipe that nobody reads.
+fn write_line(stream: &mut (impl Write + AsRawFd), text: &str) -> io::Result<()> {
+    let mut asked = libc::pollfd { fd: stream.as_raw_fd(), events: libc::POLLOUT, revents: 0 };
+    // SAFETY: `asked` is one such structure, which lives until the call returns, and it doesn't wait.
+    if unsafe { libc::poll(&mut asked, 1, 0) } == 0 {
+        return Err(io::ErrorKind::WouldBlock.into());
+    }
+    writeln!(stream, "{text}").and_then(|()| stream.flush())
+}
+
 /// Says on standard output that clients may connect.
 pub fn announce(text: &str) {
-    let mut output = std::io::stdout();
-    if let Err(error) = writeln!(output, "{text}").and_then(|()| output.flush()) {
+    if let Err(error) = write_line(&mut io::stdout(), text) {
         complain(&format!("standard output cannot be written: {error}"));
     }
 }
@@ -34,7 +43,7 @@ pub fn show(text: &str) -> Result<(), Error> {
 pub fn complain(text: &str) {
     let mut waiting = WAITING.lock().unwrap_or_else(std::sync::PoisonError::into_inner);
     waiting.push(text.to_owned());
-    let said = waiting.iter().take_while(|text| writeln!(std::io::stderr(), "{text}").is_ok()).count();
+    let said = waiting.iter().take_while(|text| write_line(&mut io::stderr(), text).is_ok()).count();
     waiting.drain(..said);
     let more = waiting.len().saturating_sub(MOST_WAITING);
     waiting.drain(..more);
