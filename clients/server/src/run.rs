@@ -17,8 +17,9 @@ use crate::program::{self, Handle};
 use crate::say;
 use crate::store::{Store, Which};
 use std::os::unix::fs::FileTypeExt;
+use std::path::Path;
 use std::sync::Arc;
-use std::time::Duration;
+use std::time::{Duration, Instant};
 use tokio::net::TcpListener;
 use tokio::runtime::{Builder, Handle as Workers, Runtime};
 use tokio::signal::unix::{signal, SignalKind};
@@ -29,6 +30,12 @@ use tokio::time::timeout;
 /// How long clients have at the end, and the program.
 const FAREWELL: Duration = Duration::from_secs(4);
 const LAST_ROUND: Duration = Duration::from_secs(2);
+
+/// After how long a server that was to end is broken off, such as one that waits for a disk that hangs.
+const LAST: Duration = Duration::from_secs(15);
+
+/// How often it looks for a socket that isn't there yet.
+const PAUSE: Duration = Duration::from_millis(50);
 
 /// The most bytes of answers over HTTP that are in memory at once.
 const ANSWERS: usize = 1 << 28;
@@ -58,10 +65,15 @@ struct Web {
 }
 
 async fn serve(options: Options, workers: Workers) -> Result<(), Error> {
-    let mut signals = signals()?;
-    let is_other = std::fs::metadata(&options.store).map_or(false, |found| found.file_type().is_socket());
+    let mut signals = signals(&workers)?;
     let web = web(&options, &workers)?;
-    if is_other {
+    if options.socket.is_none() {
+        tokio::select! {
+            () = until_there(&options.store, options.wait) => (),
+            _ = signals.changed() => return Ok(()),
+        }
+    }
+    if std::fs::metadata(&options.store).map_or(false, |found| found.file_type().is_socket()) {
         return serve_other(&options, &workers, web, signals).await;
     }
     if let Some(path) = &options.socket {
@@ -93,6 +105,14 @@ async fn serve(options: Options, workers: Workers) -> Result<(), Error> {
     }
     say::notify("READY=1");
     until_the_end(engine, end, signals, app).await
+}
+
+/// Waits for so long until something is at a path: the server whose socket it is may begin at the same time.
+async fn until_there(path: &Path, wait: Duration) {
+    let until = Instant::now() + wait;
+    while !path.exists() && Instant::now() < until {
+        tokio::time::sleep(PAUSE).await;
+    }
 }
 
 /// Serves the store of another server over HTTP.
@@ -166,9 +186,10 @@ async fn welcome(
     Ok(Some(listening))
 }
 
-/// Whether a signal has come that ends the server.
-fn signals() -> Result<watch::Receiver<bool>, Error> {
+/// Whether a signal has come that ends the server. The thread of the program may wait for the disk, so another one takes it.
+fn signals(workers: &Workers) -> Result<watch::Receiver<bool>, Error> {
     let told = |error| Error::new(format!("no signals can be taken: {error}"));
+    let _entered = workers.enter();
     let mut interrupt = signal(SignalKind::interrupt()).map_err(told)?;
     let mut terminate = signal(SignalKind::terminate()).map_err(told)?;
     let (come, has_come) = watch::channel(false);
@@ -178,8 +199,10 @@ fn signals() -> Result<watch::Receiver<bool>, Error> {
             _ = terminate.recv() => (),
         }
         come.send_replace(true);
-        // The others wait for a change, and not for the end of this task.
-        std::future::pending::<()>().await;
+        tokio::time::sleep(LAST).await;
+        say::complain("the server is broken off, as a disk doesn't answer");
+        // Nothing that was answered is lost.
+        std::process::exit(1);
     });
     Ok(has_come)
 }

@@ -159,7 +159,10 @@ mod tests {
     fn the_slot_that_the_page_shows_is_read() {
         for places in [&[64, 96][..], &[64], &[96]] {
             let slot = counting(&slots(&shown(), places)).unwrap();
-            assert_eq!((slot.number, slot.length, slot.seq, slot.opens, slot.sectors, slot.half), (3, 67, 1, 1, 160, 0));
+            assert_eq!(
+                (slot.number, slot.length, slot.seq, slot.opens, slot.sectors, slot.half),
+                (3, 67, 1, 1, 160, 0)
+            );
             assert_eq!(slot.identity, *b"\0\x01\x02\x03\x04\x05\x06\x07\x08\x09\x0a\x0b\x0c\x0d\x0e\x0f");
             assert!(slot.tail.ends_with(b",\"schema\":true}"));
         }
