@@ -49,7 +49,8 @@ from server import use_server  # noqa: E402
 from support import Place  # noqa: E402
 
 CLIENT_COUNT = 8
-SECTORS = 96
+# The fewest that a store of format 3 has, so that there are many snapshots.
+SECTORS = 160
 LIFE = 0.5
 
 # How many of the clients that write are processes.
@@ -361,9 +362,9 @@ def start_hub(place, words):
                             stdout=subprocess.PIPE, env=place.environment())
 
 
-def one_life(place):
+def one_life(place, start=None):
     """A hub from its start to its end; answers how it ended."""
-    hub = start_hub(place, random.choice([(), (), ("--pump", "2")]))
+    hub = start() if start else start_hub(place, random.choice([(), (), ("--pump", "2")]))
     how = "start" if random.random() < 0.15 else random.choice(["hub", "hub", "program", "program", "term"])
     if how == "start":
         time.sleep(random.uniform(0, 0.25))
