@@ -13,7 +13,7 @@ import time
 import pytest
 from gateways import Gateway
 from hubs import Hub
-from jpstore import Store
+from jpstore import Store, create
 from support import PATIENCE, until
 from test_limits import answered, most_memory
 
@@ -78,7 +78,7 @@ def test_merge_patches_of_many_values_take_little_memory(place):
     with Gateway(place) as gateway, contextlib.ExitStack() as stack:
         assert gateway.put("/documents/d", b'{"x":[' + b'{"a":1},' * 60_000 + b"1]}").status == 201
         before = gateway.memory()
-        patch = b'{"x":{"y":[' + b'{"a":1},' * 130_000 + b"1]}}"
+        patch = b'{"x":{"y":[' + b'{"a":1},' * 140_000 + b"1]}}"
         head = ("PATCH /documents/d HTTP/1.1\r\nHost: localhost\r\nContent-Type: application/merge-patch+json\r\n"
                 f"Content-Length: {len(patch)}\r\n\r\n")
         clients = [stack.enter_context(gateway.raw()) for _ in range(2)]
@@ -87,6 +87,38 @@ def test_merge_patches_of_many_values_take_little_memory(place):
             client.sendall(head.encode() + patch)
         assert [client.recv(12)[9:] for client in clients] == [b"413"] * 2
         assert gateway.memory() - before < 500 * MIB
+
+
+def test_exports_that_nobody_reads_are_few(place):
+    """Each may be a file of all documents; beyond 32 of them one more is refused, as if memory ran out."""
+    place.format(65536)
+    asked = b'{"cmd":"export"}\n'
+    with Hub(place) as hub:
+        with hub.connect() as store:
+            store.transaction([create(f"d{number}", "x" * 400_000) for number in range(2)])
+        with at(hub.path, 32) as clients:
+            for client in clients:
+                client.sendall(asked)
+                assert client.recv(1)
+            assert hub.lines(asked, 1)[0]["number"] == 63
+        until(lambda: hub.lines(asked, 1)[0]["ok"], "an export")
+
+
+def test_long_heads_leave_room_for_bodies(place):
+    """Anybody may send a head, and only who may ask a body."""
+    place.format()
+    head = b"GET / HTTP/1.1\r\nHost: localhost\r\n" + (b"X: " + b"x" * 16_000 + b"\r\n") * 7
+    with Gateway(place) as gateway, contextlib.ExitStack() as stack:
+        for _ in range(330):
+            stack.enter_context(gateway.raw()).sendall(head)
+
+        def is_refused():
+            with gateway.raw() as client, contextlib.suppress(socket.timeout):
+                client.settimeout(1)
+                client.sendall(head)
+                return client.recv(12)[9:] == b"503"
+        until(is_refused, "the limit of heads")
+        assert gateway.put("/documents/d", 1).status == 201
 
 
 @pytest.mark.parametrize("door", ["http", "socket"])

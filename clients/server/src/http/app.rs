@@ -11,8 +11,9 @@ use std::sync::Arc;
 use std::time::Duration;
 use tokio::sync::Semaphore;
 
-/// The most bytes of bodies that are in memory at once.
+/// The most bytes of bodies that are in memory at once, and of long heads, which anybody may send.
 const BODIES: usize = 1 << 25;
+const HEADS: usize = 1 << 25;
 
 /// The most queries that are asked at once: a reply to one may have 16 MiB.
 const MOST_QUERIES: usize = 8;
@@ -37,6 +38,8 @@ pub struct App {
     pub date: Clock,
     /// The bytes of bodies.
     pub bodies: Room,
+    /// The bytes of long heads.
+    pub heads: Room,
     /// The queries that are asked.
     pub queries: Semaphore,
     /// The bodies that are taken apart.
@@ -59,6 +62,7 @@ impl App {
             facts: Counts::default(),
             date: Clock::default(),
             bodies: Room::new(BODIES),
+            heads: Room::new(HEADS),
             queries: Semaphore::new(MOST_QUERIES),
             trees: Trees::new(),
             exports: Arc::new(Semaphore::new(MOST_EXPORTS)),

@@ -114,7 +114,7 @@ impl Connection {
     /// The next head; none if the client has ended, was idle for too long, or the server ends.
     async fn head(&mut self) -> io::Result<Option<Result<Head, head::Malformed>>> {
         let deadline = Instant::now() + self.app.patience;
-        let (mut taken, mut size) = (self.app.bodies.begin(), READ);
+        let (mut taken, mut size) = (self.app.heads.begin(), READ);
         loop {
             match head::take(&mut self.buffer, &mut self.looked) {
                 Ok(Some(head)) => return Ok(Some(Ok(head))),

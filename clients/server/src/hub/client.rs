@@ -4,6 +4,7 @@ use super::{watch, Rooms};
 use crate::ending::Ending;
 use crate::lines::framing::Framing;
 use crate::lines::kinds::{kind_of, own_command, Kind, Own};
+use crate::lines::replies::refusal;
 use crate::lines::{Line, Lines};
 use crate::program::room::{Room, Taken};
 use crate::program::{Handle, Job, Reply, Spool};
@@ -20,6 +21,9 @@ use tokio::time::timeout;
 const PIECE: usize = 1 << 16;
 const MOST_LINES: usize = 256;
 
+/// The refusal of an export for which there is no room.
+const NO_MEMORY: u64 = 63;
+
 /// How long a client may take for its last replies.
 const FAREWELL: Duration = Duration::from_secs(5);
 
@@ -34,6 +38,7 @@ pub(super) struct Client {
     pub ended: bool,
     store: Handle,
     replies: Room,
+    exports: Room,
     /// The room of what it has sent beyond a piece. One that finds none is given up.
     lines: Taken,
     /// Whether the buffer has held more than a piece.
@@ -42,9 +47,10 @@ pub(super) struct Client {
 
 /// Serves a client until it says that no more lines come and all are answered, it goes away, or the server ends.
 pub fn attend(stream: UnixStream, store: Handle, rooms: &Rooms, ending: Ending) -> impl Future<Output = ()> {
-    let (framing, replies, lines) = (Framing::default(), rooms.replies.clone(), rooms.lines.begin());
+    let (framing, lines) = (Framing::default(), rooms.lines.begin());
+    let (replies, exports) = (rooms.replies.clone(), rooms.exports.clone());
     let mut client =
-        Client { stream, framing, ending, next: None, ended: false, store, replies, lines, was_long: false };
+        Client { stream, framing, ending, next: None, ended: false, store, replies, exports, lines, was_long: false };
     async move {
         // A client that has gone away is no error.
         let _ = client.serve().await;
@@ -162,8 +168,12 @@ impl Client {
         }
     }
 
-    /// Hands the client all documents of one moment.
+    /// Hands the client all documents of one moment; a refusal, if too many others haven't read theirs.
     async fn export(&mut self) -> io::Result<()> {
+        let _place = match self.exports.take(1) {
+            Some(place) => place,
+            None => return self.write(&refusal(NO_MEMORY)).await,
+        };
         let mut spool: Spool = match self.store.export("", &self.replies).await {
             Ok(spool) => spool?,
             Err(_) => return Err(io::ErrorKind::BrokenPipe.into()),

@@ -14,16 +14,20 @@ use tokio::net::UnixListener;
 const MOST_REPLIES: usize = 1 << 28;
 const MOST_LINES: usize = 1 << 28;
 
-/// The bytes that all clients share.
-#[derive(Clone)]
+/// The most exports that clients haven't read: each may have a file of all documents.
+const MOST_EXPORTS: usize = 32;
+
+/// What all clients share: bytes, and exports.
 struct Rooms {
     replies: Room,
     lines: Room,
+    exports: Room,
 }
 
 /// Takes clients, each of which is attended beside the others, until the end.
 pub async fn serve(listener: UnixListener, store: Handle, places: Places, ending: Ending) {
-    let (listener, rooms) = (&listener, Rooms { replies: Room::new(MOST_REPLIES), lines: Room::new(MOST_LINES) });
+    let (replies, lines, exports) = (Room::new(MOST_REPLIES), Room::new(MOST_LINES), Room::new(MOST_EXPORTS));
+    let (listener, rooms) = (&listener, Rooms { replies, lines, exports });
     let accept = || async move { Ok(listener.accept().await?.0) };
     let attend = |stream| client::attend(stream, store.clone(), &rooms, ending.clone());
     let_in(places, ending.clone(), accept, attend).await;
