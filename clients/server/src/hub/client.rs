@@ -46,7 +46,7 @@ pub(super) struct Client {
 }
 
 /// Serves a client until it says that no more lines come and all are answered, it goes away, or the server ends.
-pub fn attend(stream: UnixStream, store: Handle, rooms: &Rooms, ending: Ending) -> impl Future<Output = ()> {
+pub(super) fn attend(stream: UnixStream, store: Handle, rooms: &Rooms, ending: Ending) -> impl Future<Output = ()> {
     let (framing, lines) = (Framing::default(), rooms.lines.begin());
     let (replies, exports) = (rooms.replies.clone(), rooms.exports.clone());
     let mut client =
