@@ -248,7 +248,7 @@ class Counter:
 
     def _run(self, path):
         try:
-            with Store.connect(path, wait=60) as store:
+            with Store.connect(path, wait=600) as store:
                 while not self._stop.is_set():
                     self.count += 1
                     count_once(store, self.name, self.count)

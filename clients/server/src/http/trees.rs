@@ -21,7 +21,7 @@ impl Trees {
         Trees(Semaphore::new(TURNS as usize))
     }
 
-    /// Turns for texts of so many bytes together.
+    /// Turns for texts of this many bytes together.
     pub async fn turn(&self, size: usize) -> Turn<'_> {
         let turns = turns_of(size);
         // The turns never end.
