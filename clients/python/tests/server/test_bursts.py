@@ -113,9 +113,11 @@ def test_long_heads_leave_room_for_bodies(place):
             stack.enter_context(gateway.raw()).sendall(head)
 
         def is_refused():
-            with gateway.raw() as client, contextlib.suppress(socket.timeout):
-                client.settimeout(1)
-                client.sendall(head)
+            # One that isn't refused stays, since its room would be free for the next one.
+            client = stack.enter_context(gateway.raw())
+            client.settimeout(1)
+            client.sendall(head)
+            with contextlib.suppress(socket.timeout):
                 return client.recv(12)[9:] == b"503"
         until(is_refused, "the limit of heads")
         assert gateway.put("/documents/d", 1).status == 201
@@ -225,7 +227,7 @@ def test_a_gateway_waits_for_the_server_whose_socket_it_serves(place, server):
         waiting.communicate()
     words[1] = place.path("none")
     ended = subprocess.run([*words, "--wait", "0.2"], stderr=subprocess.PIPE, timeout=PATIENCE, check=False)
-    assert (ended.returncode, b'"cause":"missing"' in ended.stderr) == (1, True)
+    assert (ended.returncode, b"none: No such file or directory" in ended.stderr) == (1, True)
 
 
 # In the server alone: writes to a file of changes never end.

@@ -9,7 +9,7 @@ use std::io;
 const ADVICE: &[(&str, &str)] = &[
     ("missing", "compare the path, whose folder must exist; `jpstore-cli format FILE` makes a store, and `jpstore-cli hub FILE --socket PATH` serves one at a socket"),
     ("folder", "name a file in it"),
-    ("denied", "a store is read and written by its owner, even to look at it, and made in a folder of theirs: run this as that user, or change the rights of the file and its folder (`chmod`, `chown`)"),
+    ("denied", "a store is read and written by its owner, even to look at it, and made in a folder of theirs: run this as that user, or change the rights of the file and its folder (`chmod`, `chown`); `jpstore dump FILE --read-only` needs no right to write"),
     ("read-only", "copy the file to a file system that can be written"),
     ("descriptors", "close files, or raise the limit (`ulimit -n`)"),
     ("in-use", "connect to the socket of the hub that serves it, end the other command, or wait for it by `--wait SECONDS`"),
