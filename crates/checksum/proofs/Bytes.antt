@@ -2,7 +2,8 @@
 use Rattle.std.proofs.Common.{◌≡◌, ℕ, zero, suc, ◌+◌, ◌/◌, ◌%◌, ◌<◌, ◌^◌, List, [], ◌∷◌, length, refl, ap, sym, ◌∙◌, arith, get_or, take, drop, take-append-drop, drop-cons}
 use Rattle.std.specs.Prelude.{bit_xor}
 use lib.Bits.{xor_assoc, xor_zero_l, xor_zero_r, xor_comm}
-use Rattle.std.proofs.lemmas.Nat.{xor_shr}
+use Rattle.std.proofs.lemmas.Nat.{xor_shr, xor_mod, le_bytes_8}
+use Rattle.std.specs.Int.{w64, from_le_bytes}
 use Rattle.checksum.specs.Crc.{divided, bits_of, bits_of_byte}
 use Rattle.checksum.specs.Rows.{past_byte, past_bytes}
 use Rattle.checksum.proofs.Steps.{past_sum, by_lowest}
@@ -85,6 +86,42 @@ eight_of (a ∷ b ∷ c ∷ []) size = absurd (omega (arith, size))
 eight_of (a ∷ b ∷ []) size = absurd (omega (arith, size))
 eight_of (a ∷ []) size = absurd (omega (arith, size))
 eight_of [] size = absurd (omega (arith, size))
+
+-- eight bytes that are read as one number, each found in it again
+pub eight_read : (xs : List ℕ) (x : ℕ) → length xs ≡ 8 → ((i : ℕ) → get_or xs i 0 < 256) → x ≡ from_le_bytes w64 xs
+    → (x % 2 ^ 8 ≡ get_or xs 0 0) × (x / 2 ^ 8 % 2 ^ 8 ≡ get_or xs 1 0) × (x / 2 ^ 16 % 2 ^ 8 ≡ get_or xs 2 0) × (x / 2 ^ 24 % 2 ^ 8 ≡ get_or xs 3 0)
+    × (x / 2 ^ 32 % 2 ^ 8 ≡ get_or xs 4 0) × (x / 2 ^ 40 % 2 ^ 8 ≡ get_or xs 5 0) × (x / 2 ^ 48 % 2 ^ 8 ≡ get_or xs 6 0) × (x / 2 ^ 56 % 2 ^ 8 ≡ get_or xs 7 0)
+eight_read xs x size small is =
+    let same = le_bytes_8 xs x size small is in (
+      ap (λ (l : List ℕ). get_or l 0 0) same,
+      ap (λ (l : List ℕ). get_or l 1 0) same,
+      ap (λ (l : List ℕ). get_or l 2 0) same,
+      ap (λ (l : List ℕ). get_or l 3 0) same,
+      ap (λ (l : List ℕ). get_or l 4 0) same,
+      ap (λ (l : List ℕ). get_or l 5 0) same,
+      ap (λ (l : List ℕ). get_or l 6 0) same,
+      ap (λ (l : List ℕ). get_or l 7 0) same,
+    )
+
+-- a byte of a sum
+part_of_sum : (left x b shift : ℕ) → x / 2 ^ shift % 2 ^ 8 ≡ b → bit_xor left x / 2 ^ shift % 2 ^ 8 ≡ bit_xor (left / 2 ^ shift) b % 2 ^ 8
+part_of_sum left x b shift is =
+    let alone : b ≡ b % 2 ^ 8 = omega (arith, is) in
+    ap (λ (n : ℕ). n % 2 ^ 8) (xor_shr left x shift) ∙ xor_mod (left / 2 ^ shift) (x / 2 ^ shift) 8 ∙ ap (bit_xor (left / 2 ^ shift % 2 ^ 8)) (is ∙ alone)
+    ∙ sym (xor_mod (left / 2 ^ shift) b 8)
+
+pub row_first : (left x a row : ℕ) → x % 2 ^ 8 ≡ a → row ≡ past_bytes 8 (bit_xor left x % 2 ^ 8) → row ≡ past_bytes 8 (bit_xor left a % 2 ^ 8)
+row_first left x a row is row_is =
+    let alone : a ≡ a % 2 ^ 8 = omega (arith, is) in
+    row_is ∙ ap (past_bytes 8) (xor_mod left x 8 ∙ ap (bit_xor (left % 2 ^ 8)) (is ∙ alone) ∙ sym (xor_mod left a 8))
+
+pub row_early : (count left x b shift row : ℕ) → x / 2 ^ shift % 2 ^ 8 ≡ b → row ≡ past_bytes count (bit_xor left x / 2 ^ shift % 2 ^ 8) → row ≡ past_bytes count (bit_xor (left / 2 ^ shift) b % 2 ^ 8)
+row_early count left x b shift row is row_is = row_is ∙ ap (past_bytes count) (part_of_sum left x b shift is)
+
+-- none of the remainder is left there
+pub row_late : (count left x b shift row : ℕ) → left / 2 ^ shift ≡ 0 → x / 2 ^ shift % 2 ^ 8 ≡ b → row ≡ past_bytes count (bit_xor left x / 2 ^ shift % 2 ^ 8) → row ≡ past_bytes count (b % 2 ^ 8)
+row_late count left x b shift row none is row_is =
+    row_early count left x b shift row is row_is ∙ ap (λ (n : ℕ). past_bytes count (bit_xor n b % 2 ^ 8)) none ∙ ap (λ (n : ℕ). past_bytes count (n % 2 ^ 8)) (xor_zero_l b)
 
 -- the next ones
 pub next_ones : (left count : ℕ) (xs : List ℕ) → divided (divided left (bits_of (take count xs))) (bits_of (drop count xs)) ≡ divided left (bits_of xs)

@@ -1,5 +1,5 @@
 //! The checksum of bytes.
-ghost use Rattle.std.specs.Prelude.{◌≡◌, ◌<◌, ◌+◌, ◌++◌, ◌%◌, ◌^◌, List, ℕ, length};
+ghost use Rattle.std.specs.Prelude.{◌≡◌, ◌<◌, ◌+◌, ◌++◌, ◌%◌, ◌^◌, List, ℕ};
 ghost use Rattle.checksum.specs.Crc.{bits_of, crc_of, divided};
 ghost use Rattle.checksum.specs.Rows.{past_bytes};
 
@@ -24,11 +24,12 @@ fn divide(start: u32, bytes: &[u8]) -> u32
     ensures { result ≡ divided start (bits_of bytes.now) }
 {
     let mut left = start;
-    let eights = bytes.len() / 8;
-    for i in 0..eights {
-        left = divide_eight(left, &bytes[8 * i..8 * i + 8]);
+    let mut rest = bytes;
+    'eights: while let Some((eight, more)) = rest.split_first_chunk::<8>() {
+        left = divide_eight(left, eight);
+        rest = more;
     }
-    divide_few(left, &bytes[8 * eights..])
+    divide_few(left, rest)
 }
 
 // The same, a byte at a time.
@@ -37,27 +38,27 @@ fn divide_few(start: u32, bytes: &[u8]) -> u32
 {
     let mut left = start;
     for byte in bytes {
-        left = row(0, left ^ u32::from(*byte)) ^ (left >> 8);
+        let lowest = left ^ u32::from(*byte);
+        left = row(0, u64::from(lowest)) ^ (left >> 8);
     }
     left
 }
 
-// The same, of eight bytes. A byte's part doesn't depend on the others.
-fn divide_eight(left: u32, bytes: &[u8]) -> u32
-    requires { length bytes.now ≡ 8 }
+// The same, of eight bytes, which are read at once. A byte's part doesn't depend on the others.
+fn divide_eight(left: u32, bytes: &[u8; 8]) -> u32
     ensures { result ≡ divided left (bits_of bytes.now) }
 {
-    row(7, left ^ u32::from(bytes[0]))
-        ^ (row(6, (left >> 8) ^ u32::from(bytes[1]))
-            ^ (row(5, (left >> 16) ^ u32::from(bytes[2]))
-                ^ (row(4, (left >> 24) ^ u32::from(bytes[3]))
-                    ^ (row(3, u32::from(bytes[4]))
-                        ^ (row(2, u32::from(bytes[5]))
-                            ^ (row(1, u32::from(bytes[6])) ^ row(0, u32::from(bytes[7]))))))))
+    let sum = u64::from(left) ^ u64::from_le_bytes(*bytes);
+    row(7, sum)
+        ^ (row(6, sum >> 8)
+            ^ (row(5, sum >> 16)
+                ^ (row(4, sum >> 24)
+                    ^ (row(3, sum >> 32)
+                        ^ (row(2, sum >> 40) ^ (row(1, sum >> 48) ^ row(0, sum >> 56)))))))
 }
 
 // What remains of the lowest byte of a number and `more` bytes of zeros.
-fn row(more: usize, number: u32) -> u32
+fn row(more: usize, number: u64) -> u32
     requires { more < 8 }
     ensures { result ≡ past_bytes (more + 1) (number % 2 ^ 8) }
 {

@@ -9,6 +9,8 @@ pub mod Conversion
 pub mod RoundTrip
 pub mod Soundness
 pub mod Stripping
+mod Escaping
+pub mod Putting
 pub mod Events
 pub mod Cursors
 pub mod Matching

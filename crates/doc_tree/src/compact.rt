@@ -24,7 +24,17 @@ impl Tree {
     /// says nothing either. It is answered if there is no compact text, as soon as a name doesn't come after the one
     /// before it, and also if the text has an escape or the number -2^63, is over 127 levels deep, or memory is refused.
     pub fn read_compact(alloc: Global, bytes: &[u8]) -> Option<(Tree, &[u8])> {
-        value(alloc, MOST_LEVELS, bytes, None)
+        value(alloc, MOST_LEVELS, bytes, None, None)
+    }
+
+    /// A document whose compact text the bytes may be.
+    ///
+    /// As with `read_compact`, nothing is stated of the answer. But here all bytes are tested for UTF-8 at once, and not
+    /// those of each text alone: it is made for bytes that are one text.
+    pub fn read_compact_whole(alloc: Global, bytes: &[u8]) -> Option<Tree> {
+        let whole = from_utf8(bytes).ok()?;
+        let (tree, _) = value(alloc, MOST_LEVELS, bytes, Some(whole), None)?;
+        Some(tree)
     }
 }
 
@@ -32,33 +42,46 @@ impl Tree {
 ///
 /// As with `Tree::read_compact`, nothing is stated of the answer: `strip_quoted` says.
 pub fn read_unescaped(alloc: Global, bytes: &[u8]) -> Option<(String, &[u8])> {
-    let (text, rest) = unescaped(bytes)?;
+    let (text, rest) = unescaped(bytes, None)?;
     Some((String::from_str(alloc, text).ok()?, rest))
 }
 
-// The same as a part of the bytes.
-fn unescaped(bytes: &[u8]) -> Option<(&str, &[u8])> {
+// The same as a part of the bytes, which are the last ones of `whole` if that is given.
+fn unescaped<'b>(bytes: &'b [u8], whole: Option<&'b str>) -> Option<(&'b str, &'b [u8])> {
     let inside = strip_byte(b'"', bytes)?;
     let (plain, rest) = inside.split_at(plain_len(inside));
-    let rest = strip_byte(b'"', rest)?;
-    Some((from_utf8(plain).ok()?, rest))
+    let after = strip_byte(b'"', rest)?;
+    Some((text_before(plain, rest, whole)?, after))
 }
 
-// `like` is a tree that may look like the one to be read, and then shares its names with it.
+// The bytes before the rest as a text. As a part of `whole` they need no test of their own.
+fn text_before<'b>(plain: &'b [u8], rest: &[u8], whole: Option<&'b str>) -> Option<&'b str> {
+    match whole {
+        Some(whole) => {
+            let end = whole.len().checked_sub(rest.len())?;
+            whole.get(end.checked_sub(plain.len())?..end)
+        }
+        None => from_utf8(plain).ok(),
+    }
+}
+
+// `whole` is a text of which the bytes are the last ones, if one is known, and `like` a tree that may look like the one to
+// be read, and then shares its names with it.
 #[cycle(compact)]
 fn value<'b>(
     alloc: Global,
     levels: u32,
     bytes: &'b [u8],
+    whole: Option<&'b str>,
     like: Option<&Tree>,
 ) -> Option<(Tree, &'b [u8])> {
     match *bytes.first()? {
         b'"' => {
-            let (text, rest) = read_unescaped(alloc, bytes)?;
-            Some((Tree::Text(text), rest))
+            let (text, rest) = unescaped(bytes, whole)?;
+            Some((Tree::Text(String::from_str(alloc, text).ok()?), rest))
         }
-        b'[' => elements(alloc, levels.checked_sub(1)?, &bytes[1..], like),
-        b'{' => members(alloc, levels.checked_sub(1)?, &bytes[1..], like),
+        b'[' => elements(alloc, levels.checked_sub(1)?, &bytes[1..], whole, like),
+        b'{' => members(alloc, levels.checked_sub(1)?, &bytes[1..], whole, like),
         b'n' => Some((Tree::Null, bytes.strip_prefix(b"null")?)),
         b't' => Some((Tree::Bool(true), bytes.strip_prefix(b"true")?)),
         b'f' => Some((Tree::Bool(false), bytes.strip_prefix(b"false")?)),
@@ -72,6 +95,7 @@ fn elements<'b>(
     alloc: Global,
     levels: u32,
     bytes: &'b [u8],
+    whole: Option<&'b str>,
     like: Option<&Tree>,
 ) -> Option<(Tree, &'b [u8])> {
     if let Some(rest) = strip_byte(b']', bytes) {
@@ -80,7 +104,7 @@ fn elements<'b>(
     let mut items: Vec<Tree> = Vec::with_capacity(alloc, alike::len_of(like)).ok()?;
     let mut next = bytes;
     for _ in 0..bytes.len() {
-        let (item, rest) = value(alloc, levels, next, alike::item(&items, like))?;
+        let (item, rest) = value(alloc, levels, next, whole, alike::item(&items, like))?;
         items.push(item).ok()?;
         if let Some(rest) = strip_byte(b']', rest) {
             items.shrink_to_fit();
@@ -97,6 +121,7 @@ fn members<'b>(
     alloc: Global,
     levels: u32,
     bytes: &'b [u8],
+    whole: Option<&'b str>,
     like: Option<&Tree>,
 ) -> Option<(Tree, &'b [u8])> {
     if let Some(rest) = strip_byte(b'}', bytes) {
@@ -106,13 +131,13 @@ fn members<'b>(
     let mut next = bytes;
     let mut last = None;
     for _ in 0..bytes.len() {
-        let (name, rest) = unescaped(next)?;
+        let (name, rest) = unescaped(next, whole)?;
         if !comes_after(name.as_bytes(), last) {
             return None;
         }
         last = Some(name.as_bytes());
         let twin = alike::member(&found, name, like);
-        let (member, rest) = value(alloc, levels, strip_byte(b':', rest)?, twin.value)?;
+        let (member, rest) = value(alloc, levels, strip_byte(b':', rest)?, whole, twin.value)?;
         let name = alike::name_of(alloc, name, twin.name).ok()?;
         found.add_last(name, member)?;
         if let Some(rest) = strip_byte(b'}', rest) {

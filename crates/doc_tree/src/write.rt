@@ -15,9 +15,8 @@ impl Tree {
         ensures utf8 { IfOk result (λ b. IsUtf8 b.items) }
         ensures sound { IfOk result (λ _. IsSound (view self.now)) }
     {
-        match serde_json::to_vec(alloc, self) {
-            Ok(text) => Ok(text),
-            Err(_) => Err(AllocError),
-        }
+        let mut text = Vec::new(alloc);
+        self.put_text(&mut text)?;
+        Ok(text)
     }
 }

@@ -3,4 +3,3 @@ pub mod Record
 pub mod Frame
 pub mod Fault
 pub mod Parts
-pub mod Body

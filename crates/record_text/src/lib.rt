@@ -2,8 +2,8 @@
 //! (`object_of`), and its frame a length, a seq and that object's compact text (`frame_of`); a frame of format 1 has no
 //! seq (`frame_1_of`). Each command has one spelling: `read_frame` answers a command and a seq exactly when the bytes
 //! begin with their frame, and each fault exactly when it applies. `patch_frame` lends the parts of a patch's frame,
-//! and leaves its operations to be read by the caller. `read_body` and `patch_parts` do the same of a body alone. Frames of one format are distinguished whatever follows
-//! (`laws`).
+//! and leaves its operations to be read by the caller. `read_body` and `patch_parts` do the same of a body alone.
+//! Frames of one format are distinguished whatever follows (`laws`).
 #![tactic(auto)]
 
 mod body;

@@ -49,7 +49,7 @@ pub fn plain_tree(alloc: Global, bytes: &[u8]) -> Option<Tree>
     if bytes.contains(&b'\\') {
         return None;
     }
-    let (tree, _) = Tree::read_compact(alloc, bytes)?;
+    let tree = Tree::read_compact_whole(alloc, bytes)?;
     if !tree.strip_text(bytes)?.is_empty() || tree.height() > TEXT_HEIGHT {
         return None;
     }

@@ -12,7 +12,6 @@ use crate::command::Command;
 use crate::fault::RecordFault;
 use crate::limits::BODY_LIMIT;
 use doc_tree::Tree;
-use json::Writer;
 use std::alloc::{AllocError, Global};
 
 // Bytes for which a frame has room at first.
@@ -105,9 +104,9 @@ fn with_body(head: Vec<u8>, command: &Command) -> Result<Vec<u8>, AllocError>
     ensures body { IfOk result (λ bytes. bytes.items ≡ head.items ++ body_of (change_of command.now)) }
     ensures sound { IfOk result (λ _. IsSound (object_of (change_of command.now))) }
 {
-    let mut out = Writer::new(head);
-    put_command(command, &mut out)?;
-    Ok(out.into_inner())
+    let mut whole = head;
+    put_command(command, &mut whole)?;
+    Ok(whole)
 }
 
 // The same for the creation of a document.
@@ -120,9 +119,9 @@ fn with_creation(
     ensures { IfOk result (λ bytes. bytes.items
         ≡ head.items ++ body_of (create name.now (view schema.now) (view doc.now))) }
 {
-    let mut out = Writer::new(head);
-    put_create(name, schema, doc, &mut out)?;
-    Ok(out.into_inner())
+    let mut whole = head;
+    put_create(name, schema, doc, &mut whole)?;
+    Ok(whole)
 }
 
 // The bytes with that length in the room for it.

@@ -1,20 +1,22 @@
 use Rattle.std.proofs.Common.{[], ◌∷◌, ◌++◌, codes}
 use Rattle.std.proofs.lemmas.Result.{on_ok_weaker}
-use Rattle.json.specs.Token.{begin_object, end_object, key, string}
-use Rattle.record_text.proofs.Bodies.{both}
+use Rattle.json.specs.Print.{escape_byte, quoted}
+use Rattle.record_text.proofs.Bodies.{both, on_ok_items}
 use Rattle.record_text.proofs.Objects.{IsSound-delete}
 use Rattle.record_text.proofs.body.put_delete.Goals as goal
 
-pub returns-clause-adds : goal.returns-clause-adds
-returns-clause-adds c =
-    let end = c.end_object.new.self in
-    let closed = end_object ∷ [] in
-    let head = begin_object ∷ key (codes "cmd") ∷ string (codes "delete") ∷ [] in
-    let name = key (codes "name") ∷ string c.args.name.now ∷ [] in
-    on_ok_weaker c.end_object.result (λ last.
-    both head (name ++ closed) c.args.out.now c.begin.new.out end c.in_ok-begin.ensures
-    (both name closed c.begin.new.out c.put_name.new.out end c.in_ok-put_name.ensures
-    (c.end_object.ensures.room.0, last))) c.end_object.ensures.ok
+pub returns-clause-text : goal.returns-clause-text
+unfolding escape_byte
+returns-clause-text c =
+    let old = c.args.out.now.items in
+    let end = c.extend_from_slice-2.new.self.items in
+    let head = 123 ∷ (quoted (codes "cmd") ++ 58 ∷ (quoted (codes "delete") ++ 44 ∷ (quoted (codes "name") ++ 58 ∷ []))) in
+    let name = quoted c.args.name.now in
+    on_ok_weaker c.extend_from_slice-2.result (λ last.
+    both head (name ++ 125 ∷ []) old c.extend_from_slice.new.self.items end c.in_ok-extend_from_slice.ensures.items
+    (both name (125 ∷ []) c.extend_from_slice.new.self.items c.put_quoted.new.out.items end c.in_ok-put_quoted.ensures last))
+    (on_ok_items c.extend_from_slice-2.result end c.put_quoted.new.out.items (125 ∷ []) c.extend_from_slice-2.ensures.items)
 
 pub returns-clause-sound : goal.returns-clause-sound
-returns-clause-sound c = on_ok_weaker c.end_object.result (λ _. IsSound-delete _ c.utf8.name) c.end_object.ensures.ok
+returns-clause-sound c = on_ok_weaker c.extend_from_slice-2.result (λ _. IsSound-delete _ c.utf8.name)
+    (on_ok_items c.extend_from_slice-2.result c.extend_from_slice-2.new.self.items c.put_quoted.new.out.items (125 ∷ []) c.extend_from_slice-2.ensures.items)

@@ -1,28 +1,27 @@
 use Rattle.std.proofs.Common.{[], ◌∷◌, ◌++◌, codes, decimal, Some}
 use Rattle.std.proofs.lemmas.Result.{on_ok_weaker}
-use Rattle.json.specs.Token.{begin_object, end_object, key, number, string}
+use Rattle.json.specs.Print.{escape_byte, quoted}
+use Rattle.doc_tree.specs.Text.{text_of}
 use Rattle.doc_tree.specs.TreeView.{view}
-use Rattle.record_text.specs.Body.{tokens_of}
-use Rattle.record_text.proofs.Bodies.{both, one}
+use Rattle.record_text.proofs.Bodies.{both}
 use Rattle.record_text.proofs.Objects.{IsSound-patch}
 use Rattle.record_text.proofs.body.put_patch_of.Goals as goal
 
-pub returns-clause-adds : goal.returns-clause-adds
-returns-clause-adds c =
-    let end = c.end_object.new.self in
-    let closed = end_object ∷ [] in
-    let head = begin_object ∷ key (codes "cmd") ∷ string (codes "patch") ∷ [] in
-    let asked = key (codes "if_rev") ∷ [] in
-    let rev = number (decimal c.args.rev) ∷ [] in
-    let name = key (codes "name") ∷ string c.args.name.now ∷ [] in
-    let ops = key (codes "ops") ∷ tokens_of (view c.args.ops.now) in
-    on_ok_weaker c.end_object.result (λ last.
-    both head (asked ++ (rev ++ (name ++ (ops ++ closed)))) c.args.out.now c.begin.new.out end c.in_ok-begin.ensures
-    (both asked (rev ++ (name ++ (ops ++ closed))) c.begin.new.out c.key.new.self end (one tt (key (codes "if_rev")) _ _ c.in_ok-key.ensures)
-    (both rev (name ++ (ops ++ closed)) c.key.new.self c.u64.new.self end (one tt (number (decimal c.args.rev)) _ _ c.in_ok-u64.ensures)
-    (both name (ops ++ closed) c.u64.new.self c.put_name.new.out end c.in_ok-put_name.ensures
-    (both ops closed c.put_name.new.out c.put_member.new.out end c.in_ok-put_member.ensures.adds
-    (c.end_object.ensures.room.0, last)))))) c.end_object.ensures.ok
+pub returns-clause-text : goal.returns-clause-text
+unfolding escape_byte
+returns-clause-text c =
+    let old = c.args.out.now.items in
+    let end = c.put_last.new.out.items in
+    let head = 123 ∷ (quoted (codes "cmd") ++ 58 ∷ (quoted (codes "patch") ++ 44 ∷ (quoted (codes "if_rev") ++ 58 ∷ []))) in
+    let rev = decimal c.args.rev in
+    let before = 44 ∷ (quoted (codes "name") ++ 58 ∷ []) in
+    let name = quoted c.args.name.now in
+    let rest = 44 ∷ (quoted (codes "ops") ++ 58 ∷ (text_of (view c.args.ops.now) ++ 125 ∷ [])) in
+    on_ok_weaker c.put_last.result (λ last.
+    both head (rev ++ (before ++ (name ++ rest))) old c.extend_from_slice.new.self.items end c.in_ok-extend_from_slice.ensures.items
+    (both rev (before ++ (name ++ rest)) c.extend_from_slice.new.self.items c.put_number.new.out.items end c.in_ok-put_number.ensures
+    (both before (name ++ rest) c.put_number.new.out.items c.extend_from_slice-2.new.self.items end c.in_ok-extend_from_slice-2.ensures.items
+    (both name rest c.extend_from_slice-2.new.self.items c.put_quoted.new.out.items end c.in_ok-put_quoted.ensures last)))) c.put_last.ensures.text
 
 pub returns-clause-sound : goal.returns-clause-sound
-returns-clause-sound c = on_ok_weaker c.end_object.result (λ _. IsSound-patch _ _ (Some c.args.rev) c.requires c.utf8.name c.in_ok-put_member.ensures.sound) c.end_object.ensures.ok
+returns-clause-sound c = on_ok_weaker c.put_last.result (λ sound. IsSound-patch _ _ (Some c.args.rev) c.requires c.utf8.name sound) c.put_last.ensures.sound
