@@ -3,6 +3,7 @@ use Rattle.std.proofs.Common.{◌≡◌, ℕ, suc, ◌+◌, ◌<◌, ◌≤◌, 
 use Rattle.std.specs.Cmp.Lexicographic.{nat_list_eq_equiv}
 use Rattle.std.specs.List.{AllByRecursion}
 use Rattle.doc_schema.specs.Faults.{IsFaultless}
+use Rattle.doc_changes.specs.Marks.{AreNumbered, Mark}
 use Rattle.doc_changes.specs.State.{Document, State, Good, IsStorable, AreDistinct, AreRevised, find, changed, most_documents, without}
 use Rattle.doc_changes.specs.declared.limits.TheConstants.{LAST_SEQ}
 use Rattle.doc_changes.proofs.Entries.{none_at, none_found}
@@ -64,6 +65,8 @@ good_push s d g new storable offered few low = record {
   offered = all_push (λ x. IsFaultless s.profile x.schema) s.documents d g.offered offered;
   few = omega (arith, length-append s.documents (d ∷ []));
   counted = g.counted;
+  marked = g.marked;
+  numbered = g.numbered;
 }
 
 -- ---- a change in place
@@ -113,6 +116,8 @@ good_changed s f m keeps low g new offered =
       offered = all_changed (λ x. IsFaultless s.profile x.schema) f m s.documents g.offered offered;
       few = omega (arith, few, length-changed f m s.documents);
       counted = g.counted;
+      marked = g.marked;
+      numbered = g.numbered;
     }
 
 -- ---- a document goes
@@ -152,6 +157,8 @@ good_without s m g =
       offered = all_without (λ x. IsFaultless s.profile x.schema) m s.documents g.offered;
       few = omega (arith, few, few_without m s.documents);
       counted = g.counted;
+      marked = g.marked;
+      numbered = g.numbered;
     }
 
 -- ---- seq
@@ -160,6 +167,10 @@ revised_more : (n : ℕ) (ds : List Document) → AreRevised n ds → AreRevised
 revised_more n [] are = tt
 revised_more n (x ∷ xs) are = let low = are.0 in (omega (arith, low), revised_more n xs are.1)
 
+numbered_more : (n : ℕ) (ms : List Mark) → AreNumbered n ms → AreNumbered (n + 1) ms
+numbered_more n [] are = tt
+numbered_more n (m ∷ ms) are = let low = are.0 in (omega (arith, low), numbered_more n ms are.1)
+
 -- one change more is counted
 pub good_counted : (s : State) → Good s → s.seq < LAST_SEQ → Good (record s { seq = s.seq + 1 })
-good_counted s g rises = record { revised = revised_more s.seq s.documents g.revised; distinct = g.distinct; storable = g.storable; offered = g.offered; few = g.few; counted = omega arith }
+good_counted s g rises = record { revised = revised_more s.seq s.documents g.revised; distinct = g.distinct; storable = g.storable; offered = g.offered; few = g.few; counted = omega arith; marked = g.marked; numbered = numbered_more s.seq s.marks g.numbered }

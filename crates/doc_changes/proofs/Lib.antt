@@ -6,6 +6,7 @@ pub mod Patches
 pub mod After
 pub mod Judgements
 pub mod Undoing
+pub mod Marked
 pub mod PatchedAt
 pub mod NameBytes
 pub mod Framed

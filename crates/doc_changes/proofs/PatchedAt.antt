@@ -20,6 +20,7 @@ use Rattle.refusals.specs.declared.numbers.TheConstants.{NO_DOCUMENT}
 use Rattle.doc_changes.specs.Refusals.{first, plain, refused_if}
 use Rattle.doc_changes.specs.declared.refusal.Refusal.{Refusal}
 use Rattle.doc_changes.specs.Judged.{IsJudgedIn, IsPatched, RefusesIn}
+use Rattle.doc_changes.specs.Marks.{Mark}
 use Rattle.doc_changes.specs.Patched.{patched, made_by, made_or, on_made, or_refused}
 use Rattle.doc_changes.specs.Held.{held_at}
 use Rattle.doc_changes.specs.Patching.{MakesForGood, Patches, PatchesForGood, RefusesMade, RefusesPatch, StandsAt}
@@ -171,16 +172,16 @@ abbrev written_over : Doc → ℕ → Document → Document
 written_over doc rev d = record { name = d.name; schema = d.schema; doc = doc; revision = rev }
 
 -- so the documents stay good, and the state
-pub good_at : (n : List ℕ) (es : List Entry) (i : ℕ) (old w : Stored) (os : List Operation) (rev seq : ℕ) (profile : Profile) → StandsAt n es i → slice_get (values_of es) i ≡ Some old
-    → MakesForGood (or_refused (patch os old.doc)) rev old w → rev ≤ seq → Good (kept_state es seq profile) → Good (kept_state (set_value_at es i w) seq profile)
-good_at n es i old w os rev seq profile there value m low g =
+pub good_at : (n : List ℕ) (es : List Entry) (i : ℕ) (old w : Stored) (os : List Operation) (marks : List Mark) (rev seq : ℕ) (profile : Profile) → StandsAt n es i → slice_get (values_of es) i ≡ Some old
+    → MakesForGood (or_refused (patch os old.doc)) rev old w → rev ≤ seq → Good (kept_state es marks seq profile) → Good (kept_state (set_value_at es i w) marks seq profile)
+good_at n es i old w os marks rev seq profile there value m low g =
     let f = written_over w.doc rev in
     let ds = map document_of es in
     let found = found_at n es i old there.at value in
     let storable = storable_made os rev n old w m (all_found IsStorable n ds (named n old) g.storable found) in
     let over : (k : List ℕ) → named k w ≡ f (named k old) = λ k i. record { name = k; schema = m.schema i; doc = w.doc; revision = m.revision i } in
-    subst (λ (l : List Document). Good (record { documents = l; seq = seq; profile = profile })) (sym (written f n es i old w there.at value over))
-    (good_changed (kept_state es seq profile) f n (λ d. refl) (λ d. low) g
+    subst (λ (l : List Document). Good (record { documents = l; marks = marks; seq = seq; profile = profile })) (sym (written f n es i old w there.at value over))
+    (good_changed (kept_state es marks seq profile) f n (λ d. refl) (λ d. low) g
     (λ d at was. subst (λ (x : Document). IsStorable (f x)) (same_some (find n ds) (named n old) d found at) storable)
     (λ d at was. was))
 

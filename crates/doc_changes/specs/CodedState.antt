@@ -5,12 +5,16 @@ use Rattle.doc_tree.specs.Doc.{Doc}
 use Rattle.doc_patch.specs.CodedDoc.{coded_bytes, coded_doc}
 use Rattle.schema_rules.specs.declared.profile.Profile.{Profile}
 use Rattle.schema_rules.specs.declared.profile.Profile.TheVariants.{Three, Two}
+use Rattle.doc_changes.specs.Marks.{Mark}
 use Rattle.doc_changes.specs.State.{Document, State}
 
 abbrev pub coded_document : Coded Document
 coded_document =
     code_by (List ℕ × (Doc × (Doc × ℕ))) (coded× coded_bytes (coded× coded_doc (coded× coded_doc coded_ℕ))) (λ d. (d.name, (d.schema, (d.doc, d.revision))))
     (λ p. record { name = p.0; schema = p.1.0; doc = p.1.1.0; revision = p.1.1.1 }) (λ _. refl)
+
+abbrev pub coded_mark : Coded Mark
+coded_mark = code_by (List ℕ × (List ℕ × ℕ)) (coded× coded_bytes (coded× coded_bytes coded_ℕ)) (λ m. (m.key, (m.value, m.seq))) (λ p. record { key = p.0; value = p.1.0; seq = p.1.1 }) (λ _. refl)
 
 -- whether it is profile 3
 abbrev is_three : Profile → Bool
@@ -30,5 +34,5 @@ coded_profile = code_by Bool coded_bool is_three three_if three_if-is_three
 
 abbrev pub coded_state : Coded State
 coded_state =
-    code_by (List Document × (ℕ × Profile)) (coded× (coded_list coded_document) (coded× coded_ℕ coded_profile)) (λ s. (s.documents, (s.seq, s.profile)))
-    (λ p. record { documents = p.0; seq = p.1.0; profile = p.1.1 }) (λ _. refl)
+    code_by (List Document × (List Mark × (ℕ × Profile))) (coded× (coded_list coded_document) (coded× (coded_list coded_mark) (coded× coded_ℕ coded_profile)))
+    (λ s. (s.documents, (s.marks, (s.seq, s.profile)))) (λ p. record { documents = p.0; marks = p.1.0; seq = p.1.1.0; profile = p.1.1.1 }) (λ _. refl)

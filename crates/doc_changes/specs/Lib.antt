@@ -1,6 +1,9 @@
 pub mod Names
 pub mod Refusals
 pub mod Schema
+pub mod Marks
+pub mod MarkView
+pub mod MarkPlaces
 pub mod State
 pub mod Within
 pub mod CodedState

@@ -4,6 +4,7 @@ use Rattle.doc_tree.specs.Doc.{Doc}
 use Rattle.doc_pointer.specs.Place.{resolve}
 use Rattle.refusals.specs.declared.numbers.TheConstants.{NAME, NO_DOCUMENT, NO_VALUE}
 use Rattle.doc_changes.specs.Refusals.{plain}
+use Rattle.doc_changes.specs.Marks.{Mark, mark_of}
 use Rattle.doc_changes.specs.State.{Document, State, find}
 use Rattle.doc_changes.specs.Names.{is_name}
 use Rattle.doc_changes.specs.declared.refusal.Refusal.{Refusal}
@@ -33,6 +34,10 @@ revision_at s name = in_document (λ d. Ok d.revision) (document_at s name)
 -- the value in the document of that name to which the tokens lead (RFC 6901, section 4)
 abbrev pub value_at : State → List ℕ → List (List ℕ) → Result Doc Refusal
 value_at s name tokens = in_document (λ d. found_or NO_VALUE (resolve tokens d.doc)) (document_at s name)
+
+-- the mark of that key, if it was set and isn't gone
+abbrev pub mark_at : State → List ℕ → Result (Option Mark) Refusal
+mark_at s key = if is_name key then Ok (mark_of key s.marks) else Err (plain NAME)
 
 -- the names in the order of creation
 abbrev pub names_of : State → List (List ℕ)

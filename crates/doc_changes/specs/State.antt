@@ -1,4 +1,4 @@
--- States: documents by name in the order of their creation, each with its revision, the number of accepted changes, and the profile of schemas.
+-- States: documents by name in the order of their creation, each with its revision, the marks, the number of accepted changes, and the profile of schemas.
 use Rattle.std.specs.Prelude.{◌≡◌, ℕ, ◌≤◌, true, List, [], ◌∷◌, length, Option, None, Some, if◌then◌else◌, ⊤, bytes_eq}
 use Rattle.std.specs.List.{AllByRecursion}
 use Rattle.doc_tree.specs.Doc.{Doc, height}
@@ -8,6 +8,7 @@ use Rattle.doc_schema.specs.Faults.{IsFaultless, IsTooLong}
 use Rattle.doc_schema.specs.Judge.{Judges}
 use Rattle.schema_rules.specs.declared.profile.Profile.{Profile}
 use Rattle.schema_rules.specs.declared.profile.Profile.TheVariants.{Three, Two}
+use Rattle.doc_changes.specs.Marks.{AreMarks, AreNumbered, Mark, marks_in, with_mark}
 use Rattle.doc_changes.specs.Names.{is_name}
 
 -- a document with its name, in UTF-8, its schema, and its revision: the seq of the last accepted creation, patch or schema of it
@@ -19,17 +20,19 @@ pub record Document : Type 0 where
 
 pub record State : Type 0 where
   pub documents : List Document
+  -- in the order in which they were set
+  pub marks : List Mark
   pub seq : ℕ
   -- the one in which the schemas of changes are read
   pub profile : Profile
 
--- the same documents and changes in the profile
+-- the same documents and changes in the profile, with the marks that it keeps
 abbrev pub in_profile : Profile → State → State
-in_profile profile s = record s { profile = profile }
+in_profile profile s = record s { profile = profile; marks = marks_in profile s.marks }
 
--- no documents, after `seq` changes
+-- no documents and no marks, after `seq` changes
 abbrev pub empty_in : Profile → ℕ → State
-empty_in profile seq = record { documents = []; seq = seq; profile = profile }
+empty_in profile seq = record { documents = []; marks = []; seq = seq; profile = profile }
 
 -- the same in profile 2
 abbrev pub empty_at : ℕ → State
@@ -38,6 +41,10 @@ empty_at = empty_in Two
 -- no documents, and no changes yet, in profile 2
 abbrev pub empty : State
 empty = empty_at 0
+
+-- the same state with the mark
+abbrev pub noted : Mark → State → State
+noted m s = record s { marks = with_mark m s.marks }
 
 -- the document of that name
 abbrev pub find : List ℕ → List Document → Option Document
@@ -90,3 +97,5 @@ pub record Good (s : State) : Type 0 where
   pub few : length s.documents ≤ most_documents s.profile
   pub counted : s.seq ≤ 0xffff_ffff_ffff_ffff
   pub revised : AreRevised s.seq s.documents
+  pub marked : AreMarks s.profile s.marks
+  pub numbered : AreNumbered s.seq s.marks

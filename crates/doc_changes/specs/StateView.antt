@@ -3,6 +3,7 @@ use Rattle.std.specs.Prelude.{◌≡◌, ℕ, List, Some, map, string_bytes, Str
 use Rattle.std.specs.declared.alloc.Global.{Global}
 use Rattle.doc_tree.specs.TreeView.{view}
 use Rattle.schema_rules.specs.declared.profile.Profile.{Profile}
+use Rattle.doc_changes.specs.Marks.{Mark}
 use Rattle.doc_changes.specs.State.{Document, State, find}
 use Rattle.doc_changes.specs.declared.stored.Stored.{Stored}
 use Rattle.doc_changes.specs.declared.lent.Lent.{Lent}
@@ -20,12 +21,12 @@ document_of e = named (string_bytes e.0) e.1
 abbrev pub IsStoredAt : List ℕ → Stored → List Document → Type 0
 IsStoredAt n s ds = find n ds ≡ Some (named n s)
 
--- the state whose documents are the entries of a map, after `seq` changes
-abbrev pub kept_state : List (String Global × Stored) → ℕ → Profile → State
-kept_state es seq profile = record { documents = map document_of es; seq = seq; profile = profile }
+-- the state whose documents are the entries of a map, with these marks, after `seq` changes
+abbrev pub kept_state : List (String Global × Stored) → List Mark → ℕ → Profile → State
+kept_state es marks seq profile = record { documents = map document_of es; marks = marks; seq = seq; profile = profile }
 
 abbrev pub seen_of : Lends → State
-seen_of l = kept_state l.documents.now.entries l.seq l.profile
+seen_of l = kept_state l.documents.now.entries l.marks.now l.seq l.profile
 
 -- one of them, with its name, its schema and its revision
 abbrev pub lent_of : Lent → Document

@@ -1,12 +1,15 @@
 //! Documents that are lent to read and to judge.
-ghost use Rattle.std.specs.Prelude.{◌≡◌, None, Ok, Err, is_some, map, MatchOption, MatchResult};
+ghost use Rattle.std.specs.Prelude.{◌≡◌, None, Ok, Err, is_some, map, option_map, MatchOption, MatchResult};
 ghost use Rattle.doc_tree.specs.TreeView.{view};
-ghost use Rattle.doc_changes.specs.Reading.{document_at, names_of, revision_at, schema_at, value_at};
+ghost use Rattle.doc_changes.specs.MarkView.{mark_in};
+ghost use Rattle.doc_changes.specs.Reading.{document_at, mark_at, names_of, revision_at, schema_at, value_at};
 ghost use Rattle.doc_changes.specs.Refusals.{plain};
 ghost use Rattle.doc_changes.specs.State.{Good, find};
 ghost use Rattle.doc_changes.specs.StateView.{IsStoredAt, kept_state, named};
 ghost use Rattle.refusals.specs.declared.numbers.TheConstants.{MEMORY};
 
+use crate::mark::Mark;
+use crate::marks::Marks;
 use crate::stored::Stored;
 use crate::{Refusal, is_valid_name};
 use doc_pointer::Pointer;
@@ -17,11 +20,12 @@ use refusals::numbers::{NAME, NO_DOCUMENT, NO_VALUE};
 use std::alloc::Global;
 use std::marker::Model;
 
-/// The documents of a machine or of a trial, lent to read.
+/// The documents and marks of a machine or of a trial, lent to read.
 #[derive(Drop)]
 pub struct Documents<'m> {
     pub(crate) alloc: Global,
     pub(crate) documents: &'m IndexMap<String, Stored>,
+    pub(crate) marks: &'m Marks,
     pub(crate) seq: u64,
     pub(crate) profile: Profile,
 }
@@ -42,20 +46,22 @@ impl<'m> Model for Documents<'m> {
 }
 
 impl<'m> Documents<'m> {
-    /// Lends the documents that are kept in this map, after `seq` accepted changes. The schemas of changes are read in
-    /// the profile.
+    /// Lends the documents that are kept in this map, and these marks, after `seq` accepted changes. The schemas of
+    /// changes are read in the profile.
     pub fn lend(
         alloc: Global,
         documents: &'m IndexMap<String, Stored>,
+        marks: &'m Marks,
         seq: u64,
         profile: Profile,
     ) -> Documents<'m>
-        requires good { Good (kept_state documents.now.entries seq profile) }
-        ensures same { result ≡ kept_state documents.now.entries seq profile }
+        requires good { Good (kept_state documents.now.entries marks.now seq profile) }
+        ensures same { result ≡ kept_state documents.now.entries marks.now seq profile }
     {
         Documents {
             alloc,
             documents,
+            marks,
             seq,
             profile,
         }
@@ -118,6 +124,28 @@ impl<'m> Documents<'m> {
             return Err(Refusal::plain(NAME));
         }
         self.stored(name).ok_or(Refusal::plain(NO_DOCUMENT))
+    }
+
+    /// The mark of that key, if it was set and isn't gone. It takes no memory.
+    ///
+    /// `NAME` if the text is no name.
+    pub fn mark(&self, key: &str) -> Result<Option<&'m Mark>, Refusal>
+        ensures mark { MatchResult result (λ o. mark_at self.now key.now ≡ Ok (option_map (λ m. mark_in m.now) o))
+            (λ r. mark_at self.now key.now ≡ Err r) }
+        ensures good { Good self.now }
+    {
+        self.know();
+        if !is_valid_name(key) {
+            return Err(Refusal::plain(NAME));
+        }
+        Ok(self.marks.get(key))
+    }
+
+    /// The marks, in the order in which they were set.
+    pub fn marks(&self) -> &'m Marks
+        ensures { result.now ≡ self.now.marks }
+    {
+        self.marks
     }
 
     // For the prover alone: who calls it knows from there on that the documents are good.

@@ -7,6 +7,9 @@
 //! `specs/Step.antt`; what every state keeps, in `specs/State.antt`; refusals as calls answer them, in
 //! `specs/Refusals.antt`.
 //!
+//! `Marks` keep the last text that was set under each key, with the number of its transaction, and answer the `Unset` by
+//! which they take it back (`specs/Marks.antt`).
+//!
 //! A schema that comes with a change is looked for among those of the last documents, which then share it, so that many
 //! documents under one schema keep it once, and it is compiled once.
 #![tactic(auto)]
@@ -19,6 +22,8 @@ pub mod laws;
 mod lent;
 pub mod limits;
 mod making;
+mod mark;
+mod marks;
 mod names;
 mod offered;
 mod patching;
@@ -35,6 +40,8 @@ pub use judged::Judged;
 pub use judged_patches::accepts_patched;
 pub use lent::Lent;
 pub use making::{make, make_for_good, unmake};
+pub use mark::{Mark, check_mark};
+pub use marks::{Marks, Unset};
 pub use names::is_valid_name;
 pub use patching::patch_read_for_good;
 pub use refusal::Refusal;

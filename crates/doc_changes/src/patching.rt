@@ -13,6 +13,7 @@ ghost use Rattle.doc_tree.specs.Sound.{IsSound};
 ghost use Rattle.doc_tree.specs.TreeView.{view};
 ghost use Rattle.doc_changes.specs.Held.{held_by};
 ghost use Rattle.doc_changes.specs.Judged.{RefusesIn};
+ghost use Rattle.doc_changes.specs.Marks.{Mark};
 ghost use Rattle.doc_changes.specs.Patched.{or_refused, patched};
 ghost use Rattle.doc_changes.specs.Patching.{MakesForGood, Patches, PatchesForGood, RefusesMade, RefusesPatch, StandsAt};
 ghost use Rattle.doc_changes.specs.State.{Good, IsStorable, changed};
@@ -96,8 +97,8 @@ pub fn patch_read_for_good(
         (map document_of documents.new.entries)) }
     ensures refused { (profile : Profile) (ops : Doc) → operations_of ops ≡ Ok (operations changes.now)
         → IfErr result (RefusesIn profile (map document_of documents.old.entries) (commands.patch name.now ops None)) }
-    ensures good { (profile : Profile) (seq : ℕ) → revision ≤ seq → Good (kept_state documents.old.entries seq profile)
-        → IfOk result (λ _. Good (kept_state documents.new.entries seq profile)) }
+    ensures good { (marks : List Mark) (profile : Profile) (seq : ℕ) → revision ≤ seq → Good (kept_state documents.old.entries marks seq profile)
+        → IfOk result (λ _. Good (kept_state documents.new.entries marks seq profile)) }
 {
     let index = index_of(documents, name)?;
     let stored = documents.get_index_mut(index).unwrap();

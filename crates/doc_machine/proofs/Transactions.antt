@@ -1,21 +1,25 @@
 -- Changes one after another, and transactions.
-use Rattle.std.proofs.Common.{◌≡◌, ℕ, ◌+◌, List, [], ◌∷◌, ◌++◌, length, refl, sym, ◌∙◌, ap, subst, arith, take, inl, inr, Option, None, Some, drop, if◌then◌else◌, Bool, true, false, min, nat_eq, nat_lt, ◌||◌}
+use Rattle.std.proofs.Common.{◌≡◌, ℕ, suc, ◌+◌, List, [], ◌∷◌, ◌++◌, length, length-append, refl, sym, ◌∙◌, ap, subst, arith, take, inl, inr, Option, None, Some, drop, if◌then◌else◌, Bool, true, false, min, nat_eq, nat_lt, ◌||◌, not, ◌≤◌, ◌<◌, ◌⊎◌, Result, Ok, Err, OnOk, IfOk}
 use Rattle.std.proofs.Math.Seq.{take-append_seam}
 use Rattle.std.specs.Option.{option_or}
+use Rattle.std.specs.Str.{IsUtf8}
 use Rattle.std.proofs.lemmas.Bool.Decides.{nat_tests}
 use Rattle.std.proofs.lemmas.List.{append_assoc}
 use Rattle.record_text.specs.Change.{Change, create, delete, patch, set_schema}
 use Rattle.record_text.specs.Frame.{IsFramed}
-use Rattle.refusals.specs.declared.numbers.TheConstants.{COMMAND, MEMORY, SEQ_END, TRANSACTION_LARGE}
+use Rattle.refusals.specs.declared.numbers.TheConstants.{COMMAND, MARK, MEMORY, SEQ_END, TRANSACTION_LARGE}
 use Rattle.doc_patch.specs.Held.{capped}
 use Rattle.doc_changes.specs.Held.{held_in}
 use Rattle.doc_changes.specs.Refusals.{at_change, plain, refused_if}
 use Rattle.doc_changes.specs.declared.refusal.Refusal.{Refusal}
-use Rattle.doc_changes.specs.State.{State, Good}
+use Rattle.doc_changes.specs.Marks.{mark_of, mark_refusal}
+use Rattle.doc_changes.specs.State.{State, Good, noted}
 use Rattle.doc_changes.specs.Step.{IsOwn, Refuses, refusal_of, after}
-use Rattle.doc_machine.specs.Transaction.{AreAccepted, AreFramed, AreGood, AreMade, StopsAt, Transaction, after_all, befores, first_refused, is_countable, kept_by, kept_by_all, large_refusal, refusal_in, refused_at, refused_or, ruled_by, several, single}
+use Rattle.doc_machine.specs.Transaction.{AreAccepted, AreFramed, AreGood, AreMade, Changes, IsTransacted, RefusesTransaction, StopsAt, Transaction, after_all, all_of, alone, befores, changes_refusal, first_refused, is_countable, kept_by, kept_by_all, large_refusal, last_seq, marked, refusal_in, refused_at, refused_or, ruled_by, several, several_refusal, single, together}
+use Rattle.doc_machine.specs.Marking.{Marking, is_as_asked, mark_at_seq, marking_refusal, other_mark}
 use Rattle.doc_machine.specs.Trial.{TrialView, first_or, state_at}
 use Rattle.doc_changes.proofs.Known.{own_refusal}
+use Rattle.doc_changes.proofs.Marked.{is_mark, own_mark}
 
 -- ---- one change more
 
@@ -160,14 +164,39 @@ own_first place kept s (c ∷ cs) r is = by (large_refusal more) (refusal_of s c
 pub own_command : IsOwn (plain COMMAND)
 own_command = ((λ e. omega (arith, e)), (λ e. omega (arith, e)), (λ e. omega (arith, e)))
 
--- of a transaction too
-pub own_transaction : (s : State) (t : Transaction) (r : Refusal) → refusal_in s t ≡ Some r → IsOwn r
-own_transaction s (single c) r is = own_refusal s c r is
-own_transaction s (several cs) r is = by (is_countable cs) is
+own_several : (s : State) (cs : List Change) (r : Refusal) → several_refusal s cs ≡ Some r → IsOwn r
+own_several s cs r is = by (is_countable cs) is
   where
     by : (b : Bool) → (if b then first_refused 0 0 s cs else Some (plain COMMAND)) ≡ Some r → IsOwn r
     by true is = own_first 0 0 s cs r is
     by false is = let same : plain COMMAND ≡ r = cc is in subst IsOwn same own_command
+
+own_changes : (s : State) (cs : Changes) (r : Refusal) → changes_refusal s cs ≡ Some r → IsOwn r
+own_changes s (alone c) r is = own_refusal s c r is
+own_changes s (together cs) r is = own_several s cs r is
+
+own_other : (b : Bool) (q : Refusal) → refused_if b MARK ≡ Some q → IsOwn q
+own_other true q is = let same : plain MARK ≡ q = cc is in subst IsOwn same ((λ e. omega (arith, e)), (λ e. omega (arith, e)), (λ e. omega (arith, e)))
+own_other false q is = absurd (cc is)
+
+-- what is said of marks
+pub own_marking : (s : State) (m : Marking) (r : Refusal) → marking_refusal s m ≡ Some r → IsOwn r
+own_marking s m r is = by (mark_refusal s.profile m.key m.value) (other_mark s.marks m) refl refl is
+  where
+    by : (o p : Option Refusal) → mark_refusal s.profile m.key m.value ≡ o → other_mark s.marks m ≡ p → option_or o (option_or p None) ≡ Some r → IsOwn r
+    by (Some q) p some other is = let same : q ≡ r = cc is in subst IsOwn same (own_mark s.profile m.key m.value q some)
+    by None (Some q) none other is = let same : q ≡ r = cc is in subst IsOwn same (own_other (not (is_as_asked m.asked (mark_of m.key s.marks))) q other)
+    by None None none other is = absurd (cc is)
+
+-- of a transaction too
+pub own_transaction : (s : State) (t : Transaction) (r : Refusal) → refusal_in s t ≡ Some r → IsOwn r
+own_transaction s (single c) r is = own_refusal s c r is
+own_transaction s (several cs) r is = own_several s cs r is
+own_transaction s (marked m cs) r is = by (marking_refusal s m) refl is
+  where
+    by : (o : Option Refusal) → marking_refusal s m ≡ o → option_or o (changes_refusal s cs) ≡ Some r → IsOwn r
+    by None none is = own_changes s cs r is
+    by (Some q) some is = let same : q ≡ r = cc is in subst IsOwn same (own_marking s m q some)
 
 -- ---- what was made can be taken back
 
@@ -192,3 +221,88 @@ taken_back old made new cs n are count state past =
     let state_is : new.state ≡ old.state = state ∙ (λ i. first_or (are.state i) (drop (count i) (are.past i))) ∙ first_before old.state old.past cs in
     let past_is : new.past ≡ old.past = past ∙ (λ i. take (count i) (are.past i)) ∙ take-append_seam old.past (befores old.state cs) in
     λ i. record { state = state_is i; past = past_is i }
+
+-- ---- a mark beside changes
+
+-- changes that were made are a transaction without a mark
+pub transacted_single : (old : TrialView) (c : Change) (new : TrialView) (r : Result ℕ Refusal) → OnOk r (refusal_of old.state c ≡ None) → OnOk r (AreMade old (c ∷ []) new) → IfOk r (λ seq. seq ≡ new.state.seq)
+    → IfOk r (λ seq. IsTransacted old (single c) seq new)
+transacted_single old c new (Ok seq) accepted made seq_is =
+    record { accepted = accepted; made = record { state = made.state; past = made.past; framed = made.framed; good = made.good; noted = tt }; seq_is = seq_is }
+transacted_single old c new (Err r) accepted made seq_is = tt
+
+pub transacted_several : (old : TrialView) (cs : List Change) (new : TrialView) (r : Result ℕ Refusal) → OnOk r (several_refusal old.state cs ≡ None) → OnOk r (AreMade old cs new) → IfOk r (λ seq. seq ≡ new.state.seq)
+    → IfOk r (λ seq. IsTransacted old (several cs) seq new)
+transacted_several old cs new (Ok seq) accepted made seq_is =
+    record { accepted = accepted; made = record { state = made.state; past = made.past; framed = made.framed; good = made.good; noted = tt }; seq_is = seq_is }
+transacted_several old cs new (Err r) accepted made seq_is = tt
+
+-- a transaction that is accepted has changes
+some_several : (s : State) (cs : List Change) → several_refusal s cs ≡ None → 1 ≤ length cs
+some_several s [] none = absurd (cc none)
+some_several s (c ∷ cs) none = omega arith
+
+some_changes : (s : State) (cs : Changes) → changes_refusal s cs ≡ None → 1 ≤ length (all_of cs)
+some_changes s (alone c) none = omega arith
+some_changes s (together cs) none = some_several s cs none
+
+profile_kept : (s : State) (cs : List Change) → (after_all s cs).profile ≡ s.profile
+profile_kept s [] = refl
+profile_kept s (c ∷ cs) = profile_kept (after s c) cs
+
+-- each change is counted
+seq_after : (s : State) (cs : List Change) → (after_all s cs).seq ≡ s.seq + length cs
+seq_after s [] = omega arith
+seq_after s (c ∷ cs) = let rest = seq_after (after s c) cs in omega (arith, rest)
+
+length-befores : (s : State) (cs : List Change) → length (befores s cs) ≡ length cs
+length-befores s [] = refl
+length-befores s (c ∷ cs) = ap suc (length-befores (after s c) cs)
+
+-- the first reason of two is none
+first_none : (o p : Option Refusal) → option_or o (option_or p None) ≡ None → o ≡ None
+first_none None p none = refl
+first_none (Some r) p none = absurd (cc none)
+
+mark_none : (s : State) (m : Marking) → marking_refusal s m ≡ None → mark_refusal s.profile m.key m.value ≡ None
+mark_none s m none = first_none (mark_refusal s.profile m.key m.value) (other_mark s.marks m) none
+
+-- changes beside a mark were made
+module _ (old mid : TrialView) (m : Marking) (cs : Changes) (asked : marking_refusal old.state m ≡ None) (accepted : changes_refusal old.state cs ≡ None) (made : AreMade old (all_of cs) mid) where
+  -- there is a newest one
+  pub tried_some : 0 < length mid.past
+  tried_some =
+      let size = ap length made.past in
+      let some = some_changes old.state cs accepted in
+      omega (arith, size, some, length-append old.past (befores old.state (all_of cs)), length-befores old.state (all_of cs))
+
+  -- and the mark may be set, since the profile stays
+  pub mark_stays : mark_refusal mid.state.profile m.key m.value ≡ None
+  mark_stays = ap (λ p. mark_refusal p m.key m.value) (ap (λ (s : State). s.profile) made.state ∙ profile_kept old.state (all_of cs)) ∙ mark_none old.state m asked
+
+  -- the number after the changes is the one of the last
+  seq_last : mid.state.seq ≡ last_seq old.state (marked m cs)
+  seq_last = ap (λ (s : State). s.seq) made.state ∙ seq_after old.state (all_of cs)
+
+  -- it was set, with that number
+  pub transacted_marked : (new : TrialView) (seq : ℕ) → IsUtf8 m.value → seq ≡ mid.state.seq → new.state ≡ noted (mark_at_seq seq m) mid.state → new.past ≡ mid.past → IsTransacted old (marked m cs) seq new
+  transacted_marked new seq text seq_is state past = record {
+    accepted = (λ i. option_or (asked i) (changes_refusal old.state cs)) ∙ accepted;
+    made = record {
+      state = state ∙ (λ i. noted (mark_at_seq ((seq_is ∙ seq_last) i) m) (made.state i));
+      past = past ∙ made.past;
+      framed = made.framed;
+      good = made.good;
+      noted = is_mark old.state.profile (mark_at_seq (last_seq old.state (marked m cs)) m) (mark_none old.state m asked) text;
+    };
+    seq_is = seq_is ∙ sym (ap (λ (s : State). s.seq) state);
+  }
+
+-- what refuses the changes refuses the transaction
+pub refuses_changes : (s : State) (m : Marking) (cs : Changes) (r : Refusal) → marking_refusal s m ≡ None → (r ≡ plain MEMORY) ⊎ (changes_refusal s cs ≡ Some r) → RefusesTransaction s (marked m cs) r
+refuses_changes s m cs r asked (inl memory) = inl memory
+refuses_changes s m cs r asked (inr is) = inr ((λ i. option_or (asked i) (changes_refusal s cs)) ∙ is)
+
+-- and what refuses what is said of marks
+pub refuses_marking : (s : State) (m : Marking) (cs : Changes) (r : Refusal) → marking_refusal s m ≡ Some r → RefusesTransaction s (marked m cs) r
+refuses_marking s m cs r is = inr (λ i. option_or (is i) (changes_refusal s cs))

@@ -1,9 +1,11 @@
--- Entries of a journal, taken one after another by a state that has the journal's seq already.
-use Rattle.std.specs.Prelude.{◌≡◌, ◌≤◌, List, [], ◌∷◌, None, Result, Ok, Err, ⊤}
+-- Entries of a journal, taken one after another by a state that has the journal's seq already, and marks.
+use Rattle.std.specs.Prelude.{◌≡◌, ◌≤◌, ◌⊎◌, Some, List, [], ◌∷◌, None, Result, Ok, Err, ⊤}
 use Rattle.record_text.specs.Frame.{Entry}
 use Rattle.doc_changes.specs.Judged.{RefusesIn}
-use Rattle.doc_changes.specs.Refusals.{first}
-use Rattle.doc_changes.specs.State.{State}
+use Rattle.doc_changes.specs.Refusals.{first, plain}
+use Rattle.refusals.specs.declared.numbers.TheConstants.{MEMORY}
+use Rattle.doc_changes.specs.Marks.{Mark, mark_refusal}
+use Rattle.doc_changes.specs.State.{State, noted}
 use Rattle.doc_changes.specs.Step.{documents_after, refusals_in}
 use Rattle.doc_changes.specs.declared.refusal.Refusal.{Refusal}
 
@@ -31,3 +33,9 @@ AreTaken s (e ∷ es) = Takes s e × AreTaken (with_entry s e) es
 abbrev pub Taken : {A : Type 0} → State → Entry → Result A Refusal → State → Type 0
 Taken old e (Ok a) new = Takes old e × (new ≡ with_entry old e)
 Taken old e (Err r) new = RefusesIn old.profile old.documents e.change r × (new ≡ old)
+
+-- From old, a mark was answered in this way and led to new: it was set, or refused, or memory was, and after these two
+-- nothing changed.
+abbrev pub Notes : {A : Type 0} → State → Mark → Result A Refusal → State → Type 0
+Notes old m (Ok a) new = (mark_refusal old.profile m.key m.value ≡ None) × (new ≡ noted m old)
+Notes old m (Err r) new = ((r ≡ plain MEMORY) ⊎ (mark_refusal old.profile m.key m.value ≡ Some r)) × (new ≡ old)

@@ -6,4 +6,5 @@ pub mod MachineView
 pub mod Entries
 pub mod Trial
 pub mod Tried
+pub mod Marking
 pub mod Transaction

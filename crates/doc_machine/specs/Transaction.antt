@@ -1,4 +1,4 @@
--- Transactions: changes that are made together, all of them or none.
+-- Transactions: changes that are made together, all of them or none, and the mark that is set with them.
 use Rattle.std.specs.Prelude.{◌≡◌, ◌⊎◌, ℕ, ◌+◌, List, [], ◌∷◌, ◌++◌, length, map, Option, None, Some, nat_eq, nat_le, nat_lt, ◌&&◌, ◌||◌, Bool, if◌then◌else◌, ⊤}
 use Rattle.std.specs.Option.{option_or}
 use Rattle.doc_tree.specs.Text.{text_of}
@@ -8,11 +8,15 @@ use Rattle.refusals.specs.declared.numbers.TheConstants.{COMMAND, MEMORY, SEQ_EN
 use Rattle.doc_changes.specs.Held.{held_at}
 use Rattle.doc_changes.specs.Refusals.{at_change, plain, refused_if}
 use Rattle.doc_changes.specs.declared.refusal.Refusal.{Refusal}
+use Rattle.doc_changes.specs.Marks.{IsMark, Mark, with_mark}
 use Rattle.doc_changes.specs.State.{Document, State, Good, find}
 use Rattle.doc_changes.specs.Step.{refusal_of, after}
+use Rattle.doc_machine.specs.Marking.{Marking, mark_at_seq, marking_of, marking_refusal}
 use Rattle.doc_machine.specs.Trial.{TrialView}
 use Rattle.doc_machine.specs.declared.transaction.Transaction.{Transaction as Held}
-use Rattle.doc_machine.specs.declared.transaction.Transaction.TheVariants.{Single, Several}
+use Rattle.doc_machine.specs.declared.transaction.Transaction.TheVariants.{Marked, Single, Several}
+use Rattle.doc_machine.specs.declared.transaction.Changes.{Changes as HeldChanges}
+use Rattle.doc_machine.specs.declared.transaction.Changes.TheVariants.{Alone, Together}
 
 -- ---- changes one after another
 
@@ -73,20 +77,47 @@ large_refusal kept = refused_if (nat_lt 33_554_432 kept) TRANSACTION_LARGE
 
 -- ---- transactions
 
--- one change, or a list of changes, whose refusal says which of them is at fault
+-- the changes beside a mark: one by itself, or a list of changes, whose refusal says which of them is at fault
+pub data Changes : Type 0 where
+  alone : Change → Changes
+  together : List Change → Changes
+
+-- the same without a mark, or with one
 pub data Transaction : Type 0 where
   single : Change → Transaction
   several : List Change → Transaction
+  marked : Marking → Changes → Transaction
+
+abbrev pub all_of : Changes → List Change
+all_of (alone c) = c ∷ []
+all_of (together cs) = cs
 
 -- its changes, in their order
 abbrev pub changes_of : Transaction → List Change
 changes_of (single c) = c ∷ []
 changes_of (several cs) = cs
+changes_of (marked m cs) = all_of cs
+
+-- the number of its last change, if it is made after that state
+abbrev pub last_seq : State → Transaction → ℕ
+last_seq s t = s.seq + length (changes_of t)
+
+-- the mark that it sets, if it sets one, with that number
+abbrev pub mark_with : ℕ → Transaction → Option Mark
+mark_with seq (single c) = None
+mark_with seq (several cs) = None
+mark_with seq (marked m cs) = Some (mark_at_seq seq m)
+
+-- changes beside a mark, without their place in memory
+abbrev pub pure_changes : HeldChanges → Changes
+pure_changes (Alone command) = alone (change_of command)
+pure_changes (Together commands) = together (map change_of commands.items)
 
 -- a transaction, without its place in memory
 abbrev pub transaction_of : Held → Transaction
 transaction_of (Single command) = single (change_of command)
 transaction_of (Several commands) = several (map change_of commands.items)
+transaction_of (Marked marking changes) = marked (marking_of marking) (pure_changes changes)
 
 -- a transaction of several changes has 1 to 1,024
 abbrev pub is_countable : List Change → Bool
@@ -107,14 +138,33 @@ first_refused place kept s [] = None
 first_refused place kept s (c ∷ cs) =
     refused_or place (refusal_of s c) (option_or (large_refusal (kept + kept_by s c)) (first_refused (place + 1) (kept + kept_by s c) (after s c) cs))
 
--- why a state refuses a transaction, if it does
+-- why a state refuses several changes, if it does
+abbrev pub several_refusal : State → List Change → Option Refusal
+several_refusal s cs = if is_countable cs then first_refused 0 0 s cs else Some (plain COMMAND)
+
+-- why it refuses the changes beside a mark, if it does: as without it
+abbrev pub changes_refusal : State → Changes → Option Refusal
+changes_refusal s (alone c) = refusal_of s c
+changes_refusal s (together cs) = several_refusal s cs
+
+-- why a state refuses a transaction, if it does: what is said of marks is judged before anything else
 abbrev pub refusal_in : State → Transaction → Option Refusal
 refusal_in s (single c) = refusal_of s c
-refusal_in s (several cs) = if is_countable cs then first_refused 0 0 s cs else Some (plain COMMAND)
+refusal_in s (several cs) = several_refusal s cs
+refusal_in s (marked m cs) = option_or (marking_refusal s m) (changes_refusal s cs)
 
--- the state after a transaction that isn't refused
+-- the marks after one was set, if one was
+abbrev pub marks_after : Option Mark → List Mark → List Mark
+marks_after None ms = ms
+marks_after (Some m) ms = with_mark m ms
+
+-- the state with the mark that was set, if one was
+abbrev pub with_noted : Option Mark → State → State
+with_noted o s = record s { marks = marks_after o s.marks }
+
+-- the state after a transaction that isn't refused: its changes are made, and its mark is set, with the number of the last of them
 abbrev pub after_in : State → Transaction → State
-after_in s t = after_all s (changes_of t)
+after_in s t = with_noted (mark_with (last_seq s t) t) (after_all s (changes_of t))
 
 -- ---- transactions on trial
 
@@ -125,10 +175,23 @@ pub record AreMade (old : TrialView) (cs : List Change) (new : TrialView) : Type
   pub framed : AreFramed cs
   pub good : AreGood old.state cs
 
+-- a mark that is set is one
+abbrev pub IsNoted : Option Mark → Type 0
+IsNoted None = ⊤
+IsNoted (Some m) = IsMark m
+
+-- The changes of the transaction were made on the trial, and its mark was set; a journal can hold each of them.
+pub record IsMadeWhole (old : TrialView) (t : Transaction) (new : TrialView) : Type 0 where
+  pub state : new.state ≡ after_in old.state t
+  pub past : new.past ≡ old.past ++ befores old.state (changes_of t)
+  pub framed : AreFramed (changes_of t)
+  pub good : AreGood old.state (changes_of t)
+  pub noted : IsNoted (mark_with (last_seq old.state t) t)
+
 -- From old, a transaction was accepted and made, with this seq.
 pub record IsTransacted (old : TrialView) (t : Transaction) (seq : ℕ) (new : TrialView) : Type 0 where
   pub accepted : refusal_in old.state t ≡ None
-  pub made : AreMade old (changes_of t) new
+  pub made : IsMadeWhole old t new
   pub seq_is : seq ≡ new.state.seq
 
 -- the refusal is the one that the state gives the transaction, or memory was refused

@@ -4,9 +4,10 @@ mod reading;
 mod transact;
 mod trial;
 
-use doc_changes::limits::LAST_SEQ;
+use doc_changes::limits::{LAST_SEQ, holds_marks};
 use doc_changes::{
-    Documents, Judged, Profile, Refusal, Stored, make, make_for_good, patch_read_for_good,
+    Documents, Judged, Mark, Marks, Profile, Refusal, Stored, make, make_for_good,
+    patch_read_for_good,
 };
 use doc_patch::Patch;
 use indexmap::IndexMap;
@@ -15,12 +16,13 @@ use std::alloc::Global;
 use std::marker::Model;
 pub use trial::Trial;
 
-/// The documents by name in the order of their creation, each with its revision, the number of accepted changes, and
-/// the profile in which the schemas of changes are read.
+/// The documents by name in the order of their creation, each with its revision, the marks, the number of accepted
+/// changes, and the profile in which the schemas of changes are read.
 #[derive(Drop)]
 pub struct Machine {
     alloc: Global,
     documents: IndexMap<String, Stored>,
+    marks: Marks,
     seq: u64,
     profile: Profile,
 }
@@ -48,13 +50,14 @@ impl Machine {
     ghost use Rattle.doc_tree.specs.Sound.{IsSound};
     ghost use Rattle.record_text.specs.Change.{change_of, patch};
     ghost use Rattle.record_text.specs.Frame.{entry};
-    ghost use Rattle.doc_machine.specs.Entries.{Taken, Takes, with_entry};
+    ghost use Rattle.doc_machine.specs.Entries.{Notes, Taken, Takes, with_entry};
     ghost use Rattle.doc_changes.specs.Judged.{IsJudged, RefusesIn};
+    ghost use Rattle.doc_changes.specs.MarkView.{mark_in};
     ghost use Rattle.doc_changes.specs.State.{Good, empty, empty_in, in_profile};
     ghost use Rattle.doc_changes.specs.Step.{IsOwn, Refuses, Steps};
     ghost use Rattle.doc_changes.specs.Within.{AreWithin};
 
-    /// A machine with no documents, and no changes yet, in profile 2.
+    /// A machine with no documents and no marks, and no changes yet, in profile 2.
     pub fn new(alloc: Global) -> Machine
         ensures empty { result ≡ empty }
         ensures good { Good result }
@@ -62,13 +65,14 @@ impl Machine {
         Machine {
             alloc,
             documents: IndexMap::new(alloc),
+            marks: Marks::new(alloc),
             seq: 0,
             profile: Profile::Two,
         }
     }
 
-    /// A machine with no documents after `seq` changes, in that profile, which takes again what a journal of that seq
-    /// holds.
+    /// A machine with no documents and no marks after `seq` changes, in that profile, which takes again what a journal of
+    /// that seq holds.
     pub fn at(alloc: Global, seq: u64, profile: Profile) -> Machine
         ensures empty { result ≡ empty_in profile seq }
         ensures good { Good result }
@@ -76,19 +80,23 @@ impl Machine {
         Machine {
             alloc,
             documents: IndexMap::new(alloc),
+            marks: Marks::new(alloc),
             seq,
             profile,
         }
     }
 
     /// Has the schemas of changes read in that profile from now on. Each document's schema must be one of it, and there
-    /// may be no more documents than it allows.
+    /// may be no more documents than it allows. Profile 2 holds no marks: there all of them are forgotten.
     pub fn set_profile(&mut self, profile: Profile)
         requires { AreWithin profile self.old.documents }
         ensures set { self.new ≡ in_profile profile self.old }
         ensures good { Good self.new }
     {
         self.know();
+        if !holds_marks(profile) {
+            self.marks.clear();
+        }
         self.profile = profile;
     }
 
@@ -164,6 +172,7 @@ impl Machine {
         let Machine {
             alloc,
             mut documents,
+            marks,
             seq: counted,
             profile,
         } = self;
@@ -172,6 +181,7 @@ impl Machine {
         Ok(Machine {
             alloc,
             documents,
+            marks,
             seq: counted,
             profile,
         })
@@ -194,6 +204,7 @@ impl Machine {
         let Machine {
             alloc,
             mut documents,
+            marks,
             seq: counted,
             profile,
         } = self;
@@ -201,8 +212,25 @@ impl Machine {
         Ok(Machine {
             alloc,
             documents,
+            marks,
             seq: counted,
             profile,
         })
+    }
+
+    /// Takes a mark that a journal holds, whose seq must be at most the machine's: sets it, and of more than `MARKS` forgets
+    /// the one that was set first.
+    ///
+    /// Refuses as `Mark::check` does, or with `MEMORY`. A refusal changes nothing.
+    pub fn note(&mut self, mark: Mark) -> Result<(), Refusal>
+        requires { mark.seq ≤ self.old.seq }
+        ensures noted { Notes self.old (mark_in mark) result self.new }
+        ensures own { IfErr result IsOwn }
+        ensures good { Good self.new }
+    {
+        self.know();
+        mark.check(self.profile)?;
+        drop(self.marks.set(mark)?);
+        Ok(())
     }
 }

@@ -1,7 +1,8 @@
-//! A transaction: one change, or several that are made together.
+//! A transaction: one change, or several that are made together, and the mark that is set with them.
 ghost use Rattle.std.specs.Prelude.{◌≡◌, IfOk, map};
 ghost use Rattle.record_text.specs.Change.{change_of};
 
+use crate::marking::Marking;
 use record_text::Command;
 use std::alloc::{AllocError, Global};
 
@@ -12,6 +13,17 @@ pub enum Transaction {
     Single(Command),
     /// 1 to `TRANSACTION_CHANGES` changes, of which a refusal names the one that was refused.
     Several(Vec<Command>),
+    /// The same with a mark, which is set with the changes or not at all, and with what it must be before.
+    Marked(Marking, Changes),
+}
+
+/// The changes beside a mark.
+#[derive(Drop)]
+pub enum Changes {
+    /// One change, which is refused as it is by itself.
+    Alone(Command),
+    /// 1 to `TRANSACTION_CHANGES` changes, of which a refusal names the one that was refused.
+    Together(Vec<Command>),
 }
 
 impl Transaction {
@@ -25,6 +37,10 @@ impl Transaction {
         match self {
             Transaction::Single(command) => Ok(Transaction::Single(command.copy(alloc)?)),
             Transaction::Several(commands) => Ok(Transaction::Several(copy_all(alloc, commands)?)),
+            Transaction::Marked(marking, changes) => Ok(Transaction::Marked(
+                marking.copy(alloc)?,
+                changes.copy(alloc)?,
+            )),
         }
     }
 
@@ -35,6 +51,32 @@ impl Transaction {
         match self {
             Transaction::Single(_) => 1,
             Transaction::Several(commands) => commands.len(),
+            Transaction::Marked(_, changes) => changes.len(),
+        }
+    }
+}
+
+impl Changes {
+    ghost use Rattle.std.specs.Prelude.{◌≡◌, IfOk, length};
+    ghost use Rattle.doc_machine.specs.Transaction.{all_of, pure_changes};
+
+    // The same changes, in memory of their own.
+    fn copy(&self, alloc: Global) -> Result<Changes, AllocError>
+        ensures { IfOk result (λ copy. pure_changes copy ≡ pure_changes self.now) }
+    {
+        match self {
+            Changes::Alone(command) => Ok(Changes::Alone(command.copy(alloc)?)),
+            Changes::Together(commands) => Ok(Changes::Together(copy_all(alloc, commands)?)),
+        }
+    }
+
+    // How many they are.
+    fn len(&self) -> usize
+        ensures { result ≡ length (all_of (pure_changes self.now)) }
+    {
+        match self {
+            Changes::Alone(_) => 1,
+            Changes::Together(commands) => commands.len(),
         }
     }
 }

@@ -15,6 +15,7 @@ names =
     ∷ (22, codes "too-many")
     ∷ (23, codes "too-large")
     ∷ (24, codes "revision")
+    ∷ (25, codes "mark")
     ∷ (30, codes "patch-shape")
     ∷ (31, codes "patch-pointer")
     ∷ (32, codes "patch-missing")

@@ -21,6 +21,7 @@ pub fn name_of(number: u16) -> &'static str
         TOO_MANY => "too-many",
         TOO_LARGE => "too-large",
         REVISION => "revision",
+        MARK => "mark",
         PATCH_SHAPE => "patch-shape",
         PATCH_POINTER => "patch-pointer",
         PATCH_MISSING => "patch-missing",

@@ -24,7 +24,7 @@ pub const EXISTS: u16 = 20;
 /// No document has that name.
 pub const NO_DOCUMENT: u16 = 21;
 
-/// 1,024 documents already exist.
+/// As many documents exist as a store holds: 1,024, in format 3 65,536.
 pub const TOO_MANY: u16 = 22;
 
 /// A document's compact text has more than 1,048,576 bytes.
@@ -32,6 +32,9 @@ pub const TOO_LARGE: u16 = 23;
 
 /// A patch asks for another revision than the document's.
 pub const REVISION: u16 = 24;
+
+/// A transaction asks for another mark than the present one of its key.
+pub const MARK: u16 = 25;
 
 /// A patch is no array, or an operation of it is not as RFC 6902, section 4 has it.
 pub const PATCH_SHAPE: u16 = 30;

@@ -1,16 +1,17 @@
-//! The questions that a machine answers of its documents. Nothing changes.
-ghost use Rattle.std.specs.Prelude.{◌≡◌, ◌⊎◌, Ok, Err, map, MatchResult};
+//! The questions that a machine answers of its documents and marks. Nothing changes.
+ghost use Rattle.std.specs.Prelude.{◌≡◌, ◌⊎◌, Ok, Err, map, option_map, MatchResult};
 ghost use Rattle.doc_tree.specs.TreeView.{view};
 ghost use Rattle.refusals.specs.declared.numbers.TheConstants.{MEMORY};
 ghost use Rattle.path_eval.specs.NodeView.{nodes_of};
 ghost use Rattle.path_parse.specs.SyntaxView.{query_view};
-ghost use Rattle.doc_changes.specs.Reading.{revision_at, schema_at, value_at, names_of};
+ghost use Rattle.doc_changes.specs.MarkView.{mark_in};
+ghost use Rattle.doc_changes.specs.Reading.{mark_at, revision_at, schema_at, value_at, names_of};
 ghost use Rattle.doc_machine.specs.Queries.{nodes_in, nodes_at};
 ghost use Rattle.doc_changes.specs.Refusals.{plain};
 ghost use Rattle.doc_changes.specs.State.{Good};
 
 use crate::machine::Machine;
-use doc_changes::{Documents, Refusal};
+use doc_changes::{Documents, Mark, Refusal};
 use doc_pointer::Pointer;
 use doc_tree::Tree;
 use path_eval::{Node, nodes};
@@ -23,7 +24,13 @@ impl Machine {
         ensures same { result ≡ self.now }
         ensures good { Good self.now }
     {
-        Documents::lend(self.alloc, &self.documents, self.seq, self.profile)
+        Documents::lend(
+            self.alloc,
+            &self.documents,
+            &self.marks,
+            self.seq,
+            self.profile,
+        )
     }
 
     /// The value in the document of that name to which the pointer leads (RFC 6901, section 4). It
@@ -72,6 +79,17 @@ impl Machine {
         ensures good { Good self.now }
     {
         self.look().revision(name)
+    }
+
+    /// The mark of that key, if it was set and isn't gone. It takes no memory.
+    ///
+    /// `NAME` if the text is no name.
+    pub fn mark(&self, key: &str) -> Result<Option<&Mark>, Refusal>
+        ensures mark { MatchResult result (λ o. mark_at self.now key.now ≡ Ok (option_map (λ m. mark_in m.now) o))
+            (λ r. mark_at self.now key.now ≡ Err r) }
+        ensures good { Good self.now }
+    {
+        self.look().mark(key)
     }
 
     /// The names in the order of creation. The only refusal is `MEMORY`.

@@ -1,24 +1,30 @@
 //! Transactions on trial.
 ghost use Rattle.doc_changes.specs.Held.{held_in};
 ghost use Rattle.doc_changes.specs.declared.limits.TheConstants.{TRANSACTION_CHANGES};
-ghost use Rattle.std.specs.Prelude.{◌≡◌, ◌≤◌, ◌+◌, [], ◌∷◌, length, IfOk, IfErr, MatchResult, OnErr, OnOk, None, Some, map};
+ghost use Rattle.std.specs.Prelude.{◌≡◌, ◌⊎◌, ◌≤◌, ◌+◌, [], ◌∷◌, length, IfOk, IfErr, MatchResult, OnErr, OnOk, None, Some, map};
 ghost use Rattle.record_text.specs.Change.{change_of};
+ghost use Rattle.doc_changes.specs.Refusals.{plain};
 ghost use Rattle.doc_changes.specs.State.{Good, find};
+ghost use Rattle.refusals.specs.declared.numbers.TheConstants.{MEMORY};
 ghost use Rattle.doc_changes.specs.Step.{IsOwn, Refuses, refusal_of};
-ghost use Rattle.doc_machine.specs.Transaction.{AreMade, IsTransacted, RefusesTransaction, StopsAt, first_refused, large_refusal, refused_at, ruled_by, several, text_bytes, transaction_of};
+ghost use Rattle.doc_machine.specs.Transaction.{AreMade, IsTransacted, RefusesTransaction, StopsAt, all_of, changes_refusal, first_refused, large_refusal, marked, pure_changes, refused_at, ruled_by, several_refusal, text_bytes, transaction_of};
+ghost use Rattle.doc_machine.specs.Marking.{marking_of, marking_refusal};
+ghost use Rattle.std.specs.Result.{result_err};
 
 use crate::limits::{LAST_SEQ, TRANSACTION_CHANGES, TRANSACTION_KEPT_BYTES};
 use crate::machine::Trial;
 use crate::machine::trial::Accepted;
-use crate::transaction::Transaction;
+use crate::marking::Marking;
+use crate::transaction::{Changes, Transaction};
 use doc_changes::Refusal;
 use record_text::Command;
-use refusals::numbers::{COMMAND, MEMORY, SEQ_END, TRANSACTION_LARGE};
+use refusals::numbers::{COMMAND, MARK, MEMORY, SEQ_END, TRANSACTION_LARGE};
 
 impl Trial {
     /// Makes a transaction whole, and answers the new number of accepted changes, or refuses it and nothing changes.
     ///
-    /// A single change is refused as `judge` answers. Several are refused with `COMMAND` if they are none or over
+    /// What is said of marks is judged first: a mark is refused as `check_mark` answers, and then with `MARK` if another is
+    /// there than is asked for. A single change is refused as `judge` answers. Several are refused with `COMMAND` if they are none or over
     /// `TRANSACTION_CHANGES`; else by the first of these reasons, change after change, each judged after those before
     /// it: the change's own refusal, with its place beside it, but `SEQ_END` with none; and then `TRANSACTION_LARGE` if
     /// the changes up to this one keep more than `TRANSACTION_KEPT_BYTES` together. `MEMORY` may come in place of any
@@ -31,11 +37,77 @@ impl Trial {
         ensures good { Good self.new.state }
     {
         match transaction {
-            Transaction::Single(command) => match self.step(command) {
-                Ok(accepted) => Ok(accepted.seq),
-                Err(refusal) => Err(refusal),
-            },
+            Transaction::Single(command) => self.step_alone(command),
             Transaction::Several(commands) => self.step_all(commands),
+            Transaction::Marked(marking, changes) => self.step_marked(marking, changes),
+        }
+    }
+
+    // Makes changes and sets a mark, or nothing.
+    fn step_marked(&mut self, marking: Marking, changes: Changes) -> Result<u64, Refusal>
+        ensures made { IfOk result (λ seq. IsTransacted self.old (marked (marking_of marking) (pure_changes changes)) seq self.new) }
+        ensures refused { IfErr result (RefusesTransaction self.old.state (marked (marking_of marking) (pure_changes changes))) }
+        ensures unchanged { OnErr result (self.new ≡ self.old) }
+        ensures own { IfErr result IsOwn }
+        ensures good { Good self.new.state }
+    {
+        self.know();
+        self.check_marking(&marking)?;
+        let tried = self.len() as u64;
+        let seq = self.step_changes(changes)?;
+        match self.set(marking.mark_at(seq)) {
+            Ok(()) => Ok(seq),
+            Err(_) => {
+                self.keep(tried);
+                Err(Refusal::plain(MEMORY))
+            }
+        }
+    }
+
+    // Whether the mark may be set, and the present one is as it is asked for.
+    fn check_marking(&self, marking: &Marking) -> Result<(), Refusal>
+        ensures refused { result_err result ≡ marking_refusal self.now.state (marking_of marking.now) }
+        ensures own { IfErr result IsOwn }
+    {
+        marking.check(self.profile())?;
+        if !marking
+            .asked
+            .is_met_by(self.look().marks().get(marking.key.as_str()))
+        {
+            return Err(Refusal::plain(MARK));
+        }
+        Ok(())
+    }
+
+    // Makes the changes beside a mark, or none.
+    fn step_changes(&mut self, changes: Changes) -> Result<u64, Refusal>
+        ensures accepted { OnOk result (changes_refusal self.old.state (pure_changes changes) ≡ None) }
+        ensures made { OnOk result (AreMade self.old (all_of (pure_changes changes)) self.new) }
+        ensures seq { IfOk result (λ seq. seq ≡ self.new.state.seq) }
+        ensures refused { IfErr result (λ r. (r ≡ plain MEMORY) ⊎ (changes_refusal self.old.state (pure_changes changes) ≡ Some r)) }
+        ensures unchanged { OnErr result (self.new ≡ self.old) }
+        ensures own { IfErr result IsOwn }
+        ensures good { Good self.new.state }
+    {
+        match changes {
+            Changes::Alone(command) => self.step_alone(command),
+            Changes::Together(commands) => self.step_all(commands),
+        }
+    }
+
+    // Makes one change by itself.
+    fn step_alone(&mut self, command: Command) -> Result<u64, Refusal>
+        ensures accepted { OnOk result (refusal_of self.old.state (change_of command) ≡ None) }
+        ensures made { OnOk result (AreMade self.old (change_of command ∷ []) self.new) }
+        ensures seq { IfOk result (λ seq. seq ≡ self.new.state.seq) }
+        ensures refused { IfErr result (Refuses self.old.state (change_of command)) }
+        ensures unchanged { OnErr result (self.new ≡ self.old) }
+        ensures own { IfErr result IsOwn }
+        ensures good { Good self.new.state }
+    {
+        match self.step(command) {
+            Ok(accepted) => Ok(accepted.seq),
+            Err(refusal) => Err(refusal),
         }
     }
 
@@ -62,8 +134,10 @@ impl Trial {
 
     // Makes all of these changes, or none.
     fn step_all(&mut self, commands: Vec<Command>) -> Result<u64, Refusal>
-        ensures made { IfOk result (λ seq. IsTransacted self.old (several (map change_of commands.items)) seq self.new) }
-        ensures refused { IfErr result (RefusesTransaction self.old.state (several (map change_of commands.items))) }
+        ensures accepted { OnOk result (several_refusal self.old.state (map change_of commands.items) ≡ None) }
+        ensures made { OnOk result (AreMade self.old (map change_of commands.items) self.new) }
+        ensures seq { IfOk result (λ seq. seq ≡ self.new.state.seq) }
+        ensures refused { IfErr result (λ r. (r ≡ plain MEMORY) ⊎ (several_refusal self.old.state (map change_of commands.items) ≡ Some r)) }
         ensures unchanged { OnErr result (self.new ≡ self.old) }
         ensures own { IfErr result IsOwn }
         ensures good { Good self.new.state }

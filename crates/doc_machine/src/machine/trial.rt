@@ -1,9 +1,11 @@
-//! Changes that are made in memory alone, and can be taken back without memory.
-ghost use Rattle.std.specs.Prelude.{◌≡◌, ◌+◌, ◌<◌, ◌++◌, ◌∷◌, [], length, take, None, IfOk, IfErr, OnOk, OnErr};
+//! Changes and marks that are made in memory alone, and can be taken back without memory.
+ghost use Rattle.std.specs.Prelude.{◌≡◌, ◌+◌, ◌<◌, ◌≤◌, ◌++◌, ◌∷◌, [], length, string_bytes, take, None, IfOk, IfErr, OnOk, OnErr};
 ghost use Rattle.record_text.specs.Change.{change_of};
 ghost use Rattle.doc_changes.specs.Held.{held_in};
 ghost use Rattle.doc_changes.specs.Judged.{IsJudged, IsReady};
-ghost use Rattle.doc_changes.specs.State.{Good};
+ghost use Rattle.doc_changes.specs.MarkView.{mark_in};
+ghost use Rattle.doc_changes.specs.Marks.{mark_refusal};
+ghost use Rattle.doc_changes.specs.State.{Good, noted};
 ghost use Rattle.doc_changes.specs.Step.{IsOwn, Refuses, after, refusal_of};
 ghost use Rattle.doc_machine.specs.Transaction.{AreMade};
 ghost use Rattle.doc_machine.specs.Trial.{state_at};
@@ -11,7 +13,9 @@ ghost use Rattle.doc_changes.specs.declared.limits.TheConstants.{LAST_SEQ};
 
 use crate::machine::Machine;
 use doc_changes::laws::accepted_changes_are_framed;
-use doc_changes::{Documents, Judged, Profile, Refusal, Stored, Undo, make, unmake};
+use doc_changes::{
+    Documents, Judged, Mark, Marks, Profile, Refusal, Stored, Undo, Unset, make, unmake,
+};
 use indexmap::IndexMap;
 use record_text::Command;
 use std::alloc::{AllocError, Global};
@@ -23,9 +27,17 @@ use std::marker::Model;
 pub struct Trial {
     alloc: Global,
     documents: IndexMap<String, Stored>,
+    marks: Marks,
     seq: u64,
     profile: Profile,
-    log: Vec<Undo>,
+    log: Vec<Tried>,
+}
+
+/// What takes a change back, and the marks that were set after it and before the next change.
+#[derive(Drop)]
+pub struct Tried {
+    change: Undo,
+    marks: Vec<Unset>,
 }
 
 /// A change that was made.
@@ -60,12 +72,14 @@ impl Trial {
         let Machine {
             alloc,
             documents,
+            marks,
             seq,
             profile,
         } = machine;
         Trial {
             alloc,
             documents,
+            marks,
             seq,
             profile,
             log: Vec::new(alloc),
@@ -94,12 +108,25 @@ impl Trial {
         self.seq
     }
 
+    // The profile in which the schemas of changes are read.
+    pub(crate) fn profile(&self) -> Profile
+        ensures { result ≡ self.now.state.profile }
+    {
+        self.profile
+    }
+
     /// The documents as they are tried, to read.
     pub fn look(&self) -> Documents<'_>
         ensures same { result ≡ self.now.state }
         ensures good { Good self.now.state }
     {
-        Documents::lend(self.alloc, &self.documents, self.seq, self.profile)
+        Documents::lend(
+            self.alloc,
+            &self.documents,
+            &self.marks,
+            self.seq,
+            self.profile,
+        )
     }
 
     /// Why a change is refused, if it is, as `Machine::judge` answers.
@@ -147,18 +174,42 @@ impl Trial {
         let seq = self.seq + 1;
         let undo = make(self.alloc, &mut self.documents, command, judged, seq)?;
         let held = undo.held();
-        self.log.push(undo).unwrap();
+        self.log
+            .push(Tried {
+                change: undo,
+                marks: Vec::new(self.alloc),
+            })
+            .unwrap();
         self.seq = seq;
         Ok(Accepted { seq, held })
     }
 
-    /// Takes the newest change back. It takes no memory.
+    // Sets a mark after the newest change, which it goes back with. An `Err` changes nothing.
+    pub(crate) fn set(&mut self, mark: Mark) -> Result<(), AllocError>
+        requires tried { 0 < length self.old.past }
+        requires accepted { mark_refusal self.old.state.profile (string_bytes mark.key) (string_bytes mark.value) ≡ None }
+        requires counted { mark.seq ≤ self.old.state.seq }
+        ensures state { OnOk result (self.new.state ≡ noted (mark_in mark) self.old.state) }
+        ensures past { self.new.past ≡ self.old.past }
+        ensures unchanged { OnErr result (self.new ≡ self.old) }
+        ensures good { Good self.new.state }
+    {
+        self.know();
+        let last = self.log.len() - 1;
+        self.log[last].marks.reserve(1)?;
+        let unset = self.marks.set(mark)?;
+        self.log[last].marks.push(unset).unwrap();
+        Ok(())
+    }
+
+    /// Takes the newest change back, and what was set after it. It takes no memory.
     pub fn revert(&mut self)
         requires { 0 < length self.old.past }
         ensures { self.old.past ≡ self.new.past ++ self.new.state ∷ [] }
     {
-        let undo = self.log.pop().unwrap();
-        unmake(&mut self.documents, undo);
+        let tried = self.log.pop().unwrap();
+        self.marks.unset_all(tried.marks);
+        unmake(&mut self.documents, tried.change);
         self.seq -= 1;
     }
 
@@ -182,6 +233,7 @@ impl Trial {
         let Trial {
             alloc,
             documents,
+            marks,
             seq,
             profile,
             log: _,
@@ -189,6 +241,7 @@ impl Trial {
         Machine {
             alloc,
             documents,
+            marks,
             seq,
             profile,
         }

@@ -42,13 +42,13 @@ returns-clause-refused c = λ p ops read.
     (refuses_read ops (operations c.args.changes.now) None was r read refl h))
 
 pub returns-clause-good : goal.returns-clause-good
-returns-clause-good c = λ p seq low good.
+returns-clause-good c = λ marks p seq low good.
     let es = c.args.documents.now.entries in
     let i = c.in_ok-index.index in
     let was = c.unwrap-stored.result.now in
     let value : slice_get (values_of es) i ≡ Some was = sym c.get_index_mut.ensures.value ∙ ap option_copied_mut c.unwrap-stored.ensures in
     MatchResult-weaker c.perform_for_good.result c.perform_for_good.ensures.made
-    (λ _ m. good_at c.args.name.now es i was c.perform_for_good.new.stored (operations c.args.changes.now) c.args.revision seq p c.in_ok-index.ensures.found value m low good) (λ _ h. h)
+    (λ _ m. good_at c.args.name.now es i was c.perform_for_good.new.stored (operations c.args.changes.now) marks c.args.revision seq p c.in_ok-index.ensures.found value m low good) (λ _ h. h)
 
 pub returns-in_err-index-clause-refused : goal.returns-in_err-index-clause-refused
 returns-in_err-index-clause-refused c = λ p ops read.

@@ -28,7 +28,7 @@ invariant_of-self-2 c =
     (c.in_ok-make.ensures.made s.profile (ready_on _ (state_of c.self.inside) (map document_of c.reserve.new.self.entries) (change_of c.args.command) c.in_ok-ready.ready (c.look-2.ensures.same ∙ sym c.self.view_is)
     (ap (map document_of) c.in_ok-reserve.ensures.entries) c.in_ok-ready.ensures.ready)) in
     let low : s.seq < LAST_SEQ = omega (arith, c.self.invariant.counted, c.if-self.false) in
-    subst Good (sym (ap (λ (ds : List Document). record { documents = ds; seq = c.self.inside.seq + 1; profile = c.self.inside.profile }) m.after)) (good_below s (change_of c.args.command) m.judged c.self.invariant low m.is_judged)
+    subst Good (sym (ap (λ (ds : List Document). record { documents = ds; marks = c.self.inside.marks; seq = c.self.inside.seq + 1; profile = c.self.inside.profile }) m.after)) (good_below s (change_of c.args.command) m.judged c.self.invariant low m.is_judged)
 
 pub returns-clause-good : goal.returns-clause-good
 returns-clause-good c = invariant_of-self-2 c
@@ -40,6 +40,6 @@ returns-clause-step c =
     (c.in_ok-make.ensures.made s.profile (ready_on _ (state_of c.self.inside) (map document_of c.reserve.new.self.entries) (change_of c.args.command) c.in_ok-ready.ready (c.look-2.ensures.same ∙ sym c.self.view_is)
     (ap (map document_of) c.in_ok-reserve.ensures.entries) c.in_ok-ready.ensures.ready)) in
     let low : s.seq < LAST_SEQ = omega (arith, c.self.invariant.counted, c.if-self.false) in
-    let now_is = ap (λ (ds : List Document). record { documents = ds; seq = c.self.inside.seq + 1; profile = c.self.inside.profile }) m.after in
+    let now_is = ap (λ (ds : List Document). record { documents = ds; marks = c.self.inside.marks; seq = c.self.inside.seq + 1; profile = c.self.inside.profile }) m.after in
     let accepted = accepted_below s (change_of c.args.command) m.judged m.is_judged low in
     (subst (λ (t : State). refusal_of t (change_of c.args.command) ≡ None) c.self.view_is accepted, now_is ∙ ap (λ (t : State). after t (change_of c.args.command)) c.self.view_is, refl)

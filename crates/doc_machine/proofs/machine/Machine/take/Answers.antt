@@ -31,7 +31,7 @@ invariant_of-self-2 c =
     (c.in_ok-make.ensures.made s.profile (ready_on _ (state_of c.self.inside) (map document_of c.reserve.new.self.entries) (change_of c.args.command) c.in_ok-ready.ready (c.look.ensures.same ∙ sym c.self.view_is)
     (ap (map document_of) c.in_ok-reserve.ensures.entries) c.in_ok-ready.ensures.ready)) in
     let low = subst (λ (t : State). c.args.seq ≤ t.seq) (sym c.self.view_is) c.requires in
-    subst Good (sym (ap (λ (ds : List Document). record { documents = ds; seq = c.self.inside.seq; profile = c.self.inside.profile }) m.after))
+    subst Good (sym (ap (λ (ds : List Document). record { documents = ds; marks = c.self.inside.marks; seq = c.self.inside.seq; profile = c.self.inside.profile }) m.after))
     (good_made s change c.args.seq m.judged low c.self.invariant (none_first (refusals_in s.profile s.documents change) m.is_judged.accepted) m.is_judged.sound m.is_judged.made)
 
 pub returns-clause-good : goal.returns-clause-good
@@ -46,4 +46,4 @@ returns-clause-taken c =
     (ap (map document_of) c.in_ok-reserve.ensures.entries) c.in_ok-ready.ensures.ready)) in
     let low = subst (λ (t : State). c.args.seq ≤ t.seq) (sym c.self.view_is) c.requires in
     let takes : Takes s (entry c.args.seq change) = record { not_ahead = low; accepted = m.is_judged.accepted } in
-    (subst (λ (t : State). Takes t (entry c.args.seq change)) c.self.view_is takes, ap (λ (ds : List Document). record { documents = ds; seq = c.self.inside.seq; profile = c.self.inside.profile }) m.after ∙ ap (λ (t : State). with_entry t (entry c.args.seq change)) c.self.view_is)
+    (subst (λ (t : State). Takes t (entry c.args.seq change)) c.self.view_is takes, ap (λ (ds : List Document). record { documents = ds; marks = c.self.inside.marks; seq = c.self.inside.seq; profile = c.self.inside.profile }) m.after ∙ ap (λ (t : State). with_entry t (entry c.args.seq change)) c.self.view_is)

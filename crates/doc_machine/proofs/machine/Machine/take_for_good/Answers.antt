@@ -27,7 +27,7 @@ invariant_of-result c =
     (ap (map document_of) c.in_ok-reserve.ensures.entries) c.in_ok-ready.ensures.ready)) in
     let low = subst (λ (t : State). c.args.seq ≤ t.seq) (sym c.self.view_is) c.requires in
     let accepted = none_first (refusals_in s.profile s.documents change) m.is_judged.accepted in
-    subst Good (sym (ap (λ (ds : List Document). record { documents = ds; seq = c.self.inside.seq; profile = c.self.inside.profile }) m.after))
+    subst Good (sym (ap (λ (ds : List Document). record { documents = ds; marks = c.self.inside.marks; seq = c.self.inside.seq; profile = c.self.inside.profile }) m.after))
     (good_made s change c.args.seq m.judged low c.self.invariant accepted m.is_judged.sound m.is_judged.made)
 
 pub returns-clause-good : goal.returns-clause-good

@@ -10,7 +10,9 @@ use Rattle.doc_machine.specs.Trial.{TrialView}
 use Rattle.doc_changes.specs.Undo.{IsMade}
 use Rattle.doc_machine.specs.Tried.{tried, before, past_of, CanGoBackAll}
 use Rattle.doc_changes.specs.StateView.{document_of}
-use Rattle.doc_changes.specs.declared.undo.Undo.{Undo}
+use Rattle.doc_changes.specs.MarkView.{AreSet, all_before}
+use Rattle.doc_changes.specs.declared.marks.Unset.{Unset}
+use Rattle.doc_machine.specs.declared.machine.trial.Tried.{Tried}
 use Rattle.doc_changes.proofs.After.{good_after}
 use Rattle.doc_changes.proofs.Judgements.{err_same}
 use Rattle.doc_changes.proofs.Known.{own_alone}
@@ -46,20 +48,24 @@ judged c =
     judged_below (tried c.self.inside) (change_of c.args.command) (made c).judged (c.accepted_changes_are_framed.ensures (tried c.self.inside) (change_of c.args.command)) (made c).is_judged low
 
 abbrev now : (c : goal.After-self-1) → State
-now c = record { documents = map document_of c.make.new.documents.entries; seq = c.self.inside.seq + 1; profile = c.self.inside.profile }
+now c = record { documents = map document_of c.make.new.documents.entries; marks = c.self.inside.marks; seq = c.self.inside.seq + 1; profile = c.self.inside.profile }
+
+-- no mark was set after it yet
+abbrev one : (c : goal.After-self-1) → Tried
+one c = record { change = c.in_ok-undo.undo; marks = c.new.result }
 
 now_is : (c : goal.After-self-1) → now c ≡ after (tried c.self.inside) (change_of c.args.command)
-now_is c = ap (λ (ds : List Document). record { documents = ds; seq = c.self.inside.seq + 1; profile = c.self.inside.profile }) (made c).after
+now_is c = ap (λ (ds : List Document). record { documents = ds; marks = c.self.inside.marks; seq = c.self.inside.seq + 1; profile = c.self.inside.profile }) (made c).after
 
-before_is : (c : goal.After-self-1) → before c.in_ok-undo.undo (now c) ≡ tried c.self.inside
+before_is : (c : goal.After-self-1) → before (one c) (now c) ≡ tried c.self.inside
 before_is c =
     let seq : c.self.inside.seq + 1 - 1 ≡ c.self.inside.seq = omega arith in
-    λ i. record { documents = (made c).undo.back i; seq = seq i; profile = c.self.inside.profile }
+    λ i. record { documents = (made c).undo.back i; marks = all_before (c.new.ensures.items i) c.self.inside.marks; seq = seq i; profile = c.self.inside.profile }
 
-log_is : (c : goal.After-self-1) → c.push.new.self.items ≡ c.self.inside.log.items ++ c.in_ok-undo.undo ∷ []
+log_is : (c : goal.After-self-1) → c.push.new.self.items ≡ c.self.inside.log.items ++ one c ∷ []
 log_is c =
-    c.push.ensures.items ∙ ap (λ r. if is_ok r then c.reserve-2.new.self.items ++ c.in_ok-undo.undo ∷ [] else c.reserve-2.new.self.items) c.unwrap.ensures
-    ∙ ap (λ (l : List Undo). l ++ c.in_ok-undo.undo ∷ []) c.in_ok-reserve-2.ensures.items
+    c.push.ensures.items ∙ ap (λ r. if is_ok r then c.reserve-2.new.self.items ++ one c ∷ [] else c.reserve-2.new.self.items) c.unwrap.ensures
+    ∙ ap (λ (l : List Tried). l ++ one c ∷ []) c.in_ok-reserve-2.ensures.items
 
 good_now : (c : goal.After-self-1) → Good (now c)
 good_now c = subst Good (sym (now_is c)) (good_after (tried c.self.inside) (change_of c.args.command) (made c).judged c.self.invariant.good (judged c))
@@ -67,13 +73,13 @@ good_now c = subst Good (sym (now_is c)) (good_after (tried c.self.inside) (chan
 pub invariant_of-self-2 : goal.invariant_of-self-2
 invariant_of-self-2 c =
     let log = c.self.inside.log.items in
-    let undo = c.in_ok-undo.undo in
+    let undo = one c in
     let size = ap length (log_is c) in
     record {
       good = good_now c;
-      back = subst (λ (l : List Undo). CanGoBackAll l (now c)) (sym (log_is c)) (back_push log undo (now c)
+      back = subst (λ (l : List Tried). CanGoBackAll l (now c)) (sym (log_is c)) (back_push log undo (now c)
           (subst (CanGoBackAll log) (sym (before_is c)) c.self.invariant.back)
-          (record { there = (made c).undo.there; counted = omega arith; good = subst Good (sym (before_is c)) c.self.invariant.good }));
+          (record { there = (made c).undo.there; set = subst (λ (us : List Unset). AreSet us c.self.inside.marks) (sym c.new.ensures.items) tt; counted = omega arith; good = subst Good (sym (before_is c)) c.self.invariant.good }));
       room = omega (arith, size, length-append log (undo ∷ []), c.in_ok-reserve.ensures.ok, c.len.ensures, c.make.ensures.spare);
     }
 
@@ -83,7 +89,7 @@ returns-clause-made c =
     let j = judged c in
     record {
       state = now_is c ∙ ap (λ (v : TrialView). after v.state (change_of c.args.command)) old;
-      past = ap (λ (l : List Undo). past_of l (now c)) (log_is c) ∙ past_of-push c.self.inside.log.items c.in_ok-undo.undo (now c)
+      past = ap (λ (l : List Tried). past_of l (now c)) (log_is c) ∙ past_of-push c.self.inside.log.items (one c) (now c)
           ∙ ap (λ (s : State). past_of c.self.inside.log.items s ++ s ∷ []) (before_is c) ∙ ap (λ (v : TrialView). v.past ++ v.state ∷ []) old;
       framed = (j.framed, tt);
       good = (subst (λ (v : TrialView). Good v.state) old c.self.invariant.good, subst Good (now_is c ∙ ap (λ (v : TrialView). after v.state (change_of c.args.command)) old) (good_now c));
