@@ -3,6 +3,8 @@ use Rattle.std.specs.Prelude.{◌≡◌, ◌≤◌, ◌+◌, ◌-◌, ◌*◌, �
 use Rattle.std.specs.Io.KnownBytes.{Appends}
 use Rattle.sector_device.specs.Disk.{Image}
 use Rattle.record_text.specs.Frame.{body_of}
+use Rattle.log_frames.specs.Kinds.{logged}
+use Rattle.log_frames.specs.declared.kind.Kind.{Kind}
 use Rattle.frame_search.specs.Places.{IsFirstFrom, StandsAt}
 use Rattle.store_parts.specs.Parts.{HasBytes, HasCheck}
 use Rattle.store_parts.specs.declared.checking.Check.{Check}
@@ -15,19 +17,19 @@ use Rattle.damaged_files.specs.declared.head.Head.{Head}
 
 -- ---- one line
 
--- the head of the line of the frame at that place of a part, with this seq
-abbrev pub head_at : Part → Check → ℕ → ℕ → Head
-head_at part check at seq =
+-- the head of the line of the frame at that place of a part, of this kind and with this seq
+abbrev pub head_at : Part → Check → ℕ → Kind → ℕ → Head
+head_at part check at kind seq =
     let place = place_of part at in
-    record { front = record { byte = place.byte; check = check; counted = part.counted }; back = record { half = part.half; spot = record { sector = place.sector; seq = seq } } }
+    record { front = record { byte = place.byte; check = check; counted = part.counted }; back = record { half = part.half; spot = record { sector = place.sector; seq = seq } }; kind = kind }
 
 -- its text
-abbrev pub frame_head : Part → Check → ℕ → ℕ → List ℕ
-frame_head part check at seq = text_of_head (head_at part check at seq)
+abbrev pub frame_head : Part → Check → ℕ → Kind → ℕ → List ℕ
+frame_head part check at kind seq = text_of_head (head_at part check at kind seq)
 
--- and the whole line, with its body, the text of a command
-abbrev pub frame_text : Part → Check → ℕ → ℕ → List ℕ → List ℕ
-frame_text part check at seq body = frame_head part check at seq ++ body ++ codes "}\n"
+-- and the whole line, with its body, the text of a command, or of the creation that spells a mark
+abbrev pub frame_text : Part → Check → ℕ → Kind → ℕ → List ℕ → List ℕ
+frame_text part check at kind seq body = frame_head part check at kind seq ++ body ++ codes "}\n"
 
 -- ---- the lines of a part
 
@@ -35,12 +37,12 @@ frame_text part check at seq body = frame_head part check at seq ++ body ++ code
 abbrev pub AreFramesFrom : ℕ → List ℕ → ℕ → List Placed → Type 0
 AreFramesFrom version bytes from [] = IsFirstFrom version bytes from (length bytes)
 AreFramesFrom version bytes from (p ∷ ps) =
-    (from ≤ p.at) × StandsAt version bytes p.at p.entry p.len × IsFirstFrom version bytes from p.at × AreFramesFrom version bytes (p.at + p.len) ps
+    (from ≤ p.at) × StandsAt version bytes p.at (logged p.kind p.entry) p.len × IsFirstFrom version bytes from p.at × AreFramesFrom version bytes (p.at + p.len) ps
 
 -- their lines
 abbrev pub lines_of_frames : Part → Check → List Placed → List ℕ
 lines_of_frames part check [] = []
-lines_of_frames part check (p ∷ ps) = frame_text part check p.at p.entry.seq (body_of p.entry.change) ++ lines_of_frames part check ps
+lines_of_frames part check (p ∷ ps) = frame_text part check p.at p.kind p.entry.seq (body_of p.entry.change) ++ lines_of_frames part check ps
 
 pub record IsFramesText (version : ℕ) (part : Part) (bytes : List ℕ) (check : Check) (from : ℕ) (text : List ℕ) : Type 0 where
   pub frames : List Placed
@@ -49,9 +51,9 @@ pub record IsFramesText (version : ℕ) (part : Part) (bytes : List ℕ) (check 
 
 -- ---- those of all parts
 
--- the frames of format 3 are those of format 2
+-- the format of the frames
 abbrev pub version_of : Findings → ℕ
-version_of found = if nat_eq found.format 1 then 1 else 2
+version_of found = if nat_eq found.format 1 then 1 else if nat_eq found.format 3 then 3 else 2
 
 -- the place in the bytes of a part from which frames are looked for: if the first part is counted and this is the rest of its half, the bytes of the first
 -- that are in its sectors come before

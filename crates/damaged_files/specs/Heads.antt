@@ -1,5 +1,7 @@
 -- The text of a frame's line before its command.
 use Rattle.std.specs.Prelude.{ℕ, List, ◌++◌, Bool, true, false, codes, decimal}
+use Rattle.log_frames.specs.declared.kind.Kind.{Kind}
+use Rattle.log_frames.specs.declared.kind.Kind.TheVariants.{Last, More, Kept, Noted}
 use Rattle.store_parts.specs.declared.checking.Check.{Check}
 use Rattle.store_parts.specs.declared.checking.Check.TheVariants.{Held, Failed, Unknown}
 use Rattle.damaged_files.specs.Spots.{text_of_spot}
@@ -25,5 +27,12 @@ text_of_front front = codes "{\"byte\":" ++ decimal front.byte ++ codes ",\"chec
 abbrev pub text_of_back : Back → List ℕ
 text_of_back back = codes "\"half\":" ++ decimal back.half ++ codes "," ++ text_of_spot back.spot
 
+-- the name under which the line has the frame's body: that of a mark is no command
+abbrev pub member_of : Kind → List ℕ
+member_of Last = codes "command"
+member_of More = codes "command"
+member_of Kept = codes "command"
+member_of Noted = codes "mark"
+
 abbrev pub text_of_head : Head → List ℕ
-text_of_head head = text_of_front head.front ++ codes "," ++ text_of_back head.back ++ codes ",\"command\":"
+text_of_head head = text_of_front head.front ++ codes "," ++ text_of_back head.back ++ codes ",\"" ++ member_of head.kind ++ codes "\":"

@@ -1,13 +1,13 @@
 //! The lines of the frames among bytes.
 ghost use Rattle.std.specs.Prelude.{◌≡◌, ◌≤◌, ◌<◌, ◌+◌, ◌++◌, IfOk, drop, length, take};
-ghost use Rattle.half_journal.specs.Layout.{IsFormat};
-ghost use Rattle.frame_search.specs.Places.{head_of};
+ghost use Rattle.frame_search.specs.Places.{IsFrameFormat, head_of};
 ghost use Rattle.damaged_files.specs.Frames.{AreFramesFrom, IsFramesText, frame_head, frame_text, head_at};
 
 use crate::damage::Spot;
 use crate::head::{Back, Front, Head};
 use crate::place::{Place, place_of};
 use frame_search::{Found, next_frame};
+use log_frames::Kind;
 use std::alloc::{AllocError, Global};
 use std::io::Write;
 use store_parts::{Check, Part};
@@ -21,7 +21,7 @@ pub(crate) fn frames_text(
     check: Check,
     begin: usize,
 ) -> Result<Vec<u8>, AllocError>
-    requires { IsFormat version }
+    requires { IsFrameFormat version }
     ensures { IfOk result (λ text. IsFramesText version part.now bytes.now check begin text.items) }
 {
     let mut text = Vec::new(alloc);
@@ -33,6 +33,7 @@ pub(crate) fn frames_text(
         let Found {
             at,
             len,
+            kind,
             seq,
             command,
         } = found;
@@ -43,7 +44,7 @@ pub(crate) fn frames_text(
             bytes,
             version,
             check,
-            FramePlace { at, len, seq },
+            FramePlace { at, len, kind, seq },
         )?;
         from = at + len;
     }
@@ -57,11 +58,12 @@ fn head_of(version: u32) -> usize
     if version == 1 { 4 } else { 12 }
 }
 
-// A frame among bytes: the place of its first byte, its length and its seq.
+// A frame among bytes: the place of its first byte, its length, its kind and its seq.
 #[derive(Clone, Copy)]
 struct FramePlace {
     at: usize,
     len: usize,
+    kind: Kind,
     seq: u64,
 }
 
@@ -76,7 +78,7 @@ fn with_frame(
 ) -> Result<Vec<u8>, AllocError>
     requires headed { head_of version ≤ place.len }
     requires within { place.at + place.len ≤ length bytes.now }
-    ensures { IfOk result (λ longer. longer.items ≡ text.items ++ frame_text part.now check place.at place.seq (drop (head_of version) (take place.len (drop place.at bytes.now)))) }
+    ensures { IfOk result (λ longer. longer.items ≡ text.items ++ frame_text part.now check place.at place.kind place.seq (drop (head_of version) (take place.len (drop place.at bytes.now)))) }
 {
     let frame = &bytes[place.at..place.at + place.len];
     let mut text = with_head(text, part, check, place)?;
@@ -92,7 +94,7 @@ fn with_head(
     check: Check,
     frame: FramePlace,
 ) -> Result<Vec<u8>, AllocError>
-    ensures { IfOk result (λ longer. longer.items ≡ text.items ++ frame_head part.now check frame.at frame.seq) }
+    ensures { IfOk result (λ longer. longer.items ≡ text.items ++ frame_head part.now check frame.at frame.kind frame.seq) }
 {
     let mut text = text;
     let head = head_at(part, check, frame);
@@ -104,7 +106,7 @@ fn with_head(
 
 // The head of a frame's line.
 fn head_at(part: &Part, check: Check, frame: FramePlace) -> Head
-    ensures { result ≡ head_at part.now check frame.at frame.seq }
+    ensures { result ≡ head_at part.now check frame.at frame.kind frame.seq }
 {
     let Place { sector, byte } = place_of(part, frame.at as u64);
     Head {
@@ -120,5 +122,6 @@ fn head_at(part: &Part, check: Check, frame: FramePlace) -> Head
                 seq: frame.seq,
             },
         },
+        kind: frame.kind,
     }
 }

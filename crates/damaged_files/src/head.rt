@@ -1,5 +1,6 @@
 //! The head of a frame's line, all before its command.
 use crate::damage::Spot;
+use log_frames::Kind;
 use std::fmt::{self, Display, Formatter};
 use store_parts::Check;
 
@@ -8,6 +9,8 @@ use store_parts::Check;
 pub struct Head {
     pub front: Front,
     pub back: Back,
+    /// What the frame holds.
+    pub kind: Kind,
 }
 
 /// The byte of the sector, and what is known of the bytes that the frame is among.
@@ -32,8 +35,9 @@ impl Display for Head {
     ghost output = { λ head. Some (text_of_head head) };
 
     fn fmt<W: fmt::Write>(&self, f: &mut Formatter<W>) -> fmt::Result {
-        let Head { front, back } = self;
-        write!(f, "{front},{back},\"command\":")
+        let Head { front, back, kind } = self;
+        let member = Member(*kind);
+        write!(f, "{front},{back},\"{member}\":")
     }
 }
 
@@ -62,6 +66,24 @@ impl Display for Back {
     fn fmt<W: fmt::Write>(&self, f: &mut Formatter<W>) -> fmt::Result {
         let Back { half, spot } = self;
         write!(f, "\"half\":{half},{spot}")
+    }
+}
+
+// The name under which the line has the frame's body: that of a mark is no command.
+#[derive(Clone, Copy)]
+struct Member(Kind);
+
+impl Display for Member {
+    ghost use Rattle.std.specs.Prelude.{Some};
+    ghost use Rattle.damaged_files.specs.Heads.{member_of};
+
+    ghost output = { λ member. Some (member_of member.0) };
+
+    fn fmt<W: fmt::Write>(&self, f: &mut Formatter<W>) -> fmt::Result {
+        match self.0 {
+            Kind::Last | Kind::More | Kind::Kept => f.write_str("command"),
+            Kind::Noted => f.write_str("mark"),
+        }
     }
 }
 

@@ -4,6 +4,7 @@ ghost use Rattle.std.specs.Io.KnownBytes.{Appends};
 ghost use Rattle.sector_device.specs.Charges.{IsSameRead};
 ghost use Rattle.sector_device.specs.Sectors.{KeepsImages};
 ghost use Rattle.store_parts.specs.Parts.{AreParts, HasPart};
+ghost use Rattle.frame_search.specs.Places.{IsFrameFormat};
 ghost use Rattle.damaged_files.specs.Frames.{IsPartText, IsPartsText, ShowsParts, begin_after, begin_of, version_of};
 
 use crate::frames::frames_text;
@@ -69,11 +70,18 @@ fn part_text<D: SectorDevice>(
     frames_text(alloc, part, &bytes, version_of(found), check, from)
 }
 
-// The version of the frames: those of format 3 are those of format 2.
+// The format of the frames.
 fn version_of(found: &Findings) -> u32
-    ensures { result ≡ version_of found.now }
+    ensures value { result ≡ version_of found.now }
+    ensures format { IsFrameFormat result }
 {
-    if found.format == 1 { 1 } else { 2 }
+    if found.format == 1 {
+        1
+    } else if found.format == 3 {
+        3
+    } else {
+        2
+    }
 }
 
 // The place in the `len` bytes of a part from which frames are looked for. In formats 1 and 2 the bytes of the half that no

@@ -1,5 +1,5 @@
 -- What formatting with a snapshot makes of a device.
-use Rattle.std.proofs.Common.{◌≡◌, inl, inr, ⊎_elim, ℕ, List, Bool, length, refl, ap, subst, ◌∙◌}
+use Rattle.std.proofs.Common.{◌≡◌, inl, inr, ⊎_elim, ℕ, List, Bool, true, false, length, refl, ap, subst, ◌∙◌}
 use Rattle.sector_device.specs.Disk.{Disk, Image, LeavesOnly}
 use Rattle.sector_device.proofs.Moments.{leaves_weaker}
 use Rattle.half_journal.specs.States.{one_more}
@@ -7,12 +7,13 @@ use Rattle.store_journal.specs.Carries.{Carried, Carries, identity_in}
 use Rattle.store_journal.specs.Filling.{Filled, NoneOrAll, filled}
 use Rattle.store_journal.specs.Models.{model}
 use Rattle.store_journal.proofs.Unique.{carries_one}
-use Rattle.schema_rules.specs.declared.profile.Profile.{Profile}
-use Rattle.doc_changes.specs.State.{Good, State, in_profile}
+use Rattle.doc_changes.specs.State.{Document, Good, State, in_profile}
 use Rattle.doc_changes.specs.Within.{AreWithin}
 use Rattle.doc_changes.proofs.Framed.{framed_storable}
+use Rattle.doc_changes.proofs.Marked.{good_within}
+use Rattle.doc_changes.specs.Marks.{Mark, marks_in}
 use Rattle.store_commits.specs.Account.{Account}
-use Rattle.store_commits.specs.Images.{profile_in}
+use Rattle.store_commits.specs.Images.{Holds, profile_in, version_of_frames}
 use Rattle.store_commits.specs.Snapshot.{snapshot_bytes}
 use Rattle.store_commits.proofs.Migrating.{snapshot_holds}
 use Rattle.store_commits.proofs.Snapshots.{remakes_all}
@@ -22,9 +23,10 @@ use Rattle.doc_store.specs.declared.format.Format.{Format}
 use Rattle.doc_store.specs.declared.status.Status.{Status}
 use Rattle.doc_store.proofs.Opened.{one_state}
 
--- a state whose documents may be in a profile is good in it
-pub good_in : (profile : Profile) (s : State) → Good s → AreWithin profile s.documents → Good (in_profile profile s)
-good_in profile s g within = record { distinct = g.distinct; storable = g.storable; offered = within.offered; few = within.few; counted = g.counted; revised = g.revised }
+-- the snapshot has the marks that its format keeps
+pub bytes_same : (rides : Bool) (ds : List Document) (ms : List Mark) → snapshot_bytes rides ds (marks_in (profile_in rides) ms) ≡ snapshot_bytes rides ds ms
+bytes_same false ds ms = refl
+bytes_same true ds ms = refl
 
 module _ (format : Format) (identity : ℕ) (a : Account) (good : Good a.state) (within : AreWithin (profile_in (rides_in format)) a.state.documents) where
   abbrev S : State
@@ -40,13 +42,14 @@ module _ (format : Format) (identity : ℕ) (a : Account) (good : Good a.state) 
       carries = carries;
       seq_is = refl;
       profile_is = refl;
-      holds = snapshot_holds S a.state.seq refl (remakes_all framed_storable S (good_in (profile_in (rides_in format)) a.state good within));
+      holds = subst (λ (l : List ℕ). Holds S.profile (version_of_frames R 2) S.seq l S.documents S.marks) (bytes_same R a.state.documents a.state.marks)
+          (snapshot_holds R S a.state.seq refl refl (remakes_all framed_storable S (good_within (profile_in (rides_in format)) a.state good within)));
     };
     carried_is = refl;
   }
 
   -- with the bytes of its snapshot, and its numbers as it tells them
-  module _ (bytes : List ℕ) (status : Status) (rides : Bool) (bytes_are : bytes ≡ snapshot_bytes a.state.documents) (status_is : status ≡ status_of a) (rides_is : rides ≡ rides_in format) (old new : Disk) where
+  module _ (bytes : List ℕ) (status : Status) (rides : Bool) (bytes_are : bytes ≡ snapshot_bytes (rides_in format) a.state.documents a.state.marks) (status_is : status ≡ status_of a) (rides_is : rides ≡ rides_in format) (old new : Disk) where
     carried_is : filled rides bytes status.seq status.opens identity ≡ copied_of format identity a
     carried_is = λ i. filled (rides_is i) (bytes_are i) (status_is i).seq (status_is i).opens identity
 

@@ -35,7 +35,7 @@ module _ {D : Type 0} (disk : D → Disk) (old new : JournalView D) (bytes : Lis
   was = carried_in old bytes
 
   abbrev snapshot : List ℕ
-  snapshot = snapshot_bytes state.documents
+  snapshot = snapshot_bytes false state.documents state.marks
 
   was_is : (disk old.device).honest → was ≡ carried_of old
   was_is honest = λ i. record (carried_of old) { bytes = are honest i }

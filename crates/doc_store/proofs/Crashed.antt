@@ -16,6 +16,7 @@ use Rattle.doc_changes.specs.State.{State}
 use Rattle.store_commits.specs.Account.{Account}
 use Rattle.store_commits.specs.Images.{Stands, rides_for}
 use Rattle.store_commits.specs.Events.{Event}
+use Rattle.store_commits.proofs.Changes.{profile_each}
 use Rattle.doc_store.specs.Ending.{TimedIf}
 use Rattle.doc_store.specs.Lives.{CrashKeeps, CrashesKeep, IsLife, events_of}
 use Rattle.doc_store.specs.Opening.{LacksRoom, MayLackRoom}
@@ -23,7 +24,7 @@ use Rattle.doc_store.specs.Timed.{HasOneImage, Left}
 use Rattle.doc_store.specs.declared.life.Part.{Part}
 use Rattle.doc_store.specs.declared.life.Life.{Life}
 use Rattle.doc_store.proofs.Ending.{riding_has_room}
-use Rattle.doc_store.proofs.Rides.{model_adds, profile_each}
+use Rattle.doc_store.proofs.Rides.{model_adds}
 
 -- ---- a write that tears nothing
 

@@ -108,7 +108,7 @@ rooms_in_2 old new old_coherent new_coherent same leaves lacks =
     let c_is : lack.stands.carried ≡ other.2.carried = one_carried image lack.state other.0 lack.stands other.2 in
     let s_is : lack.state ≡ other.0 = one_state image lack.state other.0 lack.stands other.2 in
     let one : other.2.carried.version ≡ 1 = sym (ap (λ (c : Carried). c.version) c_is) ∙ lack.version_is in
-    let snapshot_is = ap (λ (s : State). length (snapshot_bytes s.documents)) s_is in
+    let snapshot_is = ap (λ (s : State). length (snapshot_bytes false s.documents s.marks)) s_is in
     let size = ap (capacity_of false) (sized_unopened false old new old_coherent new_coherent same image lacks.1) in
     let over = lack.over in (
       old.seen,

@@ -20,7 +20,7 @@ use Rattle.store_commits.specs.Account.{Account, Copy, StoreView, account_broken
 use Rattle.store_commits.specs.Batch.{FailedCommit, PassedCommit, to_snapshot}
 use Rattle.store_commits.specs.Copying.{IsBegun, IsCopied, IsCopying, Target, copy_of, count_of, HasStepped, IsPumped, PumpAnswers, account_stepped, calls_of_pump, calls_of_step, copy_at, standing_after}
 use Rattle.store_commits.specs.Inside.{IsHeld, IsStored, account_of}
-use Rattle.store_commits.specs.Images.{Holds, profile_in}
+use Rattle.store_commits.specs.Images.{Holds, profile_in, version_of_frames}
 use Rattle.store_commits.specs.Run.{to_step}
 use Rattle.store_commits.specs.Sealing.{to_seal}
 use Rattle.store_commits.specs.Snapshot.{RemakesAll, snapshot_bytes, account_with_snapshot}
@@ -31,14 +31,14 @@ use Rattle.store_commits.proofs.Migrating.{snapshot_holds}
 use Rattle.store_commits.proofs.Modelled.{AreCoherent}
 use Rattle.store_commits.proofs.SnapshotOutcomes.{WasCommitted, WasNotCommitted, held_snapped, snapped_is}
 use Rattle.store_commits.proofs.Snapshots.{remakes_all}
-use Rattle.store_commits.proofs.Standing.{stands_by, stands_now}
+use Rattle.store_commits.proofs.Standing.{held_by, stands_by, stands_now}
 
 -- ---- the copy that a step goes on with
 
 module _ {D : Type 0} (disk : Disk) (journal : JournalView D) (state : State) where
-  pub begun_copying : (copy : Option Target) (t : Target) → IsStored disk journal state copy → journal.next < number_end → IsBegun state copy t → IsCopying disk journal state t
+  pub begun_copying : (copy : Option Target) (t : Target) → IsStored disk journal state copy → journal.next < number_end → IsBegun journal.rides state copy t → IsCopying disk journal state t
   begun_copying None t stored numbered is = subst (IsCopying disk journal state) (sym is) (record {
-    holds = snapshot_holds state state.seq refl (remakes_all framed_storable state stored.held.good);
+    holds = snapshot_holds journal.rides state state.seq refl stored.held.profile (remakes_all framed_storable state stored.held.good);
     within = omega arith;
     copied = λ honest works. refl;
     numbered = numbered;
@@ -50,7 +50,7 @@ module _ {D : Type 0} (disk : Disk) (journal : JournalView D) (state : State) wh
   none_runs None copied none = refl
   none_runs (Some t) copied none = absurd (none copied.numbered)
 
-  pub begun_at : (copy : Option Target) (t : Target) → IsBegun state copy t → copy_at (with_copy (account_of journal state) (copy_of copy)) ≡ count_of t
+  pub begun_at : (copy : Option Target) (t : Target) → IsBegun journal.rides state copy t → copy_at (with_copy (account_of journal state) (copy_of copy)) ≡ count_of t
   begun_at None t is = ap count_of (sym is)
   begun_at (Some u) t is = ap count_of (sym is)
 
@@ -66,7 +66,7 @@ held_so old new before now state held back kept version seq rides bytes settled 
   seq = seq ∙ held.seq;
   profile = ap profile_in rides ∙ held.profile;
   good = held.good;
-  held = λ honest. subst (λ (l : List ℕ). Holds state.profile 2 state.seq l state.documents) (sym (bytes (back honest))) (held.held (back honest));
+  held = λ honest. held_by before now state rides before.bytes (bytes (back honest)) (held.held (back honest));
 }
 
 module _ {D : Type 0} (old new : Disk) (before now : JournalView D) (state : State) (t : Target) (held : IsHeld old before state) (copying : IsCopying old before state t) (same : old.honest ↔ new.honest) (kept : IsKept new now) where
@@ -86,12 +86,12 @@ module _ {D : Type 0} (old new : Disk) (before now : JournalView D) (state : Sta
     seq = over.counts.seq ∙ held.seq;
     profile = ap profile_in over.counts.rides ∙ held.profile;
     good = held.good;
-    held = λ honest. subst (λ (l : List ℕ). Holds state.profile 2 state.seq l state.documents) (sym (over.counts.bytes (same.1 honest))) copying.holds;
+    held = λ honest. held_by before now state over.counts.rides t.bytes (over.counts.bytes (same.1 honest)) copying.holds;
   }
 
   pub step_copied : (most : ℕ) (p : Pump) (left : Option Target) → HasStepped old new before now t most p left → IsCopied new now state left
   step_copied most p left (inl on) = subst (IsCopied new now state) (sym on.left_is) (record {
-    holds = copying.holds;
+    holds = subst (λ (r : Bool). Holds state.profile (version_of_frames r 2) state.seq t.bytes state.documents state.marks) (sym on.stepped.stays.rides) copying.holds;
     within = (let lt = on.less in omega (arith, lt));
     copied = λ honest works. (let front = take (standing_after (count_of t) most) t.bytes in
         subst (BeginsWith front) (sym (on.stepped.copied (same.1 honest) (copying.copied (same.1 honest) on.stepped.worked))) (take_all (length front) front (omega arith)));
@@ -171,7 +171,7 @@ module _ {D : Type 0} (disk : D → Disk) (coherent : AreCoherent disk) (before 
   a = with_copy (account_of before state) k
 
   abbrev bytes : List ℕ
-  bytes = snapshot_bytes state.documents
+  bytes = snapshot_bytes before.rides state.documents state.marks
 
   remakes : RemakesAll state
   remakes = remakes_all framed_storable state held.good
@@ -198,7 +198,7 @@ module _ {D : Type 0} (disk : D → Disk) (coherent : AreCoherent disk) (before 
   snapshot_failed (Err refusal) was leaves = λ is. record {
     failed = was.1.failed;
     leaves = λ honest image left. ⊎_elim (λ old. inl (broken_leaves _ was.1 image old)) (λ new. inr new)
-        (switched_as disk coherent before now state held same kept was.1.stays.sectors bytes (snapshot_holds state state.seq refl remakes) leaves honest image (left_before was.1.stays.rides image left));
+        (switched_as disk coherent before now state held same kept was.1.stays.sectors bytes (snapshot_holds before.rides state state.seq refl held.profile remakes) leaves honest image (left_before was.1.stays.rides image left));
   }
 
   pub seal_failed : Broke (disk before.device) (disk now.device) (seal_calls before.rides (length before.bytes)) before now
@@ -211,7 +211,7 @@ module _ {D : Type 0} (disk : D → Disk) (coherent : AreCoherent disk) (before 
         (left_now (model before.rides (disk before.device)) (model before.rides (disk now.device)) (Carries (carried_of before)) (coherent before.rides now.device honest) (leaves (same.1 honest)) image left))));
   }
 
-  pub step_failed : (most : ℕ) (t : Target) → Broke (disk before.device) (disk now.device) (calls_of_step before.rides (count_of t) most) before now → Holds state.profile 2 state.seq t.bytes state.documents → copy_at a ≡ count_of t
+  pub step_failed : (most : ℕ) (t : Target) → Broke (disk before.device) (disk now.device) (calls_of_step before.rides (count_of t) most) before now → Holds state.profile (version_of_frames before.rides 2) state.seq t.bytes state.documents state.marks → copy_at a ≡ count_of t
       → length t.bytes ≤ capacity_of before.rides before.sectors → ((disk before.device).honest → LeavesOnly (model before.rides (disk before.device)) (model before.rides (disk now.device)) (EitherCarried (carried_of before) (switched (carried_of before) t.bytes)))
       → ((disk before.device).honest → standing_after (count_of t) most < length t.bytes → LeavesOnly (model before.rides (disk before.device)) (model before.rides (disk now.device)) (Carries (carried_of before)))
       → FailedCommit disk before.device now.device (to_step a most) (with_copy (account_of now state) None)

@@ -8,14 +8,13 @@ use Rattle.store_journal.proofs.Unique.{carries_one}
 use Rattle.store_journal.proofs.Weak.{never, told_never}
 use Rattle.refusals.specs.declared.numbers.TheConstants.{DEVICE}
 use Rattle.schema_rules.specs.declared.profile.Profile.{Profile}
-use Rattle.doc_machine.specs.Transaction.{Transaction, changes_of, after_in}
+use Rattle.doc_machine.specs.Transaction.{Transaction}
 use Rattle.doc_changes.specs.declared.refusal.Refusal.{Refusal}
 use Rattle.doc_changes.specs.State.{State}
 use Rattle.store_commits.specs.Account.{Account, account_broken}
 use Rattle.store_commits.specs.Batch.{Commit, Intent, IsBatch, Slot, account_behind, account_committed, as_snapshot, as_snapshot_in_doubt, behind_in_doubt, commit_for, commit_in_doubt, commit_made, failed, is_full, no_more, passed, room_in_doubt, room_made, said, stays_broken, to_append, to_snapshot, waiting, waits}
 use Rattle.store_commits.specs.Copying.{IsPumped, PumpAnswers}
 use Rattle.store_commits.specs.Events.{Event}
-use Rattle.store_commits.specs.Folds.{after_each}
 use Rattle.store_commits.specs.Images.{Stands, profile_in, rides_for}
 use Rattle.store_commits.specs.Replacing.{account_after}
 use Rattle.store_commits.specs.Run.{IsDone, IsRun, a_batch, a_seal, a_snapshot, a_step, commits_of, no_memory, nothing, one_more, to_step}
@@ -23,7 +22,6 @@ use Rattle.store_commits.specs.Sealing.{SealAnswers, to_seal}
 use Rattle.store_commits.specs.Snapshot.{SnapshotAnswers, account_with_snapshot}
 use Rattle.store_commits.specs.declared.event.Reply.{Reply}
 use Rattle.store_commits.specs.declared.pump.Pump.{Pump}
-use Rattle.store_commits.proofs.Changes.{profile_all}
 use Rattle.doc_store.specs.Opening.{IsOfFormat}
 
 -- ---- the commits of a run
@@ -113,11 +111,6 @@ run_rides _ _ _ _ _ (one_more a b d es fs rs qs ks ls run more) =
     (second.0, of_append a.rides ks ls first.1 second.1)
 
 -- ---- states
-
--- transactions keep the profile
-pub profile_each : (s : State) (ts : List Transaction) → (after_each s ts).profile ≡ s.profile
-profile_each s [] = refl
-profile_each s (t ∷ ts) = profile_each (after_in s t) ts ∙ profile_all s (changes_of t)
 
 pub rides_of_profile : (b : Bool) → rides_for (profile_in b) ≡ b
 rides_of_profile true = refl

@@ -17,6 +17,7 @@ use Rattle.store_commits.specs.Account.{Account, EndsWith, IsStanding, IsStandin
 use Rattle.store_commits.specs.Batch.{AreMade, PassedCommit}
 use Rattle.store_commits.specs.Copying.{IsCopied, Target}
 use Rattle.store_commits.specs.Folds.{StandsAfter}
+use Rattle.store_commits.specs.Images.{Holds, version_of_frames}
 use Rattle.store_commits.specs.Inside.{IsHeld, IsStored, account_of}
 use Rattle.store_commits.specs.Run.{Ran, a_seal, commits_of, reply_of, seal}
 use Rattle.store_commits.specs.Sealing.{SealAnswers, to_seal}
@@ -55,7 +56,7 @@ module _ {D : Type 0} (old new : Disk) (before now : JournalView D) (state : Sta
     pub sealed_copied : (copy : Option Target) → IsCopied old before state copy → (old.honest → now.copied ≡ before.copied) → before.next + 2 ≤ number_end → IsCopied new now state copy
     sealed_copied None copied there left = tt
     sealed_copied (Some t) copied there left = record {
-      holds = copied.holds;
+      holds = subst (λ (r : Bool). Holds state.profile (version_of_frames r 2) state.seq t.bytes state.documents state.marks) (sym sealed.rides) copied.holds;
       within = copied.within;
       copied = λ honest works. subst (BeginsWith (take t.standing t.bytes)) (sym (there (same.1 honest))) (copied.copied (same.1 honest) sealed.worked);
       numbered = subst (λ (n : ℕ). n < number_end) (sym sealed.next) (below_end before.rides before.next left);

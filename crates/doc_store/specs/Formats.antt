@@ -11,7 +11,7 @@ use Rattle.doc_changes.specs.Within.{AreBeyond, AreWithin}
 use Rattle.doc_changes.specs.declared.refusal.Refusal.{Refusal}
 use Rattle.refusals.specs.declared.numbers.TheConstants.{BROKEN, DEVICE, MEMORY, NO_ROOM, SEQ_END}
 use Rattle.store_commits.specs.Images.{Stands, profile_in}
-use Rattle.store_commits.specs.Snapshot.{account_with_snapshot, calls_of_snapshot, snapshot_size}
+use Rattle.store_commits.specs.Snapshot.{account_with_snapshot, calls_of_snapshot, snapshot_bytes}
 use Rattle.doc_store.specs.declared.format.Format.{Format}
 use Rattle.doc_store.specs.declared.format.Format.TheVariants.{Two, Three}
 use Rattle.store_journal.specs.Carries.{identity_in}
@@ -56,9 +56,13 @@ account_ready a = if nat_eq a.half (half_from a.rides) then record a { copy = No
 abbrev pub calls_to_ready : Account → ℕ
 calls_to_ready a = if nat_eq a.half (half_from a.rides) then 0 else calls_of_snapshot a
 
--- the account in another format, in format 3 with this identity, and its profile: with the bytes of a snapshot, in the other half
+-- the bytes that the snapshot of the account's state has in a format: in format 2 no marks are in it
+abbrev pub size_in : Bool → Account → ℕ
+size_in rides a = length (snapshot_bytes rides a.state.documents a.state.marks)
+
+-- the account in another format, in format 3 with this identity, and its profile, in which format 2 has no marks: with the bytes of a snapshot, in the other half
 abbrev pub account_over : Bool → ℕ → Account → Account
-account_over rides identity a = record (account_with_snapshot a) { state = in_profile (profile_in rides) a.state; rides = rides; identity = identity_in rides identity }
+account_over rides identity a = record (account_with_snapshot a) { state = in_profile (profile_in rides) a.state; used = size_in rides a; rides = rides; identity = identity_in rides identity }
 
 -- so from the half from which its format gives way
 abbrev pub account_turned : Bool → ℕ → Account → Account
@@ -76,8 +80,8 @@ account_in format identity a = account_between (format_of a) format identity a
 
 -- the calls of the device from a format to another
 abbrev pub calls_between : Format → Format → Account → ℕ
-calls_between Two Three a = calls_to_ready a + upgrade_calls (snapshot_size a)
-calls_between Three Two a = calls_to_ready a + downgrade_calls (snapshot_size a)
+calls_between Two Three a = calls_to_ready a + upgrade_calls (size_in true a)
+calls_between Three Two a = calls_to_ready a + downgrade_calls (size_in false a)
 calls_between from to a = 0
 
 -- the calls to a format
@@ -86,12 +90,12 @@ calls_to format a = calls_between (format_of a) format a
 
 -- the bytes that are in half 0 of format 3 while both formats are on the device
 abbrev pub used_between : Account → ℕ
-used_between a = if a.rides then (account_ready a).used else snapshot_size a
+used_between a = if a.rides then (account_ready a).used else size_in true a
 
--- a half of either format has room for the snapshot, and both formats can be on the device together
+-- a half of either format has room for the snapshot in it, and both formats can be on the device together
 pub record HasWay (a : Account) : Type 0 where
-  pub fits : snapshot_size a ≤ capacity_of false a.sectors
-  pub fits_slots : snapshot_size a ≤ capacity_of true a.sectors
+  pub fits : size_in false a ≤ capacity_of false a.sectors
+  pub fits_slots : size_in true a ≤ capacity_of true a.sectors
   pub between : FitsBetween a.sectors (used_between a)
 
 -- Why a working store stays in its format, and nothing is written: on the way to format 2 there are too many documents for

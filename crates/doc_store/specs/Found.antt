@@ -7,7 +7,7 @@ use Rattle.store_journal.specs.Opening.{Loaded}
 use Rattle.store_journal.specs.JournalView.{JournalView, carried_of}
 use Rattle.store_journal.specs.Models.{model}
 use Rattle.doc_changes.specs.State.{Good, State}
-use Rattle.store_commits.specs.Images.{Holds, profile_in}
+use Rattle.store_commits.specs.Images.{Holds, profile_in, version_of_frames}
 use Rattle.store_journal.specs.Layout.{capacity_of}
 use Rattle.store_journal.specs.Calls.{Became, Broke}
 use Rattle.refusals.specs.declared.numbers.TheConstants.{DEVICE, MEMORY, NO_ROOM}
@@ -33,7 +33,7 @@ pub record WasFound {D : Type 0} (disk : D → Disk) (device : D) (journal : Jou
   pub seq_is : state.seq ≡ journal.seq
   pub profile_is : profile_in journal.rides ≡ state.profile
   pub good : Good state
-  pub holds : Holds state.profile journal.version journal.seq bytes state.documents
+  pub holds : Holds state.profile (version_of_frames journal.rides journal.version) journal.seq bytes state.documents state.marks
   pub keeps : (disk journal.device).honest → (rides : Bool) → KeepsImages (model rides (disk device)) (model rides (disk journal.device))
   pub honest : (disk journal.device).honest → (disk device).honest
 
@@ -46,5 +46,5 @@ IsSettled disk new_disk was old new state = Became disk new_disk old new (carrie
 abbrev pub IsNotSettled : {D : Type 0} → Disk → Disk → Carried → JournalView D → JournalView D → State → Refusal → Type 0
 IsNotSettled disk new_disk was old new state r =
     ((r ≡ plain MEMORY) × (new ≡ old))
-    ⊎ ((r ≡ plain NO_ROOM) × ((old.version ≡ 1) × (capacity_of old.rides old.sectors < length (snapshot_bytes state.documents))) × (new ≡ old))
-    ⊎ ((r ≡ plain DEVICE) × (old.version ≡ 1 → length (snapshot_bytes state.documents) ≤ capacity_of old.rides old.sectors) × Broke disk new_disk (calls_to_settle was state old.blocks) old new)
+    ⊎ ((r ≡ plain NO_ROOM) × ((old.version ≡ 1) × (capacity_of old.rides old.sectors < length (snapshot_bytes false state.documents state.marks))) × (new ≡ old))
+    ⊎ ((r ≡ plain DEVICE) × (old.version ≡ 1 → length (snapshot_bytes false state.documents state.marks) ≤ capacity_of old.rides old.sectors) × Broke disk new_disk (calls_to_settle was state old.blocks) old new)

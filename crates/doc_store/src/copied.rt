@@ -25,13 +25,13 @@ use store_journal::format_with;
 
 impl<D: SectorDevice> Store<D> {
     /// Makes `device`, of whatever size, a store in that format, in format 3 with this identity, of the same documents, in their order, with their schemas and
-    /// revisions, of the same number of accepted changes, and opened as often; and answers the number of used bytes there. A crash at
+    /// revisions, in format 3 with the same marks, of the same number of accepted changes, and opened as often; and answers the number of used bytes there. A crash at
     /// any moment leaves no store on it, or all of this; in format 3 also if it tears blocks of sectors. The store itself is
     /// only read, and its device isn't called; one that is broken is copied as it was last committed.
     ///
     /// In format 2 `TOO_MANY` if there are over 1,024 documents, else `NEWER_SCHEMA` if a document's schema isn't one of
     /// profile 2; then `SMALL` if `device` has under 3 sectors, in format 3 under 160, or over 2^32; else `NO_ROOM` if a half
-    /// of it doesn't hold the frames of the documents' creations; else `ALREADY_A_STORE` if its sector 0 begins as a commit
+    /// of it doesn't hold the frames of the documents' creations and, in format 3, of the marks; else `ALREADY_A_STORE` if its sector 0 begins as a commit
     /// sector does, and in format 3 also if another slot begins so. `DEVICE` if it failed. All but `DEVICE` leave what it
     /// held. `MEMORY` may come in place of any other, before it is called.
     pub fn copy_to<E: SectorDevice>(
@@ -65,9 +65,9 @@ impl<D: SectorDevice> Store<D> {
         }
     }
 
-    // The bytes of the snapshot, if a store in the format may hold the documents.
+    // The bytes of the snapshot in the format, if a store in it may hold the documents.
     fn snapshot_in(&self, format: Format) -> Result<Vec<u8>, Refusal>
-        ensures frames { IfOk result (λ frames. frames.items ≡ snapshot_bytes self.now.account.state.documents) }
+        ensures frames { IfOk result (λ frames. frames.items ≡ snapshot_bytes (rides_in format) self.now.account.state.documents self.now.account.state.marks) }
         ensures within { OnOk result (AreWithin (profile_in (rides_in format)) self.now.account.state.documents) }
         ensures refused { IfErr result (λ refusal. ((format ≡ FormatTwo) × AreBeyond Two self.now.account.state.documents refusal) ⊎ (refusal ≡ plain MEMORY)) }
         ensures good { Good self.now.account.state }
@@ -80,12 +80,12 @@ impl<D: SectorDevice> Store<D> {
 
     // Without a look at the documents, since profile 3 accepts those of each profile.
     fn snapshot_in_profile_3(&self) -> Result<Vec<u8>, Refusal>
-        ensures frames { IfOk result (λ frames. frames.items ≡ snapshot_bytes self.now.account.state.documents) }
+        ensures frames { IfOk result (λ frames. frames.items ≡ snapshot_bytes true self.now.account.state.documents self.now.account.state.marks) }
         ensures within { AreWithin (profile_in true) self.now.account.state.documents }
         ensures refused { IfErr result (λ refusal. refusal ≡ plain MEMORY) }
         ensures good { Good self.now.account.state }
     {
         earlier_profiles_stay();
-        Ok(creations(self.alloc, &self.machine.look())?)
+        Ok(creations(self.alloc, &self.machine.look(), true)?)
     }
 }

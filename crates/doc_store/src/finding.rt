@@ -10,7 +10,7 @@ ghost use Rattle.doc_store.specs.Strict.{IsSaidOf};
 use doc_machine::{Machine, Profile};
 use sector_device::SectorDevice;
 use std::alloc::Global;
-use store_commits::replay;
+use store_commits::{replay, version_of_frames};
 use store_journal::{Journal, Notice, OpenFault};
 
 /// The journal of what a device holds, the committed bytes, the machine that they make, and what the slots say in format 3.
@@ -32,7 +32,8 @@ pub(crate) fn find<D: SectorDevice>(
         Ok(opened) => opened,
     };
     let profile = profile_of(journal.rides());
-    match replay(alloc, &bytes, journal.version(), journal.seq(), profile) {
+    let version = version_of_frames(journal.rides(), journal.version());
+    match replay(alloc, &bytes, version, journal.seq(), profile) {
         Err(fault) => Err(OpenFault {
             number: fault.number(),
             device: journal.into_device(),

@@ -16,7 +16,7 @@ ghost use Rattle.doc_changes.specs.Refusals.{plain};
 ghost use Rattle.refusals.specs.declared.numbers.TheConstants.{DEVICE, MEMORY, SEQ_END};
 ghost use Rattle.store_commits.specs.Account.{IsStanding, account_broken};
 ghost use Rattle.store_commits.specs.Snapshot.{snapshot_bytes, snapshot_size};
-ghost use Rattle.doc_store.specs.Formats.{FormatAnswers, HasWay, InEither, IsImageOf, OneOf, OneOfThree, StaysAs, account_over, account_ready, account_turned, calls_to, calls_to_ready, format_of, half_from, number_of, rides_in};
+ghost use Rattle.doc_store.specs.Formats.{FormatAnswers, HasWay, InEither, IsImageOf, OneOf, OneOfThree, StaysAs, account_over, account_ready, account_turned, calls_to, calls_to_ready, format_of, half_from, number_of, rides_in, size_in};
 ghost use Rattle.doc_store.specs.declared.format.Format.TheVariants.{Three as FormatThree, Two as FormatTwo};
 
 use crate::store::Store;
@@ -24,7 +24,7 @@ use doc_machine::laws::earlier_profiles_stay;
 use doc_machine::{Profile, Refusal};
 use refusals::numbers::{BROKEN, DEVICE, NO_ROOM, SEQ_END};
 use sector_device::SectorDevice;
-use std::alloc::Global;
+use std::alloc::{AllocError, Global};
 use store_commits::{commit_snapshot, creations};
 use store_journal::Journal;
 use store_journal::geometry::capacity;
@@ -73,7 +73,7 @@ impl<D: SectorDevice> Store<D> {
     }
 
     /// Brings the store to a format. The documents, their revisions and the number of accepted changes stay. From format 2
-    /// to 3 it takes this identity, on the way back it loses its own. A store in that format already makes no call of its
+    /// to 3 it takes this identity, and has no marks yet; on the way back it loses its own, and all marks. A store in that format already makes no call of its
     /// device, and keeps the identity that it has.
     ///
     /// It goes from half 1 of format 2 to half 0 of format 3, and back. A store in the other half is brought there by a
@@ -121,8 +121,8 @@ impl<D: SectorDevice> Store<D> {
             ((refusal ≡ plain DEVICE) × ((self.new.account ≡ account_broken self.old.account) ⊎ (self.new.account ≡ account_broken (account_ready self.old.account))))
             ⊎ (StaysAs FormatThree self.old.account refusal × (self.new ≡ self.old))
             ⊎ (((refusal ≡ plain MEMORY) ⊎ (refusal ≡ plain SEQ_END)) × (self.new.account ≡ account_ready self.old.account))) }
-        ensures made { OnOk result (Made (D.disk self.old.device) (D.disk self.new.device) (calls_to_ready self.old.account + upgrade_calls (snapshot_size self.old.account))) }
-        ensures failed { IfErr result (λ refusal. refusal.number ≡ DEVICE → Failed (D.disk self.old.device) (D.disk self.new.device) (calls_to_ready self.old.account + upgrade_calls (snapshot_size self.old.account))) }
+        ensures made { OnOk result (Made (D.disk self.old.device) (D.disk self.new.device) (calls_to_ready self.old.account + upgrade_calls (size_in true self.old.account))) }
+        ensures failed { IfErr result (λ refusal. refusal.number ≡ DEVICE → Failed (D.disk self.old.device) (D.disk self.new.device) (calls_to_ready self.old.account + upgrade_calls (size_in true self.old.account))) }
         ensures any_moment { (D.disk self.new.device).honest
             → LeavesOnly (model self.old.account.rides (D.disk self.old.device)) (model self.old.account.rides (D.disk self.new.device)) (OneOfThree self.old.account (account_turned true identity self.old.account)) }
         ensures done { OnOk result ((D.disk self.new.device).honest → (image : Image) → (model self.new.account.rides (D.disk self.new.device)).left image → IsImageOf self.new.account image) }
@@ -132,7 +132,7 @@ impl<D: SectorDevice> Store<D> {
     {
         self.know_images();
         let frames = self.way_up()?;
-        self.make_ready(&frames)?;
+        self.make_ready()?;
         self.turn_up(&frames, identity)
     }
 
@@ -144,8 +144,8 @@ impl<D: SectorDevice> Store<D> {
         ensures err { IfErr result (λ refusal.
             ((refusal ≡ plain DEVICE) × ((self.new.account ≡ account_broken self.old.account) ⊎ (self.new.account ≡ account_broken (account_ready self.old.account))))
             ⊎ (StaysAs FormatTwo self.old.account refusal × (self.new ≡ self.old))) }
-        ensures made { OnOk result (Made (D.disk self.old.device) (D.disk self.new.device) (calls_to_ready self.old.account + downgrade_calls (snapshot_size self.old.account))) }
-        ensures failed { IfErr result (λ refusal. refusal.number ≡ DEVICE → Failed (D.disk self.old.device) (D.disk self.new.device) (calls_to_ready self.old.account + downgrade_calls (snapshot_size self.old.account))) }
+        ensures made { OnOk result (Made (D.disk self.old.device) (D.disk self.new.device) (calls_to_ready self.old.account + downgrade_calls (size_in false self.old.account))) }
+        ensures failed { IfErr result (λ refusal. refusal.number ≡ DEVICE → Failed (D.disk self.old.device) (D.disk self.new.device) (calls_to_ready self.old.account + downgrade_calls (size_in false self.old.account))) }
         ensures any_moment { (D.disk self.new.device).honest
             → LeavesOnly (model self.old.account.rides (D.disk self.old.device)) (model self.old.account.rides (D.disk self.new.device)) (OneOfThree self.old.account (account_turned false 0 self.old.account)) }
         ensures done { OnOk result ((D.disk self.new.device).honest → (image : Image) → (model self.new.account.rides (D.disk self.new.device)).left image → IsImageOf self.new.account image) }
@@ -155,7 +155,7 @@ impl<D: SectorDevice> Store<D> {
     {
         self.know_images();
         let frames = self.way_down()?;
-        self.make_ready(&frames)?;
+        self.make_ready()?;
         self.turn_down(&frames)
     }
 
@@ -170,62 +170,71 @@ impl<D: SectorDevice> Store<D> {
         self.journal.know();
     }
 
-    // The snapshot of a store in format 2, if there is a way for it to format 3.
+    // The snapshot, in format 3, of a store in format 2, if there is a way for it to format 3.
     fn way_up(&self) -> Result<Vec<u8>, Refusal>
         requires two { self.now.account.rides ≡ false }
-        ensures frames { IfOk result (λ frames. frames.items ≡ snapshot_bytes self.now.account.state.documents) }
+        ensures frames { IfOk result (λ frames. frames.items ≡ snapshot_bytes true self.now.account.state.documents self.now.account.state.marks) }
         ensures way { OnOk result (HasWay self.now.account) }
         ensures refused { IfErr result (StaysAs FormatThree self.now.account) }
     {
-        let frames = creations(self.alloc, &self.machine.look())?;
+        let frames = creations(self.alloc, &self.machine.look(), true)?;
+        // In format 2 there are no marks, so the snapshot is as long in both formats.
         let len = frames.len() as u64;
-        if self.has_way(len, len) {
+        if self.has_way(len, len, len) {
             return Ok(frames);
         }
         Err(Refusal::plain(NO_ROOM))
     }
 
-    // The snapshot of a store in format 3, if there is a way for it to format 2.
+    // The snapshot, in format 2, of a store in format 3, if there is a way for it to format 2.
     fn way_down(&self) -> Result<Vec<u8>, Refusal>
         requires three { self.now.account.rides ≡ true }
-        ensures frames { IfOk result (λ frames. frames.items ≡ snapshot_bytes self.now.account.state.documents) }
+        ensures frames { IfOk result (λ frames. frames.items ≡ snapshot_bytes false self.now.account.state.documents self.now.account.state.marks) }
         ensures within { OnOk result (AreWithin Two self.now.account.state.documents) }
         ensures way { OnOk result (HasWay self.now.account) }
         ensures refused { IfErr result (StaysAs FormatTwo self.now.account) }
     {
         let frames = self.snapshot_in_profile_2()?;
-        let len = frames.len() as u64;
+        let in_slots = self.snapshot_len()?;
         let used = if self.journal.active_half() == 0 {
             self.journal.used()
         } else {
-            len
+            in_slots
         };
-        if self.has_way(len, used) {
+        if self.has_way(frames.len() as u64, in_slots, used) {
             return Ok(frames);
         }
         Err(Refusal::plain(NO_ROOM))
     }
 
-    // Whether a half of either format has room for the snapshot, and both formats can be on the device together, with
-    // `used` bytes in half 0 of format 3.
-    fn has_way(&self, snapshot: u64, used: u64) -> bool
-        ensures { IsTrue result ↔ ((snapshot ≤ capacity_of false self.now.account.sectors) × (snapshot ≤ capacity_of true self.now.account.sectors) × FitsBetween self.now.account.sectors used) }
+    // The bytes of the snapshot in format 3.
+    fn snapshot_len(&self) -> Result<u64, AllocError>
+        ensures { IfOk result (λ len. len ≡ size_in true self.now.account) }
+    {
+        let snapshot = creations(self.alloc, &self.machine.look(), true)?;
+        Ok(snapshot.len() as u64)
+    }
+
+    // Whether a half of either format has room for the snapshot, which has this many bytes in format 2 and in format 3, and
+    // both formats can be on the device together, with `used` bytes in half 0 of format 3.
+    fn has_way(&self, snapshot: u64, in_slots: u64, used: u64) -> bool
+        ensures { IsTrue result ↔ ((snapshot ≤ capacity_of false self.now.account.sectors) × (in_slots ≤ capacity_of true self.now.account.sectors) × FitsBetween self.now.account.sectors used) }
     {
         let sectors = self.journal.sectors();
         self.journal.know();
         snapshot <= capacity(false, sectors)
-            && snapshot <= capacity(true, sectors)
+            && in_slots <= capacity(true, sectors)
             && self.journal.fits_between(used)
     }
 
-    // Brings a store, which works, to the half from which its format gives way to the other: by the snapshot, if it is in
-    // the other one.
-    fn make_ready(&mut self, snapshot: &[u8]) -> Result<(), Refusal>
+    // Brings a store, which works, to the half from which its format gives way to the other: by a snapshot in its format,
+    // if it is in the other one.
+    fn make_ready(&mut self) -> Result<(), Refusal>
         requires works { self.old.account.broken ≡ false }
-        requires snapshot { snapshot.now ≡ snapshot_bytes self.old.account.state.documents }
-        requires fits { length snapshot.now ≤ capacity_of self.old.account.rides self.old.account.sectors }
+        requires fits { snapshot_size self.old.account ≤ capacity_of self.old.account.rides self.old.account.sectors }
         ensures ok { OnOk result (self.new.account ≡ account_ready self.old.account) }
-        ensures err { IfErr result (λ refusal. ((refusal ≡ plain DEVICE) × (self.new.account ≡ account_broken self.old.account)) ⊎ ((refusal ≡ plain SEQ_END) × (self.new ≡ self.old))) }
+        ensures err { IfErr result (λ refusal. ((refusal ≡ plain DEVICE) × (self.new.account ≡ account_broken self.old.account))
+            ⊎ (((refusal ≡ plain MEMORY) ⊎ (refusal ≡ plain SEQ_END)) × (self.new ≡ self.old))) }
         ensures made { OnOk result (Made (D.disk self.old.device) (D.disk self.new.device) (calls_to_ready self.old.account)) }
         ensures failed { IfErr result (λ refusal. refusal.number ≡ DEVICE → Failed (D.disk self.old.device) (D.disk self.new.device) (calls_to_ready self.old.account)) }
         ensures any_moment { (D.disk self.old.device).honest → LeavesOnly (model self.old.account.rides (D.disk self.old.device)) (model self.old.account.rides (D.disk self.new.device))
@@ -242,8 +251,9 @@ impl<D: SectorDevice> Store<D> {
         if !self.journal.has_number() {
             return Err(Refusal::plain(SEQ_END));
         }
+        let snapshot = self.frames()?;
         self.copy = None;
-        commit_snapshot(&mut self.journal, snapshot)?;
+        commit_snapshot(&mut self.journal, &snapshot)?;
         Ok(())
     }
 
@@ -252,13 +262,13 @@ impl<D: SectorDevice> Store<D> {
         requires works { self.old.account.broken ≡ false }
         requires two { self.old.account.rides ≡ false }
         requires half { self.old.account.half ≡ 1 }
-        requires snapshot { snapshot.now ≡ snapshot_bytes self.old.account.state.documents }
+        requires snapshot { snapshot.now ≡ snapshot_bytes true self.old.account.state.documents self.old.account.state.marks }
         requires between { FitsBetween self.old.account.sectors (length snapshot.now) }
         ensures ok { OnOk result (self.new.account ≡ account_over true identity self.old.account) }
         ensures err { IfErr result (λ refusal. ((refusal ≡ plain DEVICE) × (self.new.account ≡ account_broken self.old.account))
             ⊎ (((refusal ≡ plain MEMORY) ⊎ (refusal ≡ plain SEQ_END)) × (self.new.account ≡ record self.old.account { copy = None }))) }
-        ensures made { OnOk result (Made (D.disk self.old.device) (D.disk self.new.device) (upgrade_calls (snapshot_size self.old.account))) }
-        ensures failed { IfErr result (λ refusal. refusal.number ≡ DEVICE → Failed (D.disk self.old.device) (D.disk self.new.device) (upgrade_calls (snapshot_size self.old.account))) }
+        ensures made { OnOk result (Made (D.disk self.old.device) (D.disk self.new.device) (upgrade_calls (size_in true self.old.account))) }
+        ensures failed { IfErr result (λ refusal. refusal.number ≡ DEVICE → Failed (D.disk self.old.device) (D.disk self.new.device) (upgrade_calls (size_in true self.old.account))) }
         ensures any_moment { (D.disk self.new.device).honest → LeavesOnly (model self.old.account.rides (D.disk self.old.device)) (model self.old.account.rides (D.disk self.new.device))
             (OneOf self.old.account (account_over true identity self.old.account)) }
         ensures done { OnOk result ((D.disk self.new.device).honest → (image : Image) → (model self.new.account.rides (D.disk self.new.device)).left image → IsImageOf self.new.account image) }
@@ -278,14 +288,14 @@ impl<D: SectorDevice> Store<D> {
         requires works { self.old.account.broken ≡ false }
         requires three { self.old.account.rides ≡ true }
         requires half { self.old.account.half ≡ 0 }
-        requires snapshot { snapshot.now ≡ snapshot_bytes self.old.account.state.documents }
+        requires snapshot { snapshot.now ≡ snapshot_bytes false self.old.account.state.documents self.old.account.state.marks }
         requires within { AreWithin Two self.old.account.state.documents }
         requires between { FitsBetween self.old.account.sectors self.old.account.used }
         requires fits { length snapshot.now ≤ capacity_of false self.old.account.sectors }
         ensures ok { OnOk result (self.new.account ≡ account_over false 0 self.old.account) }
         ensures err { IfErr result (λ refusal. (refusal ≡ plain DEVICE) × (self.new.account ≡ account_broken self.old.account)) }
-        ensures made { OnOk result (Made (D.disk self.old.device) (D.disk self.new.device) (downgrade_calls (snapshot_size self.old.account))) }
-        ensures failed { IfErr result (λ refusal. refusal.number ≡ DEVICE → Failed (D.disk self.old.device) (D.disk self.new.device) (downgrade_calls (snapshot_size self.old.account))) }
+        ensures made { OnOk result (Made (D.disk self.old.device) (D.disk self.new.device) (downgrade_calls (size_in false self.old.account))) }
+        ensures failed { IfErr result (λ refusal. refusal.number ≡ DEVICE → Failed (D.disk self.old.device) (D.disk self.new.device) (downgrade_calls (size_in false self.old.account))) }
         ensures any_moment { (D.disk self.old.device).honest → LeavesOnly (model self.old.account.rides (D.disk self.old.device)) (model self.old.account.rides (D.disk self.new.device))
             (OneOf self.old.account (account_over false 0 self.old.account)) }
         ensures done { OnOk result ((D.disk self.new.device).honest → (image : Image) → (model self.new.account.rides (D.disk self.new.device)).left image → IsImageOf self.new.account image) }
@@ -299,10 +309,10 @@ impl<D: SectorDevice> Store<D> {
         Ok(())
     }
 
-    /// The bytes of the snapshot, if a store in format 2 may hold the documents: else `TOO_MANY` or `NEWER_SCHEMA`, and
+    /// The bytes of the snapshot in format 2, if a store in it may hold the documents: else `TOO_MANY` or `NEWER_SCHEMA`, and
     /// `MEMORY` may come in place of the latter. It only reads.
     pub(crate) fn snapshot_in_profile_2(&self) -> Result<Vec<u8>, Refusal>
-        ensures frames { IfOk result (λ frames. frames.items ≡ snapshot_bytes self.now.account.state.documents) }
+        ensures frames { IfOk result (λ frames. frames.items ≡ snapshot_bytes false self.now.account.state.documents self.now.account.state.marks) }
         ensures within { OnOk result (AreWithin Two self.now.account.state.documents) }
         ensures refused { IfErr result (λ refusal. AreBeyond Two self.now.account.state.documents refusal ⊎ (refusal ≡ plain MEMORY)) }
         ensures standing { IsStanding (D.disk self.now.device) self.now.account }
@@ -310,7 +320,7 @@ impl<D: SectorDevice> Store<D> {
     {
         let look = self.machine.look();
         look.check_profile(Profile::Two)?;
-        Ok(creations(self.alloc, &look)?)
+        Ok(creations(self.alloc, &look, false)?)
     }
 }
 

@@ -39,7 +39,8 @@ mod store;
 mod whole;
 
 pub use doc_machine::{
-    Command, Machine, Node, Nodelist, RecordFault, Refusal, Transaction, command_of,
+    Asked, Changes, Command, Machine, Mark, Marking, Node, Nodelist, RecordFault, Refusal,
+    Transaction, command_of,
 };
 pub use format::Format;
 pub use life::{Life, Part};

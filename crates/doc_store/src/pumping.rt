@@ -65,7 +65,8 @@ impl<D: SectorDevice> Store<D> {
         if !self.journal.has_number() {
             return Err(Refusal::plain(MEMORY));
         }
-        let copying = take_or_begin(self.alloc, &self.machine, &mut self.copy)?;
+        let rides = self.journal.rides();
+        let copying = take_or_begin(self.alloc, &self.machine, rides, &mut self.copy)?;
         if self.journal.capacity() < copying.target.len() as u64 {
             return Ok(Pump {
                 written: 0,

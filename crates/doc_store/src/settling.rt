@@ -47,7 +47,7 @@ pub(crate) fn settle<D: SectorDevice>(
             Err(_) => Err(Refusal::plain(DEVICE)),
         };
     }
-    let snapshot = creations(alloc, &machine.look())?;
+    let snapshot = creations(alloc, &machine.look(), false)?;
     if journal.capacity() < snapshot.len() as u64 {
         return Err(Refusal::plain(NO_ROOM));
     }

@@ -67,9 +67,9 @@ impl<D: SectorDevice> Store<D> {
         commit_snapshot(&mut self.journal, &frames)
     }
 
-    // The bytes of the snapshot, or why there is none. It only reads.
-    fn frames(&self) -> Result<Vec<u8>, Refusal>
-        ensures frames { IfOk result (λ frames. frames.items ≡ snapshot_bytes self.now.account.state.documents) }
+    /// The bytes of the snapshot, in the store's format, or why there is none. It only reads.
+    pub(crate) fn frames(&self) -> Result<Vec<u8>, Refusal>
+        ensures frames { IfOk result (λ frames. frames.items ≡ snapshot_bytes self.now.account.rides self.now.account.state.documents self.now.account.state.marks) }
         ensures works { IfOk result (λ _. self.now.account.broken ≡ false) }
         ensures refuses { IfErr result (StopsBefore self.now.account) }
         ensures own { IfErr result (λ refusal. refusal.number ≢ DEVICE) }
@@ -79,6 +79,6 @@ impl<D: SectorDevice> Store<D> {
         if self.journal.is_broken() {
             return Err(Refusal::plain(BROKEN));
         }
-        Ok(creations(self.alloc, &self.machine.look())?)
+        Ok(creations(self.alloc, &self.machine.look(), self.journal.rides())?)
     }
 }

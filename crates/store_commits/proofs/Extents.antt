@@ -8,7 +8,7 @@ use Rattle.store_journal.specs.Models.{model}
 use Rattle.doc_changes.specs.State.{State}
 use Rattle.store_commits.specs.Account.{Account, Copy, account_broken, with_copy, EndsWith, Extent, IsEndingWith, IsStandingAs, StandsAs, extent_of}
 use Rattle.store_commits.specs.Inside.{IsHeld, account_of}
-use Rattle.store_commits.specs.Images.{Holds, profile_in}
+use Rattle.store_commits.specs.Images.{Holds, profile_in, version_of_frames}
 use Rattle.store_commits.proofs.Modelled.{AreCoherent, model_sectors}
 
 -- ---- an image by itself
@@ -17,8 +17,8 @@ use Rattle.store_commits.proofs.Modelled.{AreCoherent, model_sectors}
 pub count : {D : Type 0} (rides : Bool) (disk : Disk) (journal : JournalView D) → (disk.honest → IsCoherent (model rides disk)) → IsKept disk journal → disk.honest → (image : Image) → (model rides disk).left image → journal.sectors ≡ length image
 count rides disk journal coherent kept honest image left = sym kept.size ∙ sym (model_sectors rides disk) ∙ sym ((coherent honest).shape image left).count
 
--- bytes of format 2 that hold the state, as many and in that half
-pub stands_as : (l : Extent) (c : Carried) → c.version ≡ 2 → c.rides ≡ l.rides → c.half ≡ l.half → c.seq ≡ l.state.seq → c.identity ≡ l.identity → profile_in l.rides ≡ l.state.profile → Holds l.state.profile 2 l.state.seq c.bytes l.state.documents → l.used ≡ length c.bytes
+-- bytes of format 2 or 3 that hold the state, as many and in that half
+pub stands_as : (l : Extent) (c : Carried) → c.version ≡ 2 → c.rides ≡ l.rides → c.half ≡ l.half → c.seq ≡ l.state.seq → c.identity ≡ l.identity → profile_in l.rides ≡ l.state.profile → Holds l.state.profile (version_of_frames l.rides 2) l.state.seq c.bytes l.state.documents l.state.marks → l.used ≡ length c.bytes
     → (image : Image) → l.sectors ≡ length image → Carries c image → StandsAs l image
 stands_as l c version rides half seq identity profile holds used image sectors carries = record {
   bytes = c.bytes;
@@ -62,7 +62,7 @@ module _ {D : Type 0} (disk : D → Disk) (coherent : AreCoherent disk) (before 
   counted honest image left = sym sectors ∙ count before.rides (disk now.device) now (coherent before.rides now.device) kept honest image left
 
   -- the bytes as they were, or other bytes that hold a state
-  pub either_as : (c : Carried) (l : Extent) → ((disk before.device).honest → Holds l.state.profile 2 l.state.seq c.bytes l.state.documents) → c.version ≡ before.version → c.rides ≡ l.rides → c.half ≡ l.half → c.seq ≡ l.state.seq → c.identity ≡ before.identity → l.identity ≡ before.identity → profile_in l.rides ≡ l.state.profile
+  pub either_as : (c : Carried) (l : Extent) → ((disk before.device).honest → Holds l.state.profile (version_of_frames l.rides 2) l.state.seq c.bytes l.state.documents l.state.marks) → c.version ≡ before.version → c.rides ≡ l.rides → c.half ≡ l.half → c.seq ≡ l.state.seq → c.identity ≡ before.identity → l.identity ≡ before.identity → profile_in l.rides ≡ l.state.profile
       → l.used ≡ length c.bytes → l.sectors ≡ before.sectors → (front ending : List ℕ) → c.bytes ≡ front ++ ending → ((disk before.device).honest → LeavesOnly (model before.rides (disk before.device)) (model before.rides (disk now.device)) (EitherCarried (carried_of before) c))
       → (disk now.device).honest → (image : Image) → (model before.rides (disk now.device)).left image → StandsAs (extent_of (account_of before state)) image ⊎ EndsWith ending l image
   unfolding stands_as
@@ -74,7 +74,7 @@ module _ {D : Type 0} (disk : D → Disk) (coherent : AreCoherent disk) (before 
       (left_now (model before.rides (disk before.device)) (model before.rides (disk now.device)) (EitherCarried (carried_of before) c) (coherent before.rides now.device honest) (leaves h) image left)
 
   -- a target in the other half
-  pub switched_as : (target : List ℕ) → Holds state.profile 2 state.seq target state.documents
+  pub switched_as : (target : List ℕ) → Holds state.profile (version_of_frames before.rides 2) state.seq target state.documents state.marks
       → ((disk before.device).honest → LeavesOnly (model before.rides (disk before.device)) (model before.rides (disk now.device)) (EitherCarried (carried_of before) (switched (carried_of before) target)))
       → (disk now.device).honest → (image : Image) → (model before.rides (disk now.device)).left image
       → StandsAs (extent_of (account_of before state)) image ⊎ EndsWith target (record { state = state; used = length target; half = 1 - before.half; rides = before.rides; identity = before.identity; sectors = before.sectors }) image

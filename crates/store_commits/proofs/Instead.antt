@@ -8,27 +8,27 @@ use Rattle.store_journal.specs.Carries.{EitherCarried, replaced}
 use Rattle.store_journal.specs.JournalView.{JournalView, carried_of}
 use Rattle.store_journal.specs.Models.{model}
 use Rattle.store_journal.specs.Writes.{switch_calls}
-use Rattle.doc_machine.specs.Transaction.{AreGood, Transaction, after_in}
+use Rattle.doc_machine.specs.Transaction.{Transaction, after_in}
 use Rattle.doc_changes.proofs.Framed.{framed_storable}
 use Rattle.doc_changes.specs.State.{Good, State}
 use Rattle.store_commits.specs.Account.{Account, account_broken, extent_of, with_copy}
 use Rattle.store_commits.specs.Batch.{GoesAsSnapshot, IsBatch, Slot, as_snapshot, as_snapshot_in_doubt, failed, passed, replies_done, replies_in_doubt, to_replace, waits}
 use Rattle.store_commits.specs.Copying.{Target, copy_of}
 use Rattle.store_commits.specs.Folds.{StandsAfter, all_changes}
-use Rattle.store_commits.specs.Images.{Holds, profile_in}
-use Rattle.store_commits.specs.Inside.{AnswersPart, IsHeld, IsReplaced, IsStored, account_of}
+use Rattle.store_commits.specs.Images.{Holds, profile_in, version_of_frames}
+use Rattle.store_commits.specs.Inside.{AnswersPart, AreGoodEach, IsHeld, IsReplaced, IsStored, account_of}
 use Rattle.store_commits.specs.Replacing.{account_after}
 use Rattle.store_commits.specs.Snapshot.{RemakesAll, account_with_snapshot, snapshot_bytes}
-use Rattle.store_commits.proofs.Changes.{each_is_all, good_last, profile_all, seq_counts}
+use Rattle.store_commits.proofs.Changes.{good_end, profile_each, seq_counts}
 use Rattle.store_commits.proofs.Extents.{broken_as, either_as, ending_as}
 use Rattle.store_commits.proofs.Migrating.{snapshot_holds}
 use Rattle.store_commits.proofs.Modelled.{AreCoherent}
 use Rattle.store_commits.proofs.Moves.{Moved, done_answered, in_doubt_answered}
 use Rattle.store_commits.proofs.Snapshots.{remakes_all}
-use Rattle.store_commits.proofs.Standing.{broke_is, held_broke, stands_by, stands_now}
+use Rattle.store_commits.proofs.Standing.{broke_is, held_broke, held_by, stands_by, stands_now}
 
 module _ {D : Type 0} (disk : D → Disk) (coherent : AreCoherent disk) (before : JournalView D) (state : State) (copy : Option Target) (works : before.broken ≡ false) (stored : IsStored (disk before.device) before state copy)
-    (t : Transaction) (good : AreGood state (all_changes (t ∷ []))) (goes : GoesAsSnapshot (with_copy (account_of before state) (copy_of copy)) t) where
+    (t : Transaction) (good : AreGoodEach state (t ∷ [])) (goes : GoesAsSnapshot (with_copy (account_of before state) (copy_of copy)) t) where
   abbrev d : Account
   d = with_copy (account_of before state) (copy_of copy)
 
@@ -39,7 +39,7 @@ module _ {D : Type 0} (disk : D → Disk) (coherent : AreCoherent disk) (before 
   made = account_with_snapshot (account_after d t)
 
   abbrev target : List ℕ
-  target = snapshot_bytes (after_in state t).documents
+  target = snapshot_bytes before.rides (after_in state t).documents (after_in state t).marks
 
   abbrev adds : ℕ
   adds = length (all_changes (t ∷ []))
@@ -48,19 +48,19 @@ module _ {D : Type 0} (disk : D → Disk) (coherent : AreCoherent disk) (before 
   calls = sectors_of (length target) + switch_calls before.rides (length target)
 
   good_then : Good (after_in state t)
-  good_then = subst Good (sym (each_is_all state (t ∷ []))) (good_last state (all_changes (t ∷ [])) good)
+  good_then = good_end state (t ∷ []) good
 
   remakes : RemakesAll (after_in state t)
   remakes = remakes_all framed_storable (after_in state t) good_then
-
-  holds : Holds (after_in state t).profile 2 (after_in state t).seq target (after_in state t).documents
-  holds = snapshot_holds (after_in state t) (after_in state t).seq refl remakes
 
   seq_then : before.seq + adds ≡ (after_in state t).seq
   seq_then = ap (λ (n : ℕ). n + adds) stored.held.seq ∙ sym (seq_counts state (t ∷ []))
 
   profile_then : profile_in before.rides ≡ (after_in state t).profile
-  profile_then = stored.held.profile ∙ sym (ap (λ (s : State). s.profile) (each_is_all state (t ∷ [])) ∙ profile_all state (all_changes (t ∷ [])))
+  profile_then = stored.held.profile ∙ sym (profile_each state (t ∷ []))
+
+  holds : Holds (after_in state t).profile (version_of_frames before.rides 2) (after_in state t).seq target (after_in state t).documents (after_in state t).marks
+  holds = snapshot_holds before.rides (after_in state t) (after_in state t).seq refl profile_then remakes
 
   -- the bytes before it, or the target in the other half
   either_stands : (disk before.device).honest → (image : Image) → EitherCarried (carried_of before) (replaced (carried_of before) target adds) image → StandsAfter state (t ∷ []) image
@@ -87,7 +87,7 @@ module _ {D : Type 0} (disk : D → Disk) (coherent : AreCoherent disk) (before 
         seq = ok.seq ∙ seq_then;
         profile = ap profile_in ok.rides ∙ profile_then;
         good = good_then;
-        held = λ honest. subst (λ (l : List ℕ). Holds (after_in state t).profile 2 (after_in state t).seq l (after_in state t).documents) (sym (ok.bytes (is.honest.1 honest))) holds;
+        held = λ honest. held_by before now (after_in state t) ok.rides target (ok.bytes (is.honest.1 honest)) holds;
       }
 
       account_then : account_of now (after_in state t) ≡ made

@@ -17,7 +17,7 @@ use Rattle.store_commits.specs.Inside.{IsStored, account_of, store_view, ArePlan
 use Rattle.store_commits.specs.Run.{Batched, Refused, Reply}
 use Rattle.store_commits.specs.declared.segment.Segment.{Segment}
 use Rattle.store_commits.proofs.Batches.{all_broken, batched, went_both, went_nowhere}
-use Rattle.store_commits.proofs.Changes.{after_append, seq_counts, state_before}
+use Rattle.store_commits.proofs.Changes.{HaveSome, after_append, seq_counts, some_behind, state_before}
 use Rattle.store_commits.proofs.Slots.{asked_append, both_committed, waiting_append}
 use Rattle.store_commits.proofs.Standing.{standing}
 use Rattle.store_commits.proofs.Modelled.{AreCoherent}
@@ -112,12 +112,15 @@ module _ {D : Type 0} (disk : D → Disk) (coherent : AreCoherent disk) where
     how_many is = was.stored.held.seq ∙ seq_counts s (waiting was.told.first) ∙ ap (λ (n : ℕ). n + length (all_changes (waiting was.told.first))) (sym is)
 
     -- what was tried and isn't committed is taken back
-    module _ (t : TrialView) (tried : t ≡ tried_from s (waiting slots)) (oldest : ℕ) (number : oldest ≡ length (all_changes (waiting was.told.first))) (machine : State) (is : machine ≡ state_at oldest t) where
+    module _ (some : HaveSome (waiting slots)) (t : TrialView) (tried : t ≡ tried_from s (waiting slots)) (oldest : ℕ) (number : oldest ≡ length (all_changes (waiting was.told.first))) (machine : State) (is : machine ≡ state_at oldest t) where
+      lost_some : HaveSome (waiting was.told.lost)
+      lost_some = some_behind (waiting was.told.first) (waiting was.told.lost) (subst HaveSome (ap waiting (sym was.told.parts) ∙ waiting_append was.told.first was.told.lost) some)
+
       machine_is : machine ≡ after_each s (waiting was.told.first)
       machine_is =
           is ∙ (λ i. state_at (number i) (tried i))
           ∙ ap (λ (ts : List Transaction). state_at (length (all_changes (waiting was.told.first))) (tried_from s ts)) (ap waiting (sym was.told.parts) ∙ waiting_append was.told.first was.told.lost)
-          ∙ state_before s (waiting was.told.first) (waiting was.told.lost)
+          ∙ state_before s (waiting was.told.first) (waiting was.told.lost) lost_some
 
       made : Batched disk (store_view start s copy) (store_view now machine copied) (asked slots) replies
       made = subst (λ (u : State). Batched disk (store_view start s copy) (store_view now u copied) (asked slots) replies) (sym machine_is)

@@ -1,8 +1,11 @@
 pub mod Pushed
+mod Logs
+pub mod Notes
 pub mod Unique
 pub mod Snapshots
 pub mod Migrating
 pub mod Replays
+pub mod LogReplays
 pub mod More
 pub mod Batches
 pub mod Changes

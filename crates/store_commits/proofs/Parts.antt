@@ -1,5 +1,5 @@
 -- Segments of a batch: what becomes of the account, however their commits end.
-use Rattle.std.proofs.Common.{◌≡◌, ◌⊎◌, inl, inr, ⊎_elim, ℕ, ◌+◌, ◌<◌, ◌≤◌, ◌^◌, List, [], ◌∷◌, length, length-append, map, refl, sym, ◌∙◌, ap, subst, arith, Bool, true, false, Option, None, Some, Vec, Global}
+use Rattle.std.proofs.Common.{◌≡◌, inl, inr, ⊎_elim, ℕ, ◌+◌, ◌<◌, ◌≤◌, ◌^◌, List, [], ◌∷◌, length, length-append, map, refl, sym, ◌∙◌, ap, subst, arith, Bool, true, false, Option, None, Vec, Global}
 use Rattle.sector_device.specs.Disk.{Disk}
 use Rattle.sector_device.proofs.Moments.{leaves_weaker}
 use Rattle.sector_device.specs.Sectors.{sectors_of}
@@ -9,7 +9,7 @@ use Rattle.store_journal.specs.Carries.{switched}
 use Rattle.store_journal.specs.JournalView.{JournalView, carried_of}
 use Rattle.store_journal.specs.Models.{model}
 use Rattle.store_journal.specs.Writes.{switch_calls}
-use Rattle.doc_machine.specs.Transaction.{AreFramed, AreGood, Transaction, after_in, changes_of, refusal_in}
+use Rattle.doc_machine.specs.Transaction.{Transaction, after_in, changes_of, refusal_in}
 use Rattle.refusals.specs.declared.numbers.TheConstants.{BROKEN, DEVICE, FULL}
 use Rattle.doc_changes.proofs.Framed.{framed_storable}
 use Rattle.doc_changes.specs.Refusals.{plain}
@@ -17,8 +17,8 @@ use Rattle.doc_changes.specs.State.{State}
 use Rattle.store_commits.specs.Account.{Account, account_broken, with_copy, extent_of}
 use Rattle.store_commits.specs.Batch.{GoesBehind, IsBatch, behind_in_doubt, failed, is_full, passed, room_in_doubt, room_made, to_append, to_snapshot, Slot, AreCommitted, AreInDoubt, AreJudged, waits, said, asked, waiting, size_of, sizes_of, account_committed, replies_done, replies_in_doubt}
 use Rattle.store_commits.specs.Copying.{Target, copy_of, target_with}
-use Rattle.store_commits.specs.Folds.{all_changes, frames_at, StandsAfter}
-use Rattle.store_commits.specs.Inside.{IsStored, LeavesNumbers, account_of, store_view, ArePlanned, IsAppended, IsAppendedBehind, IsPart, IsReplaced, IsSegment, IsTried, AnswersPart, answered, behind, bytes_in, fate_of, full, instead, none_planned, one_planned, replies_in, together}
+use Rattle.store_commits.specs.Folds.{all_changes, frames_for, StandsAfter}
+use Rattle.store_commits.specs.Inside.{AreFramedEach, AreGoodEach, IsStored, LeavesNumbers, account_of, store_view, ArePlanned, IsAppended, IsAppendedBehind, IsPart, IsReplaced, IsSegment, IsTried, AnswersPart, answered, behind, bytes_in, fate_of, full, instead, none_planned, one_planned, replies_in, together}
 use Rattle.store_commits.specs.Snapshot.{NeedsSnapshot, RemakesAll, snapshot_bytes, account_with_snapshot}
 use Rattle.store_commits.specs.Run.{Refused}
 use Rattle.store_commits.specs.declared.event.Reply.{Reply}
@@ -27,7 +27,7 @@ use Rattle.store_commits.specs.declared.segment.Base.{Base}
 use Rattle.store_commits.specs.declared.segment.Base.TheVariants.{After, Before, Used}
 use Rattle.store_commits.specs.declared.segment.Segment.{Segment}
 use Rattle.store_commits.proofs.Batches.{all_broken}
-use Rattle.store_commits.proofs.Changes.{each_is_all, frames_size, good_last, seq_counts, sizes_all, sizes_append}
+use Rattle.store_commits.proofs.Changes.{HaveSome, good_end, seq_counts, some_accepted, some_append, sizes_append, sizes_are}
 use Rattle.store_commits.proofs.Extents.{broken_as, ending_as, switched_as}
 use Rattle.store_commits.proofs.Instead.{instead_done, instead_hit}
 use Rattle.store_commits.proofs.Migrating.{snapshot_holds}
@@ -37,7 +37,7 @@ use Rattle.store_commits.proofs.Slots.{asked_append, length_replies, slots_done,
 use Rattle.store_commits.proofs.SnapshotOutcomes.{held_snapped, snapped_is, snapshot_moments}
 use Rattle.store_commits.proofs.Snapshots.{remakes_all}
 use Rattle.store_commits.proofs.Standing.{broke_is, held_broke, not_both, standing}
-use Rattle.store_commits.proofs.Waiting.{next_most, account_then, moved_done, moved_in_doubt, none_in, some_in, takes, was_in_doubt, was_made, was_nothing}
+use Rattle.store_commits.proofs.Waiting.{next_most, account_then, moved_done, moved_in_doubt, none_in, some_all, some_in, takes, was_in_doubt, was_made, was_nothing}
 use Rattle.store_commits.proofs.Modelled.{AreCoherent}
 
 -- ---- replies
@@ -79,10 +79,22 @@ planned_replies _ _ _ _ (one_planned a b end segment segments slots more part re
     let both = ap length (asked_append slots more) ∙ length-append (asked slots) (asked more) in
     omega (arith, one, others, both)
 
+-- each that waits has a change
+segment_some : (a : Account) (left : List Transaction) (o : Base) (slots : List Slot) (b : Account) → IsSegment a left o slots b → HaveSome (waiting slots)
+segment_some a left _ _ _ (together slots judged forced) = some_all a slots judged
+segment_some a left _ _ _ (behind t v bytes accepted needs) = (some_accepted a.state t accepted, tt)
+segment_some a left _ _ _ (instead t v bytes accepted nowhere fits) = (some_accepted a.state t accepted, tt)
+segment_some a left _ _ _ (full t accepted no_room) = tt
+
+pub planned_some : (a : Account) (segments : List Segment) (slots : List Slot) (end : Account) → ArePlanned a segments slots end → HaveSome (waiting slots)
+planned_some _ _ _ _ (none_planned a) = tt
+planned_some _ _ _ _ (one_planned a b end segment segments slots more part rest) =
+    subst HaveSome (sym (waiting_append slots more)) (some_append (waiting slots) (waiting more) (segment_some a (asked more) segment.base slots b part.is) (planned_some b segments more end rest))
+
 pub planned_bytes : (a : Account) (segments : List Segment) (slots : List Slot) (end : Account) → ArePlanned a segments slots end → bytes_in segments ≡ sizes_of (waiting slots)
 planned_bytes _ _ _ _ (none_planned a) = refl
 planned_bytes _ _ _ _ (one_planned a b end segment segments slots more part rest) =
-    let one = ap length part.has.frames ∙ frames_size a.state.seq (all_changes (waiting slots)) ∙ sym (sizes_all (waiting slots)) in
+    let one = ap length part.has.frames ∙ sizes_are a.rides a.state.seq (waiting slots) in
     let others = planned_bytes b segments more end rest in
     let both = ap sizes_of (waiting_append slots more) ∙ sizes_append (waiting slots) (waiting more) in
     omega (arith, one, others, both)
@@ -94,7 +106,7 @@ module _ {D : Type 0} (disk : D → Disk) (coherent : AreCoherent disk) (before 
   d = with_copy (account_of before state) (copy_of copy)
 
   abbrev snapshot : List ℕ
-  snapshot = snapshot_bytes state.documents
+  snapshot = snapshot_bytes before.rides state.documents state.marks
 
   -- the snapshot's own commit ended so
   abbrev Tried : JournalView D → Type 0 → Type 0
@@ -136,13 +148,13 @@ module _ {D : Type 0} (disk : D → Disk) (coherent : AreCoherent disk) (before 
       record {
         failed = is.outcome.failed;
         leaves = λ honest image left. ⊎_elim (λ old. inl (broken_as d (account_of now state) image (broke_is (disk before.device) (disk now.device) before now state _ is.outcome) old)) (λ new. inr new)
-            (switched_as disk coherent before now state stored.held is.honest is.kept is.outcome.stays.sectors snapshot (snapshot_holds state state.seq refl remakes) is.any_moment honest image (subst (λ (r : Bool). (model r (disk now.device)).left image) is.outcome.stays.rides left));
+            (switched_as disk coherent before now state stored.held is.honest is.kept is.outcome.stays.sectors snapshot (snapshot_holds before.rides state state.seq refl stored.held.profile remakes) is.any_moment honest image (subst (λ (r : Bool). (model r (disk now.device)).left image) is.outcome.stays.rides left));
       },
       refl,
     );
   }
 
-  module _ (left : List Transaction) (c : Transaction) (accepted : refusal_in state c ≡ None) (needs : NeedsSnapshot d (size_of c)) (framed : AreFramed (all_changes (c ∷ []))) (good : AreGood state (all_changes (c ∷ []))) where
+  module _ (left : List Transaction) (c : Transaction) (accepted : refusal_in state c ≡ None) (needs : NeedsSnapshot d (size_of c)) (framed : AreFramedEach state.seq (c ∷ [])) (good : AreGoodEach state (c ∷ [])) where
     goes : GoesBehind d c
     goes = record { works = works; accepted = accepted; needs = needs }
 
@@ -174,7 +186,7 @@ module _ {D : Type 0} (disk : D → Disk) (coherent : AreCoherent disk) (before 
       judged_there : AreJudged (account_of mid state) slots
       judged_there = subst (λ (x : Account). AreJudged x slots) (sym mid_is) judged
 
-      turned : (now : JournalView D) (fine : Bool) → IsAppended disk mid now (frames_at state.seq (all_changes (c ∷ []))) (length (all_changes (c ∷ []))) fine
+      turned : (now : JournalView D) (fine : Bool) → IsAppended disk mid now (frames_for mid.rides state.seq (c ∷ [])) (length (all_changes (c ∷ []))) fine
           → AnswersPart disk before state copy slots left end now None (replies_by fine state.seq slots)
       turned now true appended =
           let ok = appended.outcome.0 refl in
@@ -203,9 +215,9 @@ module _ {D : Type 0} (disk : D → Disk) (coherent : AreCoherent disk) (before 
         (subst (λ (x : Account). Moved disk before state now None [] (c ∷ []) (failed (to_snapshot d) x ∷ [])) then (snapshot_missed now is (c ∷ []))) is.outcome.broken c [] refl (slots_in_doubt snapped slots judged)
         (λ qs rest last batch. room_in_doubt d last c left qs rest goes (subst (λ (x : Account). IsBatch x left qs rest last) then batch))
 
-    behind_answered : (now : JournalView D) (fine : Bool) → IsAppendedBehind disk before now snapshot (frames_at state.seq (all_changes (c ∷ []))) (length (all_changes (c ∷ []))) fine
+    behind_answered : (now : JournalView D) (fine : Bool) → IsAppendedBehind disk before now snapshot (frames_for before.rides state.seq (c ∷ [])) (length (all_changes (c ∷ []))) fine
         → AnswersPart disk before state copy slots left end now None (replies_by fine state.seq slots)
-    behind_answered now fine (inl was) = turned was.0 was.1 now fine was.2
+    behind_answered now fine (inl was) = turned was.0 was.1 now fine (subst (λ (r : Bool). IsAppended disk was.0 now (frames_for r state.seq (c ∷ [])) (length (all_changes (c ∷ []))) fine) (sym was.1.outcome.rides) was.2)
     behind_answered now fine (inr none) = subst (λ (b : Bool). AnswersPart disk before state copy slots left end now None (replies_by b state.seq slots)) (sym none.0) (missed now none.1)
 
   -- ---- whatever the segment is
@@ -214,7 +226,7 @@ module _ {D : Type 0} (disk : D → Disk) (coherent : AreCoherent disk) (before 
   few_left = let left = numbers in omega (arith, left)
 
   -- nothing waits
-  nothing_by : (left : List Transaction) (slots : List Slot) (b : Account) → IsSegment d left Used slots b → AreFramed (all_changes (waiting slots)) → AreGood state (all_changes (waiting slots)) → length (all_changes (waiting slots)) ≡ 0
+  nothing_by : (left : List Transaction) (slots : List Slot) (b : Account) → IsSegment d left Used slots b → AreFramedEach state.seq (waiting slots) → AreGoodEach state (waiting slots) → length (all_changes (waiting slots)) ≡ 0
       → AnswersPart disk before state copy slots left b before copy (replies_done state.seq slots)
   nothing_by left _ _ (together slots judged forced) framed good few = was_nothing disk coherent before state copy slots works judged framed good stored few_left (none_in d slots judged few) left forced
   nothing_by left _ _ (full c accepted no_room) framed good few =
@@ -222,9 +234,9 @@ module _ {D : Type 0} (disk : D → Disk) (coherent : AreCoherent disk) (before 
       (record { paired = refl; dones_are = refl; hits_are = refl }) (λ qs rest end batch. is_full d end c left qs rest works accepted no_room batch)
 
   -- some wait
-  some_by : (left : List Transaction) (slots : List Slot) (b : Account) → IsSegment d left Used slots b → AreFramed (all_changes (waiting slots)) → AreGood state (all_changes (waiting slots)) → (length (all_changes (waiting slots)) ≡ 0 → ⊥)
-      → (now : JournalView D) (fine : Bool) → IsAppended disk before now (frames_at state.seq (all_changes (waiting slots))) (length (all_changes (waiting slots))) fine
-      → (copied : Option Target) → (fine ≡ true → copied ≡ target_with (frames_at state.seq (all_changes (waiting slots))) copy) → (fine ≡ false → copied ≡ None)
+  some_by : (left : List Transaction) (slots : List Slot) (b : Account) → IsSegment d left Used slots b → AreFramedEach state.seq (waiting slots) → AreGoodEach state (waiting slots) → (length (all_changes (waiting slots)) ≡ 0 → ⊥)
+      → (now : JournalView D) (fine : Bool) → IsAppended disk before now (frames_for before.rides state.seq (waiting slots)) (length (all_changes (waiting slots))) fine
+      → (copied : Option Target) → (fine ≡ true → copied ≡ target_with (frames_for before.rides state.seq (waiting slots)) copy) → (fine ≡ false → copied ≡ None)
       → AnswersPart disk before state copy slots left b now copied (replies_by fine state.seq slots)
   some_by left _ _ (together slots judged forced) framed good some now true appended copied grown dropped =
       let first = some_in (waiting slots) some in
@@ -236,32 +248,32 @@ module _ {D : Type 0} (disk : D → Disk) (coherent : AreCoherent disk) (before 
       (was_in_doubt disk coherent before state copy slots works judged framed good stored few_left first.0 first.1 first.2 now false appended (appended.outcome.1 refl) left forced)
   some_by left _ _ (full c accepted no_room) framed good some now fine appended copied grown dropped = absurd (some refl)
 
-  takes_by : (left : List Transaction) (slots : List Slot) (b : Account) → IsSegment d left Used slots b → AreFramed (all_changes (waiting slots)) → AreGood state (all_changes (waiting slots)) → (length (all_changes (waiting slots)) ≡ 0 → ⊥)
-      → Takes before (length (frames_at state.seq (all_changes (waiting slots)))) (length (all_changes (waiting slots)))
+  takes_by : (left : List Transaction) (slots : List Slot) (b : Account) → IsSegment d left Used slots b → AreFramedEach state.seq (waiting slots) → AreGoodEach state (waiting slots) → (length (all_changes (waiting slots)) ≡ 0 → ⊥)
+      → Takes before (length (frames_for before.rides state.seq (waiting slots))) (length (all_changes (waiting slots)))
   takes_by left _ _ (together slots judged forced) framed good some = takes disk coherent before state copy slots works judged framed good stored few_left
   takes_by left _ _ (full c accepted no_room) framed good some = absurd (some refl)
 
   -- one waits behind a snapshot
-  behind_by : (left : List Transaction) (v : Vec ℕ Global) (slots : List Slot) (b : Account) → IsSegment d left (Before v) slots b → AreFramed (all_changes (waiting slots)) → AreGood state (all_changes (waiting slots))
-      → (now : JournalView D) (fine : Bool) → IsAppendedBehind disk before now v.items (frames_at state.seq (all_changes (waiting slots))) (length (all_changes (waiting slots))) fine
+  behind_by : (left : List Transaction) (v : Vec ℕ Global) (slots : List Slot) (b : Account) → IsSegment d left (Before v) slots b → AreFramedEach state.seq (waiting slots) → AreGoodEach state (waiting slots)
+      → (now : JournalView D) (fine : Bool) → IsAppendedBehind disk before now v.items (frames_for before.rides state.seq (waiting slots)) (length (all_changes (waiting slots))) fine
       → AnswersPart disk before state copy slots left b now None (replies_by fine state.seq slots)
   behind_by left _ _ _ (behind c v bytes accepted needs) framed good now fine appended =
       behind_answered left c accepted needs framed good now fine
-      (subst (λ (l : List ℕ). IsAppendedBehind disk before now l (frames_at state.seq (all_changes (c ∷ []))) (length (all_changes (c ∷ []))) fine) bytes appended)
+      (subst (λ (l : List ℕ). IsAppendedBehind disk before now l (frames_for before.rides state.seq (c ∷ [])) (length (all_changes (c ∷ []))) fine) bytes appended)
 
-  fits_by : (left : List Transaction) (v : Vec ℕ Global) (slots : List Slot) (b : Account) → IsSegment d left (Before v) slots b → AreGood state (all_changes (waiting slots))
-      → (length v.items + length (frames_at state.seq (all_changes (waiting slots))) ≤ capacity_of before.rides before.sectors) × (before.seq + length (all_changes (waiting slots)) < 2 ^ 64)
+  fits_by : (left : List Transaction) (v : Vec ℕ Global) (slots : List Slot) (b : Account) → IsSegment d left (Before v) slots b → AreGoodEach state (waiting slots)
+      → (length v.items + length (frames_for before.rides state.seq (waiting slots)) ≤ capacity_of before.rides before.sectors) × (before.seq + length (all_changes (waiting slots)) < 2 ^ 64)
   fits_by left _ _ _ (behind c v bytes accepted needs) good =
       let long = ap length bytes in
-      let size = frames_size state.seq (all_changes (c ∷ [])) ∙ sym (sizes_all (c ∷ [])) in
-      let counted = (good_last state (all_changes (c ∷ [])) good).counted in
-      let last = ap (λ (s : State). s.seq) (sym (each_is_all state (c ∷ []))) ∙ seq_counts state (c ∷ []) in
+      let size = sizes_are before.rides state.seq (c ∷ []) in
+      let counted = (good_end state (c ∷ []) good).counted in
+      let last = seq_counts state (c ∷ []) in
       let seq = stored.held.seq in
       let fits = needs.1 in
       (omega (arith, long, fits, size), omega (arith, counted, last, seq))
 
   -- one is committed as the snapshot of the documents after it
-  instead_by : (left : List Transaction) (v : Vec ℕ Global) (slots : List Slot) (b : Account) → IsSegment d left (After v) slots b → AreGood state (all_changes (waiting slots))
+  instead_by : (left : List Transaction) (v : Vec ℕ Global) (slots : List Slot) (b : Account) → IsSegment d left (After v) slots b → AreGoodEach state (waiting slots)
       → (now : JournalView D) (fine : Bool) → IsReplaced disk before now v.items (length (all_changes (waiting slots))) fine → AnswersPart disk before state copy slots left b now None (replies_by fine state.seq slots)
   instead_by left _ _ _ (instead c v bytes accepted nowhere fits) good now true replaced =
       let here = subst (λ (l : List ℕ). IsReplaced disk before now l (length (all_changes (c ∷ []))) true) bytes replaced in
@@ -270,19 +282,19 @@ module _ {D : Type 0} (disk : D → Disk) (coherent : AreCoherent disk) (before 
       let here = subst (λ (l : List ℕ). IsReplaced disk before now l (length (all_changes (c ∷ []))) false) bytes replaced in
       instead_hit disk coherent before state copy works stored c good (record { works = works; accepted = accepted; nowhere = nowhere; fits = fits }) now false here (here.outcome.1 refl) left b
 
-  fits_after : (left : List Transaction) (v : Vec ℕ Global) (slots : List Slot) (b : Account) → IsSegment d left (After v) slots b → AreGood state (all_changes (waiting slots))
+  fits_after : (left : List Transaction) (v : Vec ℕ Global) (slots : List Slot) (b : Account) → IsSegment d left (After v) slots b → AreGoodEach state (waiting slots)
       → (length v.items ≤ capacity_of before.rides before.sectors) × (before.seq + length (all_changes (waiting slots)) < 2 ^ 64)
   fits_after left _ _ _ (instead c v bytes accepted nowhere fits) good =
       let long = ap length bytes in
-      let counted = (good_last state (all_changes (c ∷ [])) good).counted in
-      let last = ap (λ (s : State). s.seq) (sym (each_is_all state (c ∷ []))) ∙ seq_counts state (c ∷ []) in
+      let counted = (good_end state (c ∷ []) good).counted in
+      let last = seq_counts state (c ∷ []) in
       let seq = stored.held.seq in
       let room = fits.1 in
       (omega (arith, long, room), omega (arith, counted, last, seq))
 
   module _ (left : List Transaction) (segment : Segment) (slots : List Slot) (b : Account) (part : IsPart d left segment slots b) where
     abbrev frames : List ℕ
-    frames = frames_at state.seq (all_changes (waiting slots))
+    frames = frames_for before.rides state.seq (waiting slots)
 
     abbrev adds : ℕ
     adds = length (all_changes (waiting slots))

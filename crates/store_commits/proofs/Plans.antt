@@ -1,9 +1,10 @@
 -- Batches that are planned: one transaction more.
-use Rattle.std.proofs.Common.{◌≡◌, ℕ, ◌+◌, ◌≤◌, ◌<◌, List, [], ◌∷◌, ◌++◌, length, length-append, refl, sym, ◌∙◌, ap, subst, arith, true, None, Some, Vec, Global}
+use Rattle.std.proofs.Common.{◌≡◌, ℕ, Bool, ◌+◌, ◌≤◌, ◌<◌, List, [], ◌∷◌, ◌++◌, length, length-append, take, drop, refl, sym, ◌∙◌, ap, subst, arith, true, None, Some, Vec, Global}
 use Rattle.std.proofs.lemmas.List.{append_assoc, append-nil}
+use Rattle.std.proofs.Math.Seq.{take-append_seam, drop-append_seam}
 use Rattle.store_journal.specs.Layout.{capacity_of}
 use Rattle.record_text.specs.Change.{Change}
-use Rattle.doc_machine.specs.Transaction.{AreFramed, AreGood, AreMade, IsTransacted, Transaction, after_all, after_in, befores, changes_of, refusal_in}
+use Rattle.doc_machine.specs.Transaction.{AreGood, IsMadeWhole, IsNoted, IsTransacted, Transaction, after_in, befores, changes_of, refusal_in}
 use Rattle.refusals.specs.declared.numbers.TheConstants.{FULL}
 use Rattle.doc_changes.specs.Refusals.{plain}
 use Rattle.doc_changes.specs.State.{State, Good}
@@ -11,7 +12,7 @@ use Rattle.doc_machine.specs.Trial.{TrialView, first_or, state_at}
 use Rattle.doc_changes.specs.declared.refusal.Refusal.{Refusal}
 use Rattle.store_commits.specs.Account.{Account}
 use Rattle.store_commits.specs.Batch.{IsForced, Slot, waits, said, asked, waiting, account_committed, replies_done, size_of, sizes_of}
-use Rattle.store_commits.specs.Folds.{after_each, all_changes, frames_at}
+use Rattle.store_commits.specs.Folds.{after_each, all_changes, frames_for, frames_of, mark_after}
 use Rattle.store_commits.specs.Replacing.{IsOverAfter, account_after}
 use Rattle.store_commits.specs.Snapshot.{FitNowhere, IsOver, snapshot_bytes, account_with_snapshot}
 use Rattle.store_commits.specs.Run.{Done, Refused}
@@ -21,18 +22,28 @@ use Rattle.store_commits.specs.declared.plan.Planning.{Planning}
 use Rattle.store_commits.specs.declared.segment.Base.{Base}
 use Rattle.store_commits.specs.declared.segment.Base.TheVariants.{After, Before, Used}
 use Rattle.store_commits.specs.declared.segment.Segment.{Segment}
-use Rattle.store_commits.proofs.Changes.{after_push, all_push, befores_push, each_is_all, framed_append, frames_append, good_append, good_first, good_last, seq_after, seq_counts, sizes_append}
+use Rattle.store_commits.proofs.Changes.{after_push, all_push, befores_push, framed_push, frames_append, frames_one, good_first, good_push, seq_after, seq_counts, sizes_append, some_accepted}
 use Rattle.store_commits.proofs.Slots.{judged_append, replies_append, waiting_append}
 use Rattle.store_commits.proofs.Waiting.{committed_is}
 
+-- the first of the states before changes
+first_before : (end s : State) (past : List State) (cs : List Change) → 1 ≤ length cs → first_or end (past ++ befores s cs) ≡ first_or s past
+first_before end s [] [] some = absurd (omega (arith, some))
+first_before end s [] (c ∷ cs) some = refl
+first_before end s (p ∷ past) cs some = refl
+
 -- states that are put behind those before them leave the first one
 pub first_stays : (old new : TrialView) (t : Transaction) (seq : ℕ) → IsTransacted old t seq new → state_at 0 new ≡ state_at 0 old
-first_stays old new t seq is = (λ i. first_or (is.made.state i) (is.made.past i)) ∙ by old.past (changes_of t)
-  where
-    by : (past : List State) (cs : List Change) → first_or (after_all old.state cs) (past ++ befores old.state cs) ≡ first_or old.state past
-    by [] [] = refl
-    by [] (c ∷ cs) = refl
-    by (p ∷ past) cs = refl
+first_stays old new t seq is = (λ i. first_or new.state (is.made.past i)) ∙ first_before new.state old.state old.past (changes_of t) (some_accepted old.state t is.accepted)
+
+-- all of a transaction is taken back
+pub whole_back : (old made new : TrialView) (t : Transaction) (n : ℕ) → IsMadeWhole old t made → 1 ≤ length (changes_of t) → n ≡ length old.past → new.state ≡ state_at n made → new.past ≡ take n made.past → new ≡ old
+whole_back old made new t n are some count state past =
+    let before : first_or made.state (drop (length old.past) (old.past ++ befores old.state (changes_of t))) ≡ old.state =
+    ap (first_or made.state) (drop-append_seam old.past (befores old.state (changes_of t))) ∙ first_before made.state old.state [] (changes_of t) some in
+    let state_is : new.state ≡ old.state = state ∙ (λ i. first_or made.state (drop (count i) (are.past i))) ∙ before in
+    let past_is : new.past ≡ old.past = past ∙ (λ i. take (count i) (are.past i)) ∙ take-append_seam old.past (befores old.state (changes_of t)) in
+    λ i. record { state = state_is i; past = past_is i }
 
 -- ---- one transaction more
 
@@ -65,6 +76,13 @@ module _ (a : Account) (slots : List Slot) (p : Planning) (t : TrialView) (is : 
   rides_then : b.rides ≡ mid.rides
   rides_then = ap (λ (x : Account). x.rides) (committed_is mid since)
 
+  rides_here : p.rides ≡ b.rides
+  rides_here = is.rides ∙ sym rides_then
+
+  -- a snapshot of documents in the format of the plan, and of the account
+  documents_here : snapshot_bytes p.rides t.state.documents t.state.marks ≡ snapshot_bytes b.rides b.state.documents b.state.marks
+  documents_here = ap (λ (r : Bool). snapshot_bytes r t.state.documents t.state.marks) rides_here ∙ ap (λ (s : State). snapshot_bytes b.rides s.documents s.marks) (sym state_then)
+
   parts_more : (slot : Slot) → is.closed ++ (since ++ slot ∷ []) ≡ slots ++ slot ∷ []
   parts_more slot = sym (append_assoc is.closed since (slot ∷ [])) ∙ ap (λ (l : List Slot). l ++ slot ∷ []) is.parts
 
@@ -95,7 +113,7 @@ module _ (a : Account) (slots : List Slot) (p : Planning) (t : TrialView) (is : 
         parts = parts_more (said c r);
         goes = is.goes;
         judged = judged_append mid since (said c r ∷ []) is.judged (subst (λ (s : State). refusal_in s c ≡ Some r) (sym state_then) refuses, tt);
-        has = subst (λ (ts : List Transaction). HasFrames mid.state ts (record p.last { replies = replies })) (sym (waiting_said since r))
+        has = subst (λ (ts : List Transaction). HasFrames mid.rides mid.state ts (record p.last { replies = replies })) (sym (waiting_said since r))
             (record { framed = is.has.framed; good = is.has.good; frames = is.has.frames; adds = is.has.adds });
         base = is.base;
         replies = replies_are ∙ ap (λ (l : List Reply). l ++ Refused r ∷ []) is.replies ∙ sym (replies_append mid.state.seq since (said c r ∷ []));
@@ -112,12 +130,12 @@ module _ (a : Account) (slots : List Slot) (p : Planning) (t : TrialView) (is : 
       accepted_then : refusal_in b.state c ≡ None
       accepted_then = subst (λ (s : State). refusal_in s c ≡ None) (sym state_then) accepted
 
-      abbrev frames_of : List ℕ
-      frames_of = frames_at t.state.seq (changes_of c)
+      abbrev its_frames : List ℕ
+      its_frames = frames_of p.rides t.state.seq c
 
       -- it was made on the trial
 
-      module _ (u : TrialView) (made : AreMade t (changes_of c) u) where
+      module _ (u : TrialView) (made : IsMadeWhole t c u) where
         tried_made : u ≡ tried_from a.state (waiting (slots ++ waits c ∷ []))
         tried_made = (λ i. record {
           state = (made.state ∙ ap (λ (v : TrialView). after_in v.state c) is.tried ∙ sym (after_push a.state (waiting slots) c)) i;
@@ -128,14 +146,17 @@ module _ (a : Account) (slots : List Slot) (p : Planning) (t : TrialView) (is : 
         bytes_made bytes bytes_are = let was = is.bytes in let sum = ap sizes_of (waiting_waits slots) ∙ sizes_append (waiting slots) (c ∷ []) in omega (arith, bytes_are, was, sum)
 
         -- and it waits
-        pub further_waits : (frames : Vec ℕ Global) → frames.items ≡ p.last.frames.items ++ frames_of → (replies : Vec Reply Global) → replies.items ≡ p.last.replies.items ++ Done u.state.seq ∷ []
+        pub further_waits : Good u.state → (frames : Vec ℕ Global) → frames.items ≡ p.last.frames.items ++ its_frames → (replies : Vec Reply Global) → replies.items ≡ p.last.replies.items ++ Done u.state.seq ∷ []
             → (left bytes adds : ℕ) → left + size_of c ≡ p.left → bytes ≡ p.bytes + size_of c → adds ≡ p.last.adds + length (changes_of c)
             → PlansOneMore a slots c (record p { left = left; bytes = bytes; last = record p.last { frames = frames; adds = adds; replies = replies } }) u
-        further_waits frames frames_are replies replies_are left bytes adds left_is bytes_are adds_are =
+        further_waits good_made frames frames_are replies replies_are left bytes adds left_is bytes_are adds_are =
             let ts = waiting since in
+            let good_after : Good (after_in t.state c) = subst Good made.state good_made in
             let before : t.state.seq ≡ mid.state.seq + length (all_changes ts) = ap (λ (s : State). s.seq) is.state ∙ seq_counts mid.state ts in
-            let push : frames_at mid.state.seq (all_changes ts) ++ frames_of ≡ frames_at mid.state.seq (all_changes (ts ++ c ∷ [])) =
-            ap (λ (n : ℕ). frames_at mid.state.seq (all_changes ts) ++ frames_at n (changes_of c)) before ∙ sym (ap (frames_at mid.state.seq) (all_push ts c) ∙ frames_append mid.state.seq (all_changes ts) (changes_of c)) in
+            let front = frames_for mid.rides mid.state.seq ts in
+            let push : front ++ its_frames ≡ frames_for mid.rides mid.state.seq (ts ++ c ∷ []) =
+            (λ i. front ++ frames_of (is.rides i) (before i) c)
+            ∙ sym (frames_append mid.rides mid.state.seq ts (c ∷ []) ∙ ap (λ (l : List ℕ). front ++ l) (frames_one mid.rides (mid.state.seq + length (all_changes ts)) c)) in
             let number : u.state.seq ≡ mid.state.seq + length (all_changes ts) + length (changes_of c) = ap (λ (s : State). s.seq) made.state ∙ seq_after t.state c ∙ ap (λ (n : ℕ). n + length (changes_of c)) before in
             let count = ap length (all_push ts c) ∙ length-append (all_changes ts) (changes_of c) in
             let sum = ap sizes_of (waiting_waits since) ∙ sizes_append ts (c ∷ []) in
@@ -152,11 +173,11 @@ module _ (a : Account) (slots : List Slot) (p : Planning) (t : TrialView) (is : 
                 parts = parts_more (waits c);
                 goes = is.goes;
                 judged = judged_append mid since (waits c ∷ []) is.judged (accepted_then, omega (arith, left_is, room, used, sectors), tt);
-                has = subst (λ (l : List Transaction). HasFrames mid.state l (record p.last { frames = frames; adds = adds; replies = replies })) (sym (waiting_waits since))
+                has = subst (λ (l : List Transaction). HasFrames mid.rides mid.state l (record p.last { frames = frames; adds = adds; replies = replies })) (sym (waiting_waits since))
                     (record {
-                      framed = subst AreFramed (sym (all_push ts c)) (framed_append (all_changes ts) (changes_of c) is.has.framed made.framed);
-                      good = subst (AreGood mid.state) (sym (all_push ts c)) (good_append mid.state (all_changes ts) (changes_of c) is.has.good (subst (λ (s : State). AreGood s (changes_of c)) (is.state ∙ each_is_all mid.state ts) made.good));
-                      frames = frames_are ∙ ap (λ (l : List ℕ). l ++ frames_of) is.has.frames ∙ push;
+                      framed = framed_push mid.state.seq ts c is.has.framed made.framed (subst (λ (n : ℕ). IsNoted (mark_after n c)) before made.noted);
+                      good = good_push mid.state ts c is.has.good (subst (λ (s : State). AreGood s (changes_of c)) is.state made.good) (subst (λ (s : State). Good (after_in s c)) is.state good_after);
+                      frames = frames_are ∙ ap (λ (l : List ℕ). l ++ its_frames) is.has.frames ∙ push;
                       adds = omega (arith, adds_are, was, count);
                     });
                 base = is.base;
@@ -172,12 +193,15 @@ module _ (a : Account) (slots : List Slot) (p : Planning) (t : TrialView) (is : 
 
       -- ---- it doesn't fit beside those that wait
 
-      module _ (over : p.left < size_of c) (good_all : AreGood t.state (changes_of c)) (q : Planning) (other : Segment) (closed : IsClosed p other q) where
+      module _ (over : p.left < size_of c) (good_all : AreGood t.state (changes_of c)) (good_after : Good (after_in t.state c)) (q : Planning) (other : Segment) (closed : IsClosed p other q) where
         is_over : IsOver b (size_of c)
         is_over = let used = used_then in let sectors = capacity_then in let room = is.room in omega (arith, over, used, sectors, room)
 
         good_here : AreGood b.state (changes_of c)
         good_here = subst (λ (s : State). AreGood s (changes_of c)) (sym state_then) good_all
+
+        good_then : Good (after_in b.state c)
+        good_then = subst (λ (s : State). Good (after_in s c)) (sym state_then) good_after
 
         -- those that wait, then this one, and then whatever comes
         forced : (slot : Slot) (e : Account) → ((xs : List Slot) → IsForced b (asked (slot ∷ xs))) → ((xs : List Slot) → IsPart b (asked xs) other (slot ∷ []) e) → Good e.state
@@ -207,15 +231,15 @@ module _ (a : Account) (slots : List Slot) (p : Planning) (t : TrialView) (is : 
         }
 
         -- the snapshot of the documents before it leaves no room for it
-        pub nowhere : (snapshot : List ℕ) → snapshot ≡ snapshot_bytes t.state.documents → p.capacity < length snapshot + size_of c → FitNowhere b (size_of c)
+        pub nowhere : (snapshot : List ℕ) → snapshot ≡ snapshot_bytes p.rides t.state.documents t.state.marks → p.capacity < length snapshot + size_of c → FitNowhere b (size_of c)
         nowhere snapshot snapshot_is wide =
-            let size : length snapshot ≡ length (snapshot_bytes b.state.documents) = ap length snapshot_is ∙ ap (λ (s : State). length (snapshot_bytes s.documents)) (sym state_then) in
+            let size : length snapshot ≡ length (snapshot_bytes b.rides b.state.documents b.state.marks) = ap length snapshot_is ∙ ap length documents_here in
             let half = is.capacity in
             let sectors = capacity_then in
             (is_over, omega (arith, wide, size, half, sectors))
 
         -- nor does that of those after it fit
-        pub further_full : (snapshot : List ℕ) → snapshot ≡ snapshot_bytes t.state.documents → p.capacity < length snapshot + size_of c → (p.rides ≡ true → p.capacity < length (snapshot_bytes (after_in t.state c).documents))
+        pub further_full : (snapshot : List ℕ) → snapshot ≡ snapshot_bytes p.rides t.state.documents t.state.marks → p.capacity < length snapshot + size_of c → (p.rides ≡ true → p.capacity < length (snapshot_bytes p.rides (after_in t.state c).documents (after_in t.state c).marks))
             → other.base ≡ Used → other.frames.items ≡ [] → other.adds ≡ 0 → other.replies.items ≡ Refused (plain FULL) ∷ [] → q.left ≡ p.left → q.bytes ≡ p.bytes
             → (u : TrialView) → u ≡ t → PlansOneMore a slots c q u
         further_full snapshot snapshot_is wide over_after base no_frames no_adds says left_is bytes_are u same =
@@ -226,7 +250,7 @@ module _ (a : Account) (slots : List Slot) (p : Planning) (t : TrialView) (is : 
             let then : IsOverAfter b c = λ here.
             (let far = over_after (is.rides ∙ sym rides_then ∙ here) in
             let half = is.capacity in
-            let size = ap (λ (s : State). length (snapshot_bytes (after_in s c).documents)) state_then in
+            let size = ap (λ (s : State). length (snapshot_bytes b.rides (after_in s c).documents (after_in s c).marks)) state_then ∙ ap (λ (r : Bool). length (snapshot_bytes r (after_in t.state c).documents (after_in t.state c).marks)) (sym rides_here) in
             omega (arith, far, size, half, sectors)) in (
               slot,
               refl,
@@ -242,17 +266,17 @@ module _ (a : Account) (slots : List Slot) (p : Planning) (t : TrialView) (is : 
 
         -- it goes on by itself
 
-        module _ (u : TrialView) (made : AreMade t (changes_of c) u) (frames : other.frames.items ≡ frames_of) (adds : other.adds ≡ length (changes_of c)) (says : other.replies.items ≡ Done u.state.seq ∷ []) (bytes_are : q.bytes ≡ p.bytes + size_of c) where
+        module _ (u : TrialView) (made : IsMadeWhole t c u) (frames : other.frames.items ≡ its_frames) (adds : other.adds ≡ length (changes_of c)) (says : other.replies.items ≡ Done u.state.seq ∷ []) (bytes_are : q.bytes ≡ p.bytes + size_of c) where
           then : u.state ≡ after_in b.state c
           then = made.state ∙ ap (λ (s : State). after_in s c) (sym state_then)
 
-          has_frames : HasFrames b.state (c ∷ []) other
+          has_frames : HasFrames b.rides b.state (c ∷ []) other
           has_frames =
               let one = append-nil (changes_of c) in
               record {
-                framed = subst AreFramed (sym one) made.framed;
-                good = subst (AreGood b.state) (sym one) good_here;
-                frames = frames ∙ ap (λ (s : State). frames_at s.seq (changes_of c)) (sym state_then) ∙ ap (frames_at b.state.seq) (sym one);
+                framed = (made.framed, subst (λ (s : State). IsNoted (mark_after s.seq c)) (sym state_then) made.noted, tt);
+                good = (good_here, good_then);
+                frames = frames ∙ ap (λ (r : Bool). frames_of r t.state.seq c) rides_here ∙ ap (λ (s : State). frames_of b.rides s.seq c) (sym state_then) ∙ sym (frames_one b.rides b.state.seq c);
                 adds = adds ∙ ap length (sym one);
               }
 
@@ -260,10 +284,10 @@ module _ (a : Account) (slots : List Slot) (p : Planning) (t : TrialView) (is : 
           told = says ∙ ap (λ (n : ℕ). Done n ∷ []) (ap (λ (s : State). s.seq) then ∙ seq_after b.state c)
 
           -- after a snapshot
-          pub further_behind : (snapshot : Vec ℕ Global) → snapshot.items ≡ snapshot_bytes t.state.documents → length snapshot.items + size_of c ≤ p.capacity → other.base ≡ Before snapshot → q.left + (length snapshot.items + size_of c) ≡ p.capacity
+          pub further_behind : (snapshot : Vec ℕ Global) → snapshot.items ≡ snapshot_bytes p.rides t.state.documents t.state.marks → length snapshot.items + size_of c ≤ p.capacity → other.base ≡ Before snapshot → q.left + (length snapshot.items + size_of c) ≡ p.capacity
               → PlansOneMore a slots c q u
           further_behind snapshot snapshot_is fits base left_is =
-              let documents = ap (λ (s : State). snapshot_bytes s.documents) (sym state_then) in
+              let documents = documents_here in
               let size = ap length snapshot_is ∙ ap length documents in
               let half = is.capacity in
               let sectors = capacity_then in
@@ -276,14 +300,14 @@ module _ (a : Account) (slots : List Slot) (p : Planning) (t : TrialView) (is : 
                       has = has_frames;
                       replies = told;
                     })
-                    (good_last b.state (changes_of c) good_here) u then (tried_made u made) (omega (arith, left_is, size, half, sectors)) (bytes_made u made q.bytes bytes_are) refl refl,
+                    good_then u then (tried_made u made) (omega (arith, left_is, size, half, sectors)) (bytes_made u made q.bytes bytes_are) refl refl,
               )
 
           -- or as one
-          pub further_instead : (snapshot : Vec ℕ Global) → snapshot.items ≡ snapshot_bytes u.state.documents → p.rides ≡ true → length snapshot.items ≤ p.capacity → other.base ≡ After snapshot → q.left + length snapshot.items ≡ p.capacity
+          pub further_instead : (snapshot : Vec ℕ Global) → snapshot.items ≡ snapshot_bytes p.rides u.state.documents u.state.marks → p.rides ≡ true → length snapshot.items ≤ p.capacity → other.base ≡ After snapshot → q.left + length snapshot.items ≡ p.capacity
               → FitNowhere b (size_of c) → PlansOneMore a slots c q u
           further_instead snapshot snapshot_is rides fits base left_is none =
-              let documents = ap (λ (s : State). snapshot_bytes s.documents) then in
+              let documents = ap (λ (r : Bool). snapshot_bytes r u.state.documents u.state.marks) rides_here ∙ ap (λ (s : State). snapshot_bytes b.rides s.documents s.marks) then in
               let size = ap length snapshot_is ∙ ap length documents in
               let half = is.capacity in
               let sectors = capacity_then in
@@ -297,7 +321,7 @@ module _ (a : Account) (slots : List Slot) (p : Planning) (t : TrialView) (is : 
                       has = has_frames;
                       replies = told;
                     })
-                    (good_last b.state (changes_of c) good_here) u then (tried_made u made) (omega (arith, left_is, size, half, sectors)) (bytes_made u made q.bytes bytes_are) refl refl,
+                    good_then u then (tried_made u made) (omega (arith, left_is, size, half, sectors)) (bytes_made u made q.bytes bytes_are) refl refl,
               )
 
 -- ---- nothing is planned yet

@@ -1,11 +1,12 @@
 -- Bytes replayed from the front, a frame at a time.
-use Rattle.std.proofs.Common.{◌≡◌, ◌≢◌, ℕ, ◌<◌, ◌^◌, List, [], ◌∷◌, ◌++◌, length, take, drop, refl, sym, ◌∙◌, ap, subst, arith, None, MatchResult, Result, Ok, Err, IfOk, IfErr, if◌then◌else◌}
-use Rattle.std.proofs.lemmas.Bool.{ne_eqb}
-use Rattle.std.proofs.lemmas.List.{append_assoc, take-append-drop}
+use Rattle.std.proofs.Common.{◌≡◌, ◌≢◌, ℕ, ◌<◌, ◌^◌, List, [], ◌∷◌, ◌++◌, length, take, drop, refl, sym, ◌∙◌, ap, subst, arith, None, MatchResult, Result, Ok, Err, IfOk, IfErr, if◌then◌else◌, ◌==◌, true}
+use Rattle.std.proofs.lemmas.Bool.{eqb-true, ne_eqb}
+use Rattle.std.proofs.lemmas.List.{append_assoc, append-nil, take-append-drop}
 use Rattle.std.proofs.Math.Seq.{take-append_seam, drop-append_seam}
+use Rattle.half_journal.specs.Layout.{IsFormat}
 use Rattle.record_text.specs.Change.{Change, patch}
 use Rattle.record_text.specs.Frame.{Entry, entry, IsEntry, BeginsWith, BeginsWith_1, frame_in, frame_of, frame_1_of, frames_in}
-use Rattle.doc_machine.specs.Entries.{AreTaken, Takes, with_entry}
+use Rattle.doc_machine.specs.Entries.{AreTaken, Takes, with_all, with_entry}
 use Rattle.schema_rules.specs.declared.profile.Profile.{Profile}
 use Rattle.doc_changes.specs.State.{Good, State, empty_in}
 use Rattle.doc_patch.specs.Meaning.{operations}
@@ -15,6 +16,7 @@ use Rattle.doc_tree.specs.Doc.{Doc}
 use Rattle.doc_tree.specs.Sound.{IsSound}
 use Rattle.record_text.specs.declared.lent.PatchFrame.{PatchFrame}
 use Rattle.store_commits.specs.declared.replaying.ReplayFault.{ReplayFault}
+use Rattle.store_commits.specs.Images.{Holds}
 use Rattle.store_commits.specs.Replay.{BeginsIn, Continues, HoldsNothing, IsPatchFrame, ReadsAs, Replayed, TakesFirst, TakesNone}
 use Rattle.store_commits.specs.declared.replaying.ReplayFault.TheVariants.{Damaged}
 use Rattle.store_commits.proofs.Pushed.{frames_push, entries_push, dated_push, with_push, taken_push}
@@ -78,17 +80,48 @@ pub replayed_first : (profile : Profile) (version seq : ℕ) (bytes rest : List 
 replayed_first profile version seq bytes rest state new n replayed nonempty first =
     replayed_more profile version seq bytes rest state new first.first n replayed nonempty first.begins first.only first.takes first.new_is
 
+-- nothing is left if there are no bytes
+pub none_left : (l : List ℕ) → (length l == 0) ≡ true → l ≡ []
+none_left [] is = refl
+none_left (x ∷ l) is = let none = eqb-true (length (x ∷ l)) 0 is in absurd (omega (arith, none))
+
+-- entries leave the marks
+marks_stay : (s : State) (es : List Entry) → (with_all s es).marks ≡ s.marks
+marks_stay s [] = refl
+marks_stay s (e ∷ es) = marks_stay (with_entry s e) es
+
+-- nothing is left, so the bytes hold the state's documents, and no marks
+pub replayed_holds : (profile : Profile) (version seq : ℕ) (bytes rest : List ℕ) (state : State) → version ≢ 3 → rest ≡ [] → Replayed profile version seq bytes rest state → Holds profile version seq bytes state.documents state.marks
+replayed_holds profile version seq bytes rest state plain none replayed = record {
+  entries = replayed.entries;
+  notes = [];
+  framed = replayed.framed;
+  dated = replayed.dated;
+  spelled = record {
+    framed = λ _. (sym (append-nil (frames_in version replayed.entries)) ∙ ap (λ (l : List ℕ). frames_in version replayed.entries ++ l) (sym none) ∙ replayed.spelled, refl);
+    logged = λ three. absurd (plain three);
+  };
+  taken = replayed.taken;
+  documents_are = ap (λ (s : State). s.documents) replayed.state_is;
+  noted = tt;
+  marks_are = sym (marks_stay (empty_in profile seq) replayed.entries) ∙ ap (λ (s : State). s.marks) replayed.state_is;
+}
+
+-- the version is 1 or 2
+pub not_a_log : (version : ℕ) → IsFormat version → version ≢ 3
+not_a_log version is three = let most = is.at_most in omega (arith, most, three)
+
 -- ---- damage
 
 -- nothing goes on from the state, so the bytes hold nothing
-nothing_holds : (profile : Profile) (version seq : ℕ) (bytes rest : List ℕ) (state : State) → Replayed profile version seq bytes rest state → ((more : List Entry) → Continues version seq state rest more → ⊥) → HoldsNothing profile version seq bytes
-nothing_holds profile version seq bytes rest state replayed nothing documents holds =
-    let more = replayed.only holds.entries (record { framed = holds.framed; dated = holds.dated; spelled = holds.spelled; taken = holds.taken }) in
+nothing_holds : (profile : Profile) (version seq : ℕ) (bytes rest : List ℕ) (state : State) → version ≢ 3 → Replayed profile version seq bytes rest state → ((more : List Entry) → Continues version seq state rest more → ⊥) → HoldsNothing profile version seq bytes
+nothing_holds profile version seq bytes rest state plain replayed nothing documents marks holds =
+    let more = replayed.only holds.entries (record { framed = holds.framed; dated = holds.dated; spelled = (holds.spelled.framed plain).0; taken = holds.taken }) in
     nothing more.0 more.1
 
 -- what stands first isn't taken
-pub damaged_first : (profile : Profile) (version seq : ℕ) (bytes rest : List ℕ) (state : State) → Replayed profile version seq bytes rest state → rest ≢ [] → TakesNone version seq rest state → HoldsNothing profile version seq bytes
-damaged_first profile version seq bytes rest state replayed nonempty none = nothing_holds profile version seq bytes rest state replayed by
+pub damaged_first : (profile : Profile) (version seq : ℕ) (bytes rest : List ℕ) (state : State) → version ≢ 3 → Replayed profile version seq bytes rest state → rest ≢ [] → TakesNone version seq rest state → HoldsNothing profile version seq bytes
+damaged_first profile version seq bytes rest state plain replayed nonempty none = nothing_holds profile version seq bytes rest state plain replayed by
   where
     by : (more : List Entry) → Continues version seq state rest more → ⊥
     by [] goes = nonempty (sym goes.spelled)

@@ -1,5 +1,5 @@
 -- A snapshot that was written and switched to, or given up.
-use Rattle.std.proofs.Common.{◌≡◌, inl, inr, ℕ, ◌+◌, List, [], length, Result, Ok, Err, IfOk, IfErr, refl, sym, ◌∙◌, ap, subst, None, Option, false, ◌↔◌}
+use Rattle.std.proofs.Common.{◌≡◌, inl, inr, ℕ, ◌+◌, List, [], length, Result, Ok, Err, IfOk, IfErr, refl, sym, ◌∙◌, ap, None, Option, false, ◌↔◌}
 use Rattle.sector_device.specs.Disk.{Disk, Image, LeavesOnly}
 use Rattle.sector_device.proofs.Moments.{leaves_weaker}
 use Rattle.sector_device.specs.Sectors.{sectors_of}
@@ -16,19 +16,19 @@ use Rattle.doc_changes.specs.declared.refusal.Refusal.{Refusal}
 use Rattle.store_commits.specs.Account.{Copy, with_copy}
 use Rattle.store_commits.specs.Inside.{IsHeld, account_of}
 use Rattle.store_commits.specs.Snapshot.{CanHold, account_with_snapshot, RemakesAll, snapshot_bytes}
-use Rattle.store_commits.specs.Images.{Holds, profile_in}
+use Rattle.store_commits.specs.Images.{Holds, profile_in, version_of_frames}
 use Rattle.store_commits.proofs.Migrating.{snapshot_holds}
 use Rattle.store_commits.proofs.Snapshots.{remakes_all}
 use Rattle.store_commits.specs.Folds.{StandsAfter}
-use Rattle.store_commits.proofs.Standing.{held_broke, stands_by, stands_now}
+use Rattle.store_commits.proofs.Standing.{held_broke, held_by, stands_by, stands_now}
 use Rattle.store_commits.proofs.Modelled.{AreCoherent}
 
 module _ {D : Type 0} (old new : Disk) (before now : JournalView D) (state : State) (remakes : RemakesAll state) (held : IsHeld old before state) (same : old.honest ↔ new.honest) (kept : IsKept new now) where
   abbrev target : List ℕ
-  target = snapshot_bytes state.documents
+  target = snapshot_bytes before.rides state.documents state.marks
 
-  holds : Holds state.profile 2 state.seq target state.documents
-  holds = snapshot_holds state state.seq refl remakes
+  holds : Holds state.profile (version_of_frames before.rides 2) state.seq target state.documents state.marks
+  holds = snapshot_holds before.rides state state.seq refl held.profile remakes
 
   either_stands : old.honest → (image : Image) → EitherCarried (carried_of before) (switched (carried_of before) target) image → StandsAfter state [] image
   either_stands honest image (inl carries) = stands_now state [] image (stands_by state (carried_of before) held.version held.seq held.profile (held.held honest) image carries)
@@ -45,7 +45,7 @@ module _ {D : Type 0} (old new : Disk) (before now : JournalView D) (state : Sta
     seq = counts.seq ∙ held.seq;
     profile = ap profile_in counts.rides ∙ held.profile;
     good = held.good;
-    held = λ honest. subst (λ (l : List ℕ). Holds state.profile 2 state.seq l state.documents) (sym (counts.bytes (same.1 honest))) holds;
+    held = λ honest. held_by before now state counts.rides target (counts.bytes (same.1 honest)) holds;
   }
 
   -- the account of the journal then
@@ -62,13 +62,13 @@ abbrev pub WasNotCommitted : {D : Type 0} → (D → Disk) → JournalView D →
 WasNotCommitted disk before now target r = IfErr r (λ refusal. (refusal ≡ plain DEVICE) × Broke (disk before.device) (disk now.device) (sectors_of (length target) + switch_calls before.rides (length target)) before now)
 
 module _ {D : Type 0} (disk : D → Disk) (coherent : AreCoherent disk) (before now : JournalView D) (state : State)
-    (held : IsHeld (disk before.device) before state) (can : CanHold (account_of before state) (length (snapshot_bytes state.documents))) (kept : IsKept (disk now.device) now) (same : (disk before.device).honest ↔ (disk now.device).honest) where
+    (held : IsHeld (disk before.device) before state) (can : CanHold (account_of before state) (length (snapshot_bytes before.rides state.documents state.marks))) (kept : IsKept (disk now.device) now) (same : (disk before.device).honest ↔ (disk now.device).honest) where
   abbrev calls : ℕ
-  calls = sectors_of (length (snapshot_bytes state.documents)) + switch_calls before.rides (length (snapshot_bytes state.documents))
+  calls = sectors_of (length (snapshot_bytes before.rides state.documents state.marks)) + switch_calls before.rides (length (snapshot_bytes before.rides state.documents state.marks))
 
   remakes : RemakesAll state
   remakes = remakes_all framed_storable state held.good
 
-  pub snapped_held : (r : Result ℕ Refusal) → WasCommitted disk before now (snapshot_bytes state.documents) r → WasNotCommitted disk before now (snapshot_bytes state.documents) r → IsHeld (disk now.device) now state
+  pub snapped_held : (r : Result ℕ Refusal) → WasCommitted disk before now (snapshot_bytes before.rides state.documents state.marks) r → WasNotCommitted disk before now (snapshot_bytes before.rides state.documents state.marks) r → IsHeld (disk now.device) now state
   snapped_held (Ok used) ok err = held_snapped (disk before.device) (disk now.device) before now state remakes held same kept ok.0
   snapped_held (Err r) ok err = held_broke (disk before.device) (disk now.device) before now state calls err.1 held same kept

@@ -1,19 +1,24 @@
--- The snapshot of a good state makes its documents again, with their revisions.
-use Rattle.std.proofs.Common.{◌≡◌, ℕ, ◌+◌, ◌<◌, ◌≤◌, ◌^◌, Bool, true, false, cond, not, List, [], ◌∷◌, ◌++◌, Option, None, Some, is_some, refl, sym, ap, ◌∙◌, subst, length, length-append, arith, bytes_eq, drop, drop-cons, add-one, zero, suc, slice_get}
+-- The snapshot of a good state makes its documents again, with their revisions, and its marks.
+use Rattle.std.proofs.Common.{◌≡◌, ℕ, ◌+◌, ◌<◌, ◌≤◌, ◌^◌, Bool, true, false, cond, not, List, [], ◌∷◌, ◌++◌, Option, None, Some, is_some, refl, sym, ap, ◌∙◌, subst, length, length-append, arith, bytes_eq, drop, drop-cons, add-one, zero, suc, slice_get, map, get_or, option_map}
 use Rattle.std.proofs.lemmas.Bool.{lt-leb, le-ltb}
 use Rattle.std.proofs.lemmas.List.{append_assoc, append-nil}
-use Rattle.std.proofs.lemmas.Option.{get_or_from_slice_get, slice_get_within}
+use Rattle.std.proofs.lemmas.Option.{get_or_from_slice_get, slice_get-map, slice_get_read, slice_get_within}
 use Rattle.std.specs.Cmp.Lexicographic.{nat_list_eq_equiv}
 use Rattle.std.specs.List.{AllByRecursion}
-use Rattle.record_text.specs.Frame.{AreEntries, IsFramed, frame_of}
+use Rattle.record_text.specs.Frame.{AreEntries, IsFramed, body_of, frame_of, frames_in}
+use Rattle.log_frames.specs.Kinds.{frame_as, frames_as, logged}
+use Rattle.log_frames.specs.declared.kind.Kind.TheVariants.{Kept, Noted}
 use Rattle.doc_changes.specs.Refusals.{first, refused_if}
 use Rattle.schema_rules.specs.declared.profile.Profile.{Profile}
+use Rattle.doc_changes.specs.Marks.{IsMark, Mark}
 use Rattle.doc_changes.specs.State.{Document, State, Good, IsStorable, AreDistinct, AreOffered, AreRevised, find, empty_in, most_documents}
 use Rattle.doc_machine.specs.Entries.{AreTaken, with_all, with_entry}
 use Rattle.doc_changes.specs.Step.{refusals_in}
 use Rattle.doc_changes.specs.declared.refusal.Refusal.{Refusal}
 use Rattle.doc_changes.proofs.Schemas.{refused_not, valid_as_judged}
-use Rattle.store_commits.specs.Snapshot.{creation_of, snapshot_of, snapshot_bytes, RemakesAll}
+use Rattle.store_commits.specs.Snapshot.{creation_of, document_bytes, mark_bytes, snapshot_frame, snapshot_of, snapshot_bytes, RemakesAll}
+use Rattle.store_commits.specs.Notes.{noted_entry}
+use Rattle.store_commits.proofs.Notes.{are_noted, marks_again, notes_framed}
 
 -- ---- names that differ
 
@@ -112,24 +117,78 @@ remakes_all law s good =
       framed = all_entries law s.seq (omega (arith, counted)) s.documents good.storable good.revised;
       taken = all_taken (empty_in s.profile s.seq) s.documents (record { distinct = good.distinct; storable = good.storable; offered = good.offered; few = omega (arith, few); revised = good.revised });
       documents_are = all_remade (empty_in s.profile s.seq) s.documents;
+      notes_framed = notes_framed s.seq (omega (arith, counted)) s.marks good.marked.each good.numbered;
+      noted = are_noted s.profile s.seq s.marks good.marked good.numbered;
+      marks_are = marks_again s.profile s.marks good.marked;
     }
 
 -- ---- the bytes, document by document
 
--- the documents from a place on: the one that stands there, and those behind it
-from_place : (ds : List Document) (i : ℕ) (d : Document) → slice_get ds i ≡ Some d → drop i ds ≡ d ∷ drop (i + 1) ds
-from_place ds i d is = rw add-one (drop-cons ds i d (slice_get_within ds i d is) ∙ ap (λ m. m ∷ drop (suc i) ds) (get_or_from_slice_get ds i d d is))
+-- in format 2 they are the frames of the entries, in format 3 those of a log's snapshot
+documents_2 : (ds : List Document) → document_bytes false ds ≡ frames_in 2 (snapshot_of ds)
+documents_2 [] = refl
+documents_2 (d ∷ ds) = ap (λ l. frame_of (creation_of d) ++ l) (documents_2 ds)
+
+documents_3 : (ds : List Document) → document_bytes true ds ≡ frames_as (map (logged Kept) (snapshot_of ds))
+documents_3 [] = refl
+documents_3 (d ∷ ds) = ap (λ l. frame_as (logged Kept (creation_of d)) ++ l) (documents_3 ds)
+
+marks_3 : (ms : List Mark) → mark_bytes true ms ≡ frames_as (map (logged Noted) (map noted_entry ms))
+marks_3 [] = refl
+marks_3 (m ∷ ms) = ap (λ l. frame_as (logged Noted (noted_entry m)) ++ l) (marks_3 ms)
+
+pub snapshot_2 : (ds : List Document) (ms : List Mark) → snapshot_bytes false ds ms ≡ frames_in 2 (snapshot_of ds)
+snapshot_2 ds ms = documents_2 ds
+
+pub snapshot_3 : (ds : List Document) (ms : List Mark) → snapshot_bytes true ds ms ≡ frames_as (map (logged Noted) (map noted_entry ms)) ++ frames_as (map (logged Kept) (snapshot_of ds))
+snapshot_3 ds ms = λ i. marks_3 ms i ++ documents_3 ds i
+
+-- in each those of the documents are as long
+pub sizes_same : (rides other : Bool) (ds : List Document) → length (document_bytes rides ds) ≡ length (document_bytes other ds)
+sizes_same rides other [] = refl
+sizes_same rides other (d ∷ ds) =
+    let one = frames_same rides other d in
+    let rest = sizes_same rides other ds in
+    omega (arith, one, rest, length-append (snapshot_frame rides d) (document_bytes rides ds), length-append (snapshot_frame other d) (document_bytes other ds))
+  where
+    frame_size : (r : Bool) (d : Document) → length (snapshot_frame r d) ≡ 12 + length (body_of (creation_of d).change)
+    frame_size false d = omega arith
+    frame_size true d = omega arith
+
+    frames_same : (r o : Bool) (d : Document) → length (snapshot_frame r d) ≡ length (snapshot_frame o d)
+    frames_same r o d = frame_size r d ∙ sym (frame_size o d)
+
+-- what stands from a place on: the one that stands there, and those behind it
+from_place : {A : Type 0} (xs : List A) (i : ℕ) (x : A) → slice_get xs i ≡ Some x → drop i xs ≡ x ∷ drop (i + 1) xs
+from_place {A} xs i x is = rw add-one (drop-cons xs i x (slice_get_within xs i x is) ∙ ap (λ (y : A). y ∷ drop (suc i) xs) (get_or_from_slice_get xs i x x is))
 
 -- the frame of one behind those before it
-pub frame_goes : (ds : List Document) (i : ℕ) (d : Document) (bytes longer : List ℕ) → slice_get ds i ≡ Some d → longer ≡ bytes ++ frame_of (creation_of d)
-    → longer ++ snapshot_bytes (drop (i + 1) ds) ≡ bytes ++ snapshot_bytes (drop i ds)
-frame_goes ds i d bytes longer is grown =
-    ap (λ l. l ++ snapshot_bytes (drop (i + 1) ds)) grown
-    ∙ append_assoc bytes (frame_of (creation_of d)) (snapshot_bytes (drop (i + 1) ds))
-    ∙ ap (λ l. bytes ++ snapshot_bytes l) (sym (from_place ds i d is))
+pub frame_goes : (rides : Bool) (ds : List Document) (i : ℕ) (d : Document) (bytes longer : List ℕ) → slice_get ds i ≡ Some d → longer ≡ bytes ++ snapshot_frame rides d
+    → longer ++ document_bytes rides (drop (i + 1) ds) ≡ bytes ++ document_bytes rides (drop i ds)
+frame_goes rides ds i d bytes longer is grown =
+    ap (λ l. l ++ document_bytes rides (drop (i + 1) ds)) grown
+    ∙ append_assoc bytes (snapshot_frame rides d) (document_bytes rides (drop (i + 1) ds))
+    ∙ ap (λ l. bytes ++ document_bytes rides l) (sym (from_place ds i d is))
 
 -- what holds of all holds of the one at a place
 pub storable_at : (ds : List Document) (i : ℕ) (d : Document) → AllByRecursion IsStorable ds → slice_get ds i ≡ Some d → IsStorable d
 storable_at [] i d all is = absurd cc
 storable_at (x ∷ ds) zero d all is = let same : x ≡ d = cc in subst IsStorable same all.0
 storable_at (x ∷ ds) (suc i) d all is = storable_at ds i d all.1 is
+
+-- the frame of a mark behind those of the marks before it
+pub mark_goes : (ms : List Mark) (i : ℕ) (m : Mark) (bytes longer : List ℕ) → slice_get ms i ≡ Some m → longer ≡ bytes ++ frame_as (logged Noted (noted_entry m))
+    → longer ++ mark_bytes true (drop (i + 1) ms) ≡ bytes ++ mark_bytes true (drop i ms)
+mark_goes ms i m bytes longer is grown =
+    ap (λ l. l ++ mark_bytes true (drop (i + 1) ms)) grown
+    ∙ append_assoc bytes (frame_as (logged Noted (noted_entry m))) (mark_bytes true (drop (i + 1) ms))
+    ∙ ap (λ l. bytes ++ mark_bytes true l) (sym (from_place ms i m is))
+
+pub mark_at : (ms : List Mark) (i : ℕ) (m : Mark) → AllByRecursion IsMark ms → slice_get ms i ≡ Some m → IsMark m
+mark_at [] i m all is = absurd cc
+mark_at (x ∷ ms) zero m all is = let same : x ≡ m = cc is in subst IsMark same all.0
+mark_at (x ∷ ms) (suc i) m all is = mark_at ms i m all.1 is
+
+-- what stands at a place, seen through a view
+pub mapped_at : {A B : Type 0} (f : A → B) (xs : List A) (i : ℕ) (x : A) → i < length xs → x ≡ get_or xs i x → slice_get (map f xs) i ≡ Some (f x)
+mapped_at {A} {B} f xs i x within is = slice_get-map f xs i ∙ ap (option_map f) (slice_get_read xs (length xs) i x refl within is)

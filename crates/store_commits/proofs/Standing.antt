@@ -10,18 +10,25 @@ use Rattle.doc_machine.specs.Transaction.{Transaction}
 use Rattle.doc_changes.specs.State.{State}
 use Rattle.store_commits.specs.Account.{Account, IsStanding, account_broken}
 use Rattle.store_commits.specs.Inside.{IsHeld, account_of}
-use Rattle.store_commits.specs.Images.{Holds, Stands, profile_in}
+use Rattle.store_commits.specs.Images.{Holds, Stands, profile_in, version_of_frames}
 use Rattle.store_commits.specs.Folds.{StandsAfter}
 
--- an image that carries bytes of format 2 that hold the state's documents, with its seq, stands for it
-pub stands_by : (state : State) (c : Carried) → c.version ≡ 2 → c.seq ≡ state.seq → profile_in c.rides ≡ state.profile → Holds state.profile 2 state.seq c.bytes state.documents → (image : Image) → Carries c image → Stands state image
+-- an image that carries bytes of format 2 or 3 that hold the state's documents, with its seq, stands for it
+pub stands_by : (state : State) (c : Carried) → c.version ≡ 2 → c.seq ≡ state.seq → profile_in c.rides ≡ state.profile → Holds state.profile (version_of_frames c.rides 2) state.seq c.bytes state.documents state.marks → (image : Image) → Carries c image → Stands state image
 stands_by state c version seq profile holds image carries = record {
   carried = c;
   carries = carries;
   seq_is = seq;
   profile_is = profile;
-  holds = subst (λ (v : ℕ). Holds state.profile v c.seq c.bytes state.documents) (sym version) (subst (λ (n : ℕ). Holds state.profile 2 n c.bytes state.documents) (sym seq) holds);
+  holds = subst (λ (v : ℕ). Holds state.profile (version_of_frames c.rides v) c.seq c.bytes state.documents state.marks) (sym version) (subst (λ (n : ℕ). Holds state.profile (version_of_frames c.rides 2) n c.bytes state.documents state.marks) (sym seq) holds);
 }
+
+-- bytes that hold a state in the format of a journal, of another one in that format
+pub held_by : {D : Type 0} (before now : JournalView D) (state : State) → now.rides ≡ before.rides → (bytes : List ℕ) → now.bytes ≡ bytes → Holds state.profile (version_of_frames before.rides 2) state.seq bytes state.documents state.marks
+    → Holds state.profile (version_of_frames now.rides 2) state.seq now.bytes state.documents state.marks
+held_by before now state rides bytes is holds =
+    subst (λ (r : Bool). Holds state.profile (version_of_frames r 2) state.seq now.bytes state.documents state.marks) (sym rides)
+    (subst (λ (l : List ℕ). Holds state.profile (version_of_frames before.rides 2) state.seq l state.documents state.marks) (sym is) holds)
 
 -- each image of a store that works stands for its state
 pub standing : {D : Type 0} (disk : Disk) (journal : JournalView D) (state : State) → IsHeld disk journal state → IsStanding disk (account_of journal state)
@@ -47,7 +54,7 @@ module _ {D : Type 0} (old new : Disk) (before now : JournalView D) (state : Sta
     seq = broke.stays.seq ∙ held.seq;
     profile = ap profile_in broke.stays.rides ∙ held.profile;
     good = held.good;
-    held = λ honest. let h = same.1 honest in subst (λ (l : List ℕ). Holds state.profile 2 state.seq l state.documents) (sym (broke.stays.bytes h)) (held.held h);
+    held = λ honest. let h = same.1 honest in held_by before now state broke.stays.rides before.bytes (broke.stays.bytes h) (held.held h);
   }
 
   pub broke_is : account_of now state ≡ account_broken (account_of before state)

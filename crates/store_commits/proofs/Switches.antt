@@ -8,7 +8,7 @@ use Rattle.sector_device.specs.Sectors.{sectors_of}
 use Rattle.sector_device.proofs.Charges.{made_joined, failed_joined}
 use Rattle.slot_commits.specs.Loads.{number_end}
 use Rattle.store_journal.specs.Calls.{BeginsWith, Broke, CallFault, CommitFault, Refused, Replaced, Stays, Stepped, Switched}
-use Rattle.store_journal.specs.Carries.{Carried, Carries, EitherCarried, replaced, switched}
+use Rattle.store_journal.specs.Carries.{Carried, Carries, EitherCarried, switched}
 use Rattle.store_journal.specs.JournalView.{JournalView, IsKept, carried_of}
 use Rattle.store_journal.specs.Models.{model}
 use Rattle.store_journal.specs.Writes.{step_count, switch_calls}

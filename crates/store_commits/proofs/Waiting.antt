@@ -10,27 +10,33 @@ use Rattle.store_journal.specs.Carries.{EitherCarried, appended}
 use Rattle.store_journal.specs.JournalView.{JournalView, carried_of}
 use Rattle.store_journal.specs.Models.{model}
 use Rattle.store_journal.specs.Writes.{append_calls}
-use Rattle.doc_machine.specs.Transaction.{AreAccepted, AreFramed, AreGood, Transaction, after_in, changes_of}
+use Rattle.doc_machine.specs.Transaction.{Transaction, after_in, changes_of}
 use Rattle.doc_changes.specs.State.{State, Good}
 use Rattle.store_commits.specs.Account.{Account, Copy, account_broken, with_copy, EndsWith, Extent, extent_of}
 use Rattle.store_commits.specs.Batch.{Commit, IsBatch, IsForced, commit_for, commit_in_doubt, commit_made, failed, passed, to_append, Slot, waits, said, asked, waiting, copy_with, size_of, sizes_of, account_behind, account_committed, AreJudged, AreCommitted, AreInDoubt, calls_for, replies_done, replies_in_doubt}
 use Rattle.store_commits.specs.Copying.{IsCopied, Target, copy_of, target_with}
-use Rattle.store_commits.specs.Folds.{after_each, all_changes, frames_at, StandsAfter}
-use Rattle.store_commits.specs.Inside.{IsHeld, IsStored, LeavesNumbers, account_of, IsAppended, AnswersPart}
-use Rattle.store_commits.specs.Images.{Holds, profile_in}
-use Rattle.store_commits.proofs.Changes.{accepted_append, accepted_in, each_is_all, frames_size, good_last, holds_all, profile_all, seq_counts, sizes_all, some_accepted}
+use Rattle.store_commits.specs.Folds.{after_each, all_changes, frames_for, StandsAfter}
+use Rattle.store_commits.specs.Inside.{AreFramedEach, AreGoodEach, IsHeld, IsStored, LeavesNumbers, account_of, IsAppended, AnswersPart}
+use Rattle.store_commits.specs.Images.{Holds, profile_in, version_of_frames}
+use Rattle.store_commits.proofs.Changes.{AcceptedEach, HaveSome, good_end, holds_each, profile_each, seq_counts, sizes_are, some_accepted}
 use Rattle.store_commits.proofs.Extents.{broken_as, either_as, ending_as}
 use Rattle.store_commits.proofs.Moves.{Moved, done_answered, in_doubt_answered, moved_nowhere}
 use Rattle.store_commits.proofs.Slots.{slots_done, slots_in_doubt}
-use Rattle.store_commits.proofs.Standing.{broke_is, held_broke, stands_by, stands_now}
+use Rattle.store_commits.proofs.Standing.{broke_is, held_broke, held_by, stands_by, stands_now}
 use Rattle.store_commits.proofs.Modelled.{AreCoherent}
 
 -- ---- over lists
 
-pub accepted_all : (a : Account) (slots : List Slot) → AreJudged a slots → AreAccepted a.state (all_changes (waiting slots))
+pub accepted_all : (a : Account) (slots : List Slot) → AreJudged a slots → AcceptedEach a.state (waiting slots)
 accepted_all a [] judged = tt
-accepted_all a (waits c ∷ slots) judged = accepted_append a.state (changes_of c) (all_changes (waiting slots)) (accepted_in a.state c judged.0) (accepted_all (account_behind a c) slots judged.2)
+accepted_all a (waits c ∷ slots) judged = (judged.0, accepted_all (account_behind a c) slots judged.2)
 accepted_all a (said c r ∷ slots) judged = accepted_all a slots judged.1
+
+-- each that waits has a change
+pub some_all : (a : Account) (slots : List Slot) → AreJudged a slots → HaveSome (waiting slots)
+some_all a [] judged = tt
+some_all a (waits c ∷ slots) judged = (some_accepted a.state c judged.0, some_all (account_behind a c) slots judged.2)
+some_all a (said c r ∷ slots) judged = some_all a slots judged.1
 
 -- all that wait fit
 pub room_all : (a : Account) (slots : List Slot) → AreJudged a slots → a.used ≤ capacity_of a.rides a.sectors → a.used + sizes_of (waiting slots) ≤ capacity_of a.rides a.sectors
@@ -85,7 +91,7 @@ next_most false n = omega arith
 -- ---- one append, behind the bytes of a journal that works
 
 module _ {D : Type 0} (disk : D → Disk) (coherent : AreCoherent disk) (before : JournalView D) (state : State) (copy : Option Target) (slots : List Slot) (works : before.broken ≡ false)
-    (judged : AreJudged (with_copy (account_of before state) (copy_of copy)) slots) (framed : AreFramed (all_changes (waiting slots))) (good : AreGood state (all_changes (waiting slots))) (stored : IsStored (disk before.device) before state copy) (numbers : LeavesNumbers before 2) where
+    (judged : AreJudged (with_copy (account_of before state) (copy_of copy)) slots) (framed : AreFramedEach state.seq (waiting slots)) (good : AreGoodEach state (waiting slots)) (stored : IsStored (disk before.device) before state copy) (numbers : LeavesNumbers before 2) where
   abbrev a : Account
   a = with_copy (account_of before state) (copy_of copy)
 
@@ -96,13 +102,13 @@ module _ {D : Type 0} (disk : D → Disk) (coherent : AreCoherent disk) (before 
   adds = length (all_changes (waiting slots))
 
   abbrev frames : List ℕ
-  frames = frames_at state.seq (all_changes (waiting slots))
+  frames = frames_for before.rides state.seq (waiting slots)
 
   size : length frames ≡ sizes_of cs
-  size = frames_size state.seq (all_changes cs) ∙ sym (sizes_all cs)
+  size = sizes_are before.rides state.seq cs
 
   good_then : Good (after_each state cs)
-  good_then = subst Good (sym (each_is_all state cs)) (good_last state (all_changes cs) good)
+  good_then = good_end state cs good
 
   room : length before.bytes + length frames ≤ capacity_of before.rides before.sectors
   room = let all = room_all a slots judged stored.held.kept.used_fits in let sizes = size in omega (arith, all, sizes)
@@ -111,17 +117,17 @@ module _ {D : Type 0} (disk : D → Disk) (coherent : AreCoherent disk) (before 
   pub takes : Takes before (length frames) adds
   takes = record { works = works; fits = room; next_fits = (let left = numbers in omega (arith, left)); seq_fits = (let counted = good_then.counted in let sum = seq_counts state cs in let is = stored.held.seq in omega (arith, counted, sum, is)) }
 
-  holds_behind : (bytes : List ℕ) → Holds state.profile 2 state.seq bytes state.documents → Holds (after_each state cs).profile 2 (after_each state cs).seq (bytes ++ frames) (after_each state cs).documents
-  holds_behind bytes holds = subst (λ (s : State). Holds s.profile 2 s.seq (bytes ++ frames) s.documents) (sym (each_is_all state cs)) (holds_all bytes state (all_changes cs) holds (accepted_all a slots judged) framed good)
+  holds_behind : (bytes : List ℕ) → Holds state.profile (version_of_frames before.rides 2) state.seq bytes state.documents state.marks → Holds (after_each state cs).profile (version_of_frames before.rides 2) (after_each state cs).seq (bytes ++ frames) (after_each state cs).documents (after_each state cs).marks
+  holds_behind bytes holds = holds_each before.rides bytes state cs stored.held.profile holds (accepted_all a slots judged) framed good
 
-  more : (disk before.device).honest → Holds (after_each state cs).profile 2 (after_each state cs).seq (before.bytes ++ frames) (after_each state cs).documents
+  more : (disk before.device).honest → Holds (after_each state cs).profile (version_of_frames before.rides 2) (after_each state cs).seq (before.bytes ++ frames) (after_each state cs).documents (after_each state cs).marks
   more honest = holds_behind before.bytes (stored.held.held honest)
 
   seq_then : before.seq + adds ≡ (after_each state cs).seq
   seq_then = ap (λ (n : ℕ). n + adds) stored.held.seq ∙ sym (seq_counts state cs)
 
   profile_then : profile_in before.rides ≡ (after_each state cs).profile
-  profile_then = stored.held.profile ∙ sym (ap (λ (s : State). s.profile) (each_is_all state cs) ∙ profile_all state (all_changes cs))
+  profile_then = stored.held.profile ∙ sym (profile_each state cs)
 
   either_stands : (disk before.device).honest → (image : Image) → EitherCarried (carried_of before) (appended (carried_of before) frames adds) image → StandsAfter state cs image
   either_stands honest image (inl carries) = stands_now state cs image (stands_by state (carried_of before) stored.held.version stored.held.seq stored.held.profile (stored.held.held honest) image carries)
@@ -153,14 +159,14 @@ module _ {D : Type 0} (disk : D → Disk) (coherent : AreCoherent disk) (before 
         seq = ok.seq ∙ seq_then;
         profile = ap profile_in ok.rides ∙ profile_then;
         good = good_then;
-        held = λ honest. let h = is.honest.1 honest in subst (λ (l : List ℕ). Holds (after_each state cs).profile 2 (after_each state cs).seq l (after_each state cs).documents) (sym (ok.bytes h)) (more h);
+        held = λ honest. let h = is.honest.1 honest in held_by before now (after_each state cs) ok.rides (before.bytes ++ frames) (ok.bytes h) (more h);
       }
 
       -- the target of a copy that runs
       copied_then : (t : Option Target) → IsCopied (disk before.device) before state t → IsCopied (disk now.device) now (after_each state cs) (target_with frames t)
       copied_then None copied = tt
       copied_then (Some t) copied = record {
-        holds = holds_behind t.bytes copied.holds;
+        holds = subst (λ (r : Bool). Holds (after_each state cs).profile (version_of_frames r 2) (after_each state cs).seq (t.bytes ++ frames) (after_each state cs).documents (after_each state cs).marks) (sym ok.rides) (holds_behind t.bytes copied.holds);
         within = (let w = copied.within in omega (arith, w, length-append t.bytes frames));
         copied = λ honest fine. (let h = is.honest.1 honest in
             subst (BeginsWith (take t.standing (t.bytes ++ frames))) (sym (is.outcome.2 h))

@@ -2,7 +2,7 @@
 use Rattle.std.specs.Prelude.{◌≡◌, ℕ, Bool, true, false, Option, None, List, ◌++◌, length}
 use Rattle.sector_device.specs.Disk.{Disk, Image}
 use Rattle.doc_changes.specs.State.{State}
-use Rattle.store_commits.specs.Images.{Stands, Holds, profile_in}
+use Rattle.store_commits.specs.Images.{Stands, Holds, profile_in, version_of_frames}
 use Rattle.store_journal.specs.Carries.{Carries}
 use Rattle.store_journal.specs.Models.{model}
 
@@ -62,7 +62,7 @@ pub record StandsAs (l : Extent) (image : Image) : Type 0 where
   pub opens : ℕ
   pub carries : Carries (record { version = 2; rides = l.rides; half = l.half; bytes = bytes; seq = l.state.seq; opens = opens; identity = l.identity }) image
   pub profile_is : profile_in l.rides ≡ l.state.profile
-  pub holds : Holds l.state.profile 2 l.state.seq bytes l.state.documents
+  pub holds : Holds l.state.profile (version_of_frames l.rides 2) l.state.seq bytes l.state.documents l.state.marks
   pub used_is : l.used ≡ length bytes
   pub sectors_is : l.sectors ≡ length image
 

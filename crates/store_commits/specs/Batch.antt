@@ -4,8 +4,9 @@ use Rattle.store_journal.specs.Models.{model}
 use Rattle.store_journal.specs.Writes.{append_calls}
 use Rattle.record_text.specs.Change.{Change}
 use Rattle.record_text.specs.Frame.{body_of}
+use Rattle.log_frames.specs.Kinds.{note}
 use Rattle.doc_changes.specs.Refusals.{plain}
-use Rattle.doc_machine.specs.Transaction.{Transaction, after_in, changes_of, refusal_in}
+use Rattle.doc_machine.specs.Transaction.{Transaction, after_in, changes_of, marked, refusal_in, several, single}
 use Rattle.doc_changes.specs.declared.refusal.Refusal.{Refusal}
 use Rattle.refusals.specs.declared.numbers.TheConstants.{DEVICE, FULL, BROKEN}
 use Rattle.store_commits.specs.Account.{Account, Copy, account_broken, StoreView, EndsWith, IsEndingWith, StandsAs, extent_of}
@@ -14,16 +15,22 @@ use Rattle.store_commits.specs.Snapshot.{FitNowhere, Fits, IsOver, NeedsSnapshot
 use Rattle.store_commits.specs.Replacing.{FitsAfter, IsOverAfter, account_after}
 use Rattle.sector_device.specs.Disk.{Disk, Image}
 use Rattle.sector_device.specs.Charges.{Made, Failed}
-use Rattle.store_commits.specs.Folds.{all_changes, frames_at}
+use Rattle.store_commits.specs.Folds.{frames_for}
 
 -- the bytes of the frames of changes, whatever their seqs: of each, its length and its seq take 12, and then the body
 abbrev pub frame_sizes : List Change → ℕ
 frame_sizes [] = 0
 frame_sizes (c ∷ cs) = (12 + length (body_of c)) + frame_sizes cs
 
+-- those of the frame of its mark, if it sets one
+abbrev pub mark_size : Transaction → ℕ
+mark_size (single c) = 0
+mark_size (several cs) = 0
+mark_size (marked m cs) = 12 + length (body_of (note m.key m.value))
+
 -- the bytes of the frames of a transaction
 abbrev pub size_of : Transaction → ℕ
-size_of t = frame_sizes (changes_of t)
+size_of t = frame_sizes (changes_of t) + mark_size t
 
 -- the target of a running copy grows by `n` bytes
 abbrev pub copy_with : Option Copy → ℕ → Option Copy
@@ -107,15 +114,15 @@ pub record Intent : Type 0 where
   pub made : Account
   pub ending : List ℕ
 
--- those that wait: the frames of all their changes, each with its own seq
+-- those that wait: the frames of all their changes, each with its own seq, and of their marks
 abbrev pub to_append : Account → List Slot → Intent
-to_append a slots = record { calls = calls_for a.rides a.used (waiting slots); made = account_committed a slots; ending = frames_at a.state.seq (all_changes (waiting slots)) }
+to_append a slots = record { calls = calls_for a.rides a.used (waiting slots); made = account_committed a slots; ending = frames_for a.rides a.state.seq (waiting slots) }
 
 -- a snapshot
 abbrev pub to_snapshot : Account → Intent
-to_snapshot a = record { calls = calls_of_snapshot a; made = account_with_snapshot a; ending = snapshot_bytes a.state.documents }
+to_snapshot a = record { calls = calls_of_snapshot a; made = account_with_snapshot a; ending = snapshot_bytes a.rides a.state.documents a.state.marks }
 
--- the snapshot of the documents after the transaction
+-- the snapshot of the state after the transaction
 abbrev pub to_replace : Account → Transaction → Intent
 to_replace a t = to_snapshot (account_after a t)
 

@@ -6,7 +6,7 @@ use Rattle.store_journal.specs.Calls.{BeginsWith}
 use Rattle.store_journal.specs.JournalView.{JournalView}
 use Rattle.doc_changes.specs.State.{State}
 use Rattle.store_commits.specs.Account.{Copy, Account}
-use Rattle.store_commits.specs.Images.{Holds}
+use Rattle.store_commits.specs.Images.{Holds, version_of_frames}
 use Rattle.store_commits.specs.Snapshot.{snapshot_bytes, CanHold, IsCopyInDoubt, IsOverlong, StopsBefore, snapshot_size}
 use Rattle.store_commits.specs.declared.copying.Copying.{Copying}
 use Rattle.store_journal.specs.Calls as journal
@@ -37,9 +37,9 @@ count_of t = record { target = length t.bytes; standing = t.standing }
 abbrev pub copy_of : Option Target → Option Copy
 copy_of t = option_map count_of t
 
--- The target holds the state's documents in format 2, and the first `standing` bytes of it are what the other half is known to begin with.
+-- The target holds the state's documents and marks in the store's format, and the first `standing` bytes of it are what the other half is known to begin with.
 pub record IsCopying {D : Type 0} (disk : Disk) (journal : JournalView D) (state : State) (t : Target) : Type 0 where
-  pub holds : Holds state.profile 2 state.seq t.bytes state.documents
+  pub holds : Holds state.profile (version_of_frames journal.rides 2) state.seq t.bytes state.documents state.marks
   pub within : t.standing ≤ length t.bytes
   pub copied : disk.honest → journal.broken ≡ false → BeginsWith (take t.standing t.bytes) journal.copied
   -- a number is left for the switch
@@ -51,8 +51,8 @@ IsCopied disk journal state None = ⊤
 IsCopied disk journal state (Some t) = IsCopying disk journal state t
 
 -- the copy that a step goes on with: the one that runs, else one of the snapshot of the state, of which no byte is written yet
-abbrev pub IsBegun : State → Option Target → Target → Type 0
-IsBegun state copy t = t ≡ unwrap_or copy (record { bytes = snapshot_bytes state.documents; standing = 0 })
+abbrev pub IsBegun : Bool → State → Option Target → Target → Type 0
+IsBegun rides state copy t = t ≡ unwrap_or copy (record { bytes = snapshot_bytes rides state.documents state.marks; standing = 0 })
 
 -- the target with more bytes after it
 abbrev pub target_with : List ℕ → Option Target → Option Target

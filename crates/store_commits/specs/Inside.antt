@@ -1,11 +1,16 @@
 -- The view of a journal and a machine as a store; and a batch that is being made, how its commits are planned and what is done of it already.
-use Rattle.std.specs.Prelude.{◌≡◌, ◌≤◌, ◌<◌, length, true, None, Option, ◌⊎◌, ◌↔◌, ℕ, ◌+◌, List, [], ◌∷◌, ◌++◌, Bool, false, Some, Vec}
+use Rattle.std.specs.Prelude.{◌≡◌, ◌≤◌, ◌<◌, length, true, None, Option, ◌⊎◌, ◌↔◌, ℕ, ◌+◌, List, [], ◌∷◌, ◌++◌, Bool, false, Some, Vec, if◌then◌else◌, ◌&&◌, nat_lt, ⊤}
 use Rattle.sector_device.specs.Disk.{Disk, LeavesOnly}
 use Rattle.store_journal.specs.JournalView.{JournalView, IsKept, carried_of}
 use Rattle.doc_changes.specs.State.{State, Good}
+use Rattle.record_text.specs.Change.{Change}
+use Rattle.record_text.specs.Frame.{entry}
+use Rattle.log_frames.specs.Kinds.{frame_as, logged}
+use Rattle.log_frames.specs.declared.kind.Kind.{Kind}
+use Rattle.log_frames.specs.declared.kind.Kind.TheVariants.{Last, More}
 use Rattle.store_commits.specs.Account.{Account, StoreView, with_copy}
 use Rattle.store_commits.specs.Copying.{IsCopied, Target, copy_of}
-use Rattle.store_commits.specs.Images.{Holds, profile_in}
+use Rattle.store_commits.specs.Images.{Holds, profile_in, version_of_frames}
 use Rattle.std.specs.Global.{Global}
 use Rattle.sector_device.specs.Sectors.{sectors_of}
 use Rattle.store_journal.specs.Layout.{capacity_of}
@@ -17,9 +22,9 @@ use Rattle.slot_commits.specs.Loads.{number_end}
 use Rattle.doc_changes.specs.Refusals.{plain}
 use Rattle.doc_machine.specs.Trial.{TrialView}
 use Rattle.refusals.specs.declared.numbers.TheConstants.{BROKEN, DEVICE, FULL}
-use Rattle.doc_machine.specs.Transaction.{AreFramed, AreGood, Transaction, after_in, befores, refusal_in}
+use Rattle.doc_machine.specs.Transaction.{AreFramed, AreGood, IsNoted, Transaction, after_in, befores, changes_of, refusal_in}
 use Rattle.store_commits.specs.Batch.{AreMade, Commit, HasNoRoom, IsBatch, IsForced, Slot, AreJudged, account_committed, asked, changes, replies_done, said, size_of, sizes_of, waiting, waits}
-use Rattle.store_commits.specs.Folds.{after_each, all_changes, frames_at}
+use Rattle.store_commits.specs.Folds.{after_each, all_changes, frames_for, mark_after}
 use Rattle.store_commits.specs.Replacing.{FitsAfter, account_after}
 use Rattle.store_commits.specs.Snapshot.{FitNowhere, NeedsSnapshot, snapshot_bytes, account_with_snapshot}
 use Rattle.store_commits.specs.Run.{Batched, Lasts, Reply, Done, Refused, dones_of, hits_of}
@@ -48,7 +53,7 @@ account_of journal state = record {
 abbrev pub store_view : {D : Type 0} → JournalView D → State → Option Target → StoreView D
 store_view journal state copy = record { device = journal.device; account = with_copy (account_of journal state) (copy_of copy) }
 
--- the machine is what the journal's bytes hold, in format 2, with the journal's seq and the profile of its format
+-- the machine is what the journal's bytes hold, in format 2 or 3, with the journal's seq and the profile of its format
 pub record IsHeld {D : Type 0} (disk : Disk) (journal : JournalView D) (state : State) : Type 0 where
   pub kept : IsKept disk journal
   pub version : journal.version ≡ 2
@@ -56,7 +61,7 @@ pub record IsHeld {D : Type 0} (disk : Disk) (journal : JournalView D) (state : 
   pub seq : journal.seq ≡ state.seq
   pub profile : profile_in journal.rides ≡ state.profile
   pub good : Good state
-  pub held : disk.honest → Holds state.profile 2 state.seq journal.bytes state.documents
+  pub held : disk.honest → Holds state.profile (version_of_frames journal.rides 2) state.seq journal.bytes state.documents state.marks
 
 -- the same, and the copy that runs holds this state
 pub record IsStored {D : Type 0} (disk : Disk) (journal : JournalView D) (state : State) (copy : Option Target) : Type 0 where
@@ -67,6 +72,15 @@ pub record IsStored {D : Type 0} (disk : Disk) (journal : JournalView D) (state 
 abbrev pub LeavesNumbers : {D : Type 0} → JournalView D → ℕ → Type 0
 LeavesNumbers journal commits = journal.next + commits ≤ number_end
 
+-- what the frame of a change holds that `left` frames of its transaction follow, by the format
+abbrev pub kind_of : Bool → ℕ → Kind
+kind_of rides left = if rides && nat_lt 0 left then More else Last
+
+-- the frames of changes of a transaction that `more` frames of it follow
+abbrev pub frames_before : Bool → ℕ → ℕ → List Change → List ℕ
+frames_before rides more seq [] = []
+frames_before rides more seq (c ∷ cs) = frame_as (logged (kind_of rides (length cs + more)) (entry (seq + 1) c)) ++ frames_before rides more (seq + 1) cs
+
 -- ---- one commit
 
 -- a reply that was to be given once the commit was made, as it is given
@@ -76,11 +90,21 @@ answered InDoubt (Done seq) = Refused (plain DEVICE)
 answered InDoubt r = r
 answered NotBegun r = Refused (plain BROKEN)
 
+-- a journal can hold each change and each mark of transactions that are accepted from this seq on
+abbrev pub AreFramedEach : ℕ → List Transaction → Type 0
+AreFramedEach seq [] = ⊤
+AreFramedEach seq (t ∷ ts) = AreFramed (changes_of t) × IsNoted (mark_after seq t) × AreFramedEach (seq + length (changes_of t)) ts
+
+-- the state is good, and so is the one after each of their changes, and after each mark
+abbrev pub AreGoodEach : State → List Transaction → Type 0
+AreGoodEach s [] = Good s
+AreGoodEach s (t ∷ ts) = AreGood s (changes_of t) × AreGoodEach (after_in s t) ts
+
 -- The segment has the frames of these transactions and the number of their changes, which a journal can hold.
-pub record HasFrames (s : State) (ts : List Transaction) (segment : Segment) : Type 0 where
-  pub framed : AreFramed (all_changes ts)
-  pub good : AreGood s (all_changes ts)
-  pub frames : segment.frames.items ≡ frames_at s.seq (all_changes ts)
+pub record HasFrames (rides : Bool) (s : State) (ts : List Transaction) (segment : Segment) : Type 0 where
+  pub framed : AreFramedEach s.seq ts
+  pub good : AreGoodEach s ts
+  pub frames : segment.frames.items ≡ frames_for rides s.seq ts
   pub adds : segment.adds ≡ length (all_changes ts)
 
 -- nothing waits, and nothing is answered
@@ -94,16 +118,16 @@ pub record IsEmpty (segment : Segment) : Type 0 where
 -- another; or one goes after a snapshot; or the snapshot of the documents after one goes in place of its frames; or there is no room for one. It leads to an account, and the others are left.
 pub data IsSegment (a : Account) (left : List Transaction) : Base → List Slot → Account → Type 0 where
   together : (slots : List Slot) → AreJudged a slots → IsForced (account_committed a slots) left → IsSegment a left Used slots (account_committed a slots)
-  behind : (t : Transaction) (snapshot : Vec ℕ Global) → snapshot.items ≡ snapshot_bytes a.state.documents → refusal_in a.state t ≡ None → NeedsSnapshot a (size_of t)
+  behind : (t : Transaction) (snapshot : Vec ℕ Global) → snapshot.items ≡ snapshot_bytes a.rides a.state.documents a.state.marks → refusal_in a.state t ≡ None → NeedsSnapshot a (size_of t)
       → IsSegment a left (Before snapshot) (waits t ∷ []) (account_committed (account_with_snapshot a) (waits t ∷ []))
-  instead : (t : Transaction) (snapshot : Vec ℕ Global) → snapshot.items ≡ snapshot_bytes (after_in a.state t).documents → refusal_in a.state t ≡ None → FitNowhere a (size_of t) → FitsAfter a t
+  instead : (t : Transaction) (snapshot : Vec ℕ Global) → snapshot.items ≡ snapshot_bytes a.rides (after_in a.state t).documents (after_in a.state t).marks → refusal_in a.state t ≡ None → FitNowhere a (size_of t) → FitsAfter a t
       → IsSegment a left (After snapshot) (waits t ∷ []) (account_with_snapshot (account_after a t))
   full : (t : Transaction) → refusal_in a.state t ≡ None → HasNoRoom a t → IsSegment a left Used (said t (plain FULL) ∷ []) a
 
 -- from an account, the segment answers the transactions that were judged in this way, once those that wait are committed
 pub record IsPart (a : Account) (left : List Transaction) (segment : Segment) (slots : List Slot) (b : Account) : Type 0 where
   pub is : IsSegment a left segment.base slots b
-  pub has : HasFrames a.state (waiting slots) segment
+  pub has : HasFrames a.rides a.state (waiting slots) segment
   pub replies : segment.replies.items ≡ replies_done a.state.seq slots
 
 -- segments one after another, from an account to an account, and how their transactions were judged
@@ -203,9 +227,14 @@ pub record HasCommitted {D : Type 0} (disk : D → Disk) (old : StoreView D) (cs
 
 -- ---- the plan
 
+-- the states before each change of transactions
+abbrev pub befores_each : State → List Transaction → List State
+befores_each s [] = []
+befores_each s (t ∷ ts) = befores s (changes_of t) ++ befores_each (after_in s t) ts
+
 -- a trial on which these transactions were made
 abbrev pub tried_from : State → List Transaction → TrialView
-tried_from s ts = record { state = after_each s ts; past = befores s (all_changes ts) }
+tried_from s ts = record { state = after_each s ts; past = befores_each s ts }
 
 -- From an account transactions were judged in this way: whatever more is planned after the segments from the account in
 -- between makes a plan with them; the open segment has those since, and all that are accepted were made on the trial.
@@ -216,7 +245,7 @@ pub record IsPlanning (a : Account) (slots : List Slot) (p : Planning) (t : Tria
   pub parts : closed ++ since ≡ slots
   pub goes : (more : List Segment) (xs : List Slot) (end : Account) → ArePlanned mid more xs end → ArePlanned a (p.segments.items ++ more) (closed ++ xs) end
   pub judged : AreJudged mid since
-  pub has : HasFrames mid.state (waiting since) p.last
+  pub has : HasFrames mid.rides mid.state (waiting since) p.last
   pub base : p.last.base ≡ Used
   pub replies : p.last.replies.items ≡ replies_done mid.state.seq since
   pub room : mid.used + sizes_of (waiting since) + p.left ≡ capacity_of mid.rides mid.sectors
@@ -246,8 +275,8 @@ pub record IsAlone (old : Planning) (base : Base) (used : ℕ) (frames : Vec ℕ
 
 -- the snapshot of the documents, if one may go in place of frames and fits
 abbrev pub IsInstead : Planning → State → Option (Vec ℕ Global) → Type 0
-IsInstead p s None = p.rides ≡ true → p.capacity < length (snapshot_bytes s.documents)
-IsInstead p s (Some v) = (p.rides ≡ true) × (v.items ≡ snapshot_bytes s.documents) × (length v.items ≤ p.capacity)
+IsInstead p s None = p.rides ≡ true → p.capacity < length (snapshot_bytes p.rides s.documents s.marks)
+IsInstead p s (Some v) = (p.rides ≡ true) × (v.items ≡ snapshot_bytes p.rides s.documents s.marks) × (length v.items ≤ p.capacity)
 
 -- or it only says that there is no room
 pub record IsFull (old new : Planning) : Type 0 where

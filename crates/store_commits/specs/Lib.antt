@@ -1,3 +1,4 @@
+pub mod Notes
 pub mod Images
 pub mod Snapshot
 pub mod Replay

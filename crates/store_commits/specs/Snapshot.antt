@@ -1,8 +1,11 @@
--- Snapshots: documents as entries that make them again, each with its revision; the answer to a snapshot; and the room that it makes.
-use Rattle.std.specs.Prelude.{◌≡◌, ℕ, List, [], ◌∷◌, ◌⊎◌, ◌+◌, ◌-◌, ◌≤◌, ◌<◌, length, true, false, None, Result, Ok, Err}
+-- Snapshots: marks and documents as entries that make them again, each document with its revision; the answer to a snapshot; and the room that it makes.
+use Rattle.std.specs.Prelude.{◌≡◌, ℕ, Bool, List, [], ◌∷◌, ◌++◌, map, ◌⊎◌, ◌+◌, ◌-◌, ◌≤◌, ◌<◌, length, true, false, None, Result, Ok, Err}
 use Rattle.record_text.specs.Change.{create}
-use Rattle.record_text.specs.Frame.{Entry, entry, AreEntries, frames_in}
+use Rattle.record_text.specs.Frame.{Entry, entry, AreEntries, frame_of}
+use Rattle.log_frames.specs.Kinds.{frame_as, logged}
+use Rattle.log_frames.specs.declared.kind.Kind.TheVariants.{Kept, Noted}
 use Rattle.doc_machine.specs.Entries.{AreTaken, with_all}
+use Rattle.doc_changes.specs.Marks.{Mark}
 use Rattle.doc_changes.specs.State.{Document, State, empty_in}
 use Rattle.refusals.specs.declared.numbers.TheConstants.{MEMORY, FULL, DEVICE, BROKEN}
 use Rattle.store_journal.specs.Layout.{capacity_of}
@@ -11,6 +14,7 @@ use Rattle.sector_device.specs.Sectors.{sectors_of}
 use Rattle.doc_changes.specs.Refusals.{plain}
 use Rattle.doc_changes.specs.declared.refusal.Refusal.{Refusal}
 use Rattle.store_commits.specs.Account.{Account, account_broken}
+use Rattle.store_commits.specs.Notes.{AreNoted, noted_entry, with_marks}
 
 -- a document's creation, with its present schema and its revision
 abbrev pub creation_of : Document → Entry
@@ -21,19 +25,38 @@ abbrev pub snapshot_of : List Document → List Entry
 snapshot_of [] = []
 snapshot_of (d ∷ ds) = creation_of d ∷ snapshot_of ds
 
--- the bytes of the snapshot, in format 2
-abbrev pub snapshot_bytes : List Document → List ℕ
-snapshot_bytes ds = frames_in 2 (snapshot_of ds)
+-- the frame of one; in format 3, the one in which the last bytes ride in slots, it says that it is a snapshot's
+abbrev pub snapshot_frame : Bool → Document → List ℕ
+snapshot_frame false d = frame_of (creation_of d)
+snapshot_frame true d = frame_as (logged Kept (creation_of d))
 
--- the snapshot of a state makes its documents from none: a journal can hold each creation, each is taken under the state's seq, and what they make are these documents in their order, with their revisions
+-- these of all documents, back to back
+abbrev pub document_bytes : Bool → List Document → List ℕ
+document_bytes rides [] = []
+document_bytes rides (d ∷ ds) = snapshot_frame rides d ++ document_bytes rides ds
+
+-- the frames of marks, back to back: in format 3 alone
+abbrev pub mark_bytes : Bool → List Mark → List ℕ
+mark_bytes false ms = []
+mark_bytes true [] = []
+mark_bytes true (m ∷ ms) = frame_as (logged Noted (noted_entry m)) ++ mark_bytes true ms
+
+-- the bytes of the snapshot: the marks, the one that was set first is the first, and then the documents
+abbrev pub snapshot_bytes : Bool → List Document → List Mark → List ℕ
+snapshot_bytes rides ds ms = mark_bytes rides ms ++ document_bytes rides ds
+
+-- The snapshot of a state makes its documents from none: a journal can hold each creation, each is taken under the state's seq, and what they make are these documents in their order, with their revisions. And it makes the marks, in their order.
 pub record RemakesAll (s : State) : Type 0 where
   pub framed : AreEntries 2 (snapshot_of s.documents)
   pub taken : AreTaken (empty_in s.profile s.seq) (snapshot_of s.documents)
   pub documents_are : (with_all (empty_in s.profile s.seq) (snapshot_of s.documents)).documents ≡ s.documents
+  pub notes_framed : AreEntries 2 (map noted_entry s.marks)
+  pub noted : AreNoted s.profile s.seq s.marks
+  pub marks_are : with_marks [] s.marks ≡ s.marks
 
 -- the bytes that the snapshot of the state has
 abbrev pub snapshot_size : Account → ℕ
-snapshot_size a = length (snapshot_bytes a.state.documents)
+snapshot_size a = length (snapshot_bytes a.rides a.state.documents a.state.marks)
 
 -- the store works, and a half has room for `size` bytes
 pub record CanHold (a : Account) (size : ℕ) : Type 0 where

@@ -51,13 +51,15 @@ pub fn grow(copy: &mut Option<Copying>, more: &[u8])
     }
 }
 
-/// Takes the copy that runs, or begins one with a snapshot of the documents, which alone takes memory.
+/// Takes the copy that runs, or begins one with a snapshot of the documents, of format 3 if `rides`, which alone takes
+/// memory.
 pub fn take_or_begin(
     alloc: Global,
     machine: &Machine,
+    rides: bool,
     copy: &mut Option<Copying>,
 ) -> Result<Copying, AllocError>
-    ensures ok { IfOk result (λ copying. IsBegun machine.now (target_of copy.old) (view_of copying)) }
+    ensures ok { IfOk result (λ copying. IsBegun rides machine.now (target_of copy.old) (view_of copying)) }
     ensures err { OnErr result (target_of copy.old ≡ None) }
     ensures taken { target_of copy.new ≡ None }
     ensures good { Good machine.now }
@@ -66,7 +68,7 @@ pub fn take_or_begin(
         machine.know();
         return Ok(copying);
     }
-    let target = creations(alloc, &machine.look())?;
+    let target = creations(alloc, &machine.look(), rides)?;
     Ok(Copying {
         target,
         standing: 0,

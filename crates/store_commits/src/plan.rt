@@ -2,13 +2,13 @@
 //! the device is called.
 ghost use Rattle.std.specs.Prelude.{◌≡◌, ◌+◌, ◌-◌, ◌*◌, ◌^◌, ◌≤◌, ◌<◌, List, [], length, map, min, OnOk, IfOk};
 ghost use Rattle.store_journal.specs.Layout.{capacity_of};
-ghost use Rattle.doc_machine.specs.Transaction.{RefusesTransaction, changes_of, transaction_of};
+ghost use Rattle.doc_machine.specs.Transaction.{RefusesTransaction, transaction_of};
 ghost use Rattle.doc_machine.specs.Transaction.{Transaction as Asked};
 ghost use Rattle.doc_machine.specs.Trial.{TrialView, state_at};
 ghost use Rattle.store_commits.specs.Account.{Account, with_copy};
 ghost use Rattle.store_commits.specs.Batch.{Slot, asked};
 ghost use Rattle.store_commits.specs.Copying.{HasSpare, copy_of, target_of};
-ghost use Rattle.store_commits.specs.Folds.{frames_at};
+ghost use Rattle.store_commits.specs.Folds.{frames_of};
 ghost use Rattle.store_commits.specs.Inside.{account_of, ArePrepared, IsAlone, IsFull, IsInstead, LeavesNumbers, PlansOneMore, IsPlanning, bytes_in};
 
 use crate::copying::{Copying, reserve};
@@ -28,7 +28,7 @@ use store_journal::Journal;
 pub(crate) struct Planning {
     /// The bytes of a half.
     pub capacity: u64,
-    /// A snapshot may be committed in place of frames: format 3.
+    /// The store is in format 3: a snapshot may be committed in place of frames, and frames say what they hold.
     pub rides: bool,
     /// The bytes that are left in the half that counts, once all that is planned is committed.
     pub left: u64,
@@ -133,7 +133,7 @@ impl Planning {
         ensures ok { OnOk result ((a : Account) (slots : List Slot) → IsPlanning a slots self.old trial.old → PlansOneMore a slots (transaction_of transaction) self.new trial.new) }
         ensures origin { state_at 0 trial.new ≡ state_at 0 trial.old }
     {
-        let Some(frames) = frames(alloc, &transaction, trial.seq()) else {
+        let Some(frames) = frames(alloc, &transaction, trial.seq(), self.rides) else {
             return self.judge(trial, transaction);
         };
         if frames.len() as u64 <= self.left {
@@ -176,7 +176,7 @@ impl Planning {
         transaction: Transaction,
         frames: &[u8],
     ) -> Result<(), AllocError>
-        requires frames { frames.now ≡ frames_at trial.old.state.seq (changes_of (transaction_of transaction)) }
+        requires frames { frames.now ≡ frames_of self.old.rides trial.old.state.seq (transaction_of transaction) }
         requires fits { length frames.now ≤ self.old.left }
         ensures ok { OnOk result ((a : Account) (slots : List Slot) → IsPlanning a slots self.old trial.old → PlansOneMore a slots (transaction_of transaction) self.new trial.new) }
         ensures origin { state_at 0 trial.new ≡ state_at 0 trial.old }
@@ -211,13 +211,13 @@ impl Planning {
         transaction: Transaction,
         frames: Vec<u8>,
     ) -> Result<(), AllocError>
-        requires frames { frames.items ≡ frames_at trial.old.state.seq (changes_of (transaction_of transaction)) }
+        requires frames { frames.items ≡ frames_of self.old.rides trial.old.state.seq (transaction_of transaction) }
         requires over { self.old.left < length frames.items }
         ensures ok { OnOk result ((a : Account) (slots : List Slot) → IsPlanning a slots self.old trial.old → PlansOneMore a slots (transaction_of transaction) self.new trial.new) }
         ensures origin { state_at 0 trial.new ≡ state_at 0 trial.old }
     {
         // This snapshot has the documents before the transaction, so it is made before that is tried.
-        let snapshot = creations(alloc, &trial.look())?;
+        let snapshot = creations(alloc, &trial.look(), self.rides)?;
         let before = trial.len() as u64;
         let adds = transaction.len() as u64;
         let seq = match trial.transact(transaction) {
@@ -243,7 +243,7 @@ impl Planning {
         if !self.rides {
             return Ok(None);
         }
-        let after = creations(alloc, &trial.look())?;
+        let after = creations(alloc, &trial.look(), self.rides)?;
         if after.len() as u64 <= self.capacity {
             Ok(Some(after))
         } else {

@@ -3,6 +3,7 @@ ghost use Rattle.std.specs.Prelude.{IfOk, IfSome};
 ghost use Rattle.sector_device.specs.Charges.{IsSameRead};
 ghost use Rattle.sector_device.specs.Sectors.{KeepsImages};
 ghost use Rattle.doc_changes.specs.State.{Good};
+ghost use Rattle.frame_search.specs.Places.{IsFrameFormat};
 ghost use Rattle.store_parts.specs.Parts.{AreParts, HasPart};
 
 use crate::taking::{Doubt, Gathered, gather};
@@ -79,7 +80,7 @@ fn made_of<D: SectorDevice>(
 {
     let PartBytes { bytes, unread } = read_part(alloc, device, part)?;
     let check = check_of(part, &bytes);
-    let version = if found.format == 1 { 1 } else { 2 };
+    let version = frames_of(found);
     let profile = if found.format == 3 {
         Profile::Three
     } else {
@@ -117,5 +118,16 @@ fn newer(best: Option<Made>, other: Made) -> Option<Made>
                 Some(best)
             }
         }
+    }
+}
+
+// The format of the frames.
+fn frames_of(found: &Findings) -> u32
+    ensures { IsFrameFormat result }
+{
+    match found.format {
+        1 => 1,
+        3 => 3,
+        _ => 2,
     }
 }

@@ -1,8 +1,8 @@
 //! The documents that frames make which are found among damaged bytes.
-ghost use Rattle.std.specs.Prelude.{◌≡◌, ◌≤◌, IfOk, MatchOption};
-ghost use Rattle.half_journal.specs.Layout.{IsFormat};
+ghost use Rattle.std.specs.Prelude.{◌≡◌, ◌≤◌, IfOk, MatchOption, false};
 ghost use Rattle.doc_changes.specs.State.{Good};
-ghost use Rattle.frame_search.specs.Places.{entry_in};
+ghost use Rattle.frame_search.specs.Places.{IsFrameFormat, logged_in};
+ghost use Rattle.log_frames.specs.Kinds.{is_noted};
 ghost use Rattle.record_text.specs.Change.{change_of};
 ghost use Rattle.record_text.specs.Frame.{entry};
 ghost use Rattle.store_salvage.specs.Gathering.{Gathers, IsTakenWith, TakesOrNot};
@@ -43,9 +43,9 @@ pub struct Gathered {
     pub last: u64,
 }
 
-/// Has the machine take the frames of that format in the bytes, one after another. If no commit counts these
-/// bytes (`counted`), old frames may follow the last one: then only creations at the beginning, with nothing between
-/// them, and frames newer than all before them are taken. `Err`: memory was refused.
+/// Has the machine take the frames of that format in the bytes, one after another; those of marks are passed over. If no
+/// commit counts these bytes (`counted`), old frames may follow the last one: then only creations at the beginning, with
+/// nothing but marks between them, and frames newer than all before them are taken. `Err`: memory was refused.
 pub fn gather(
     alloc: Global,
     bytes: &[u8],
@@ -53,7 +53,7 @@ pub fn gather(
     counted: bool,
     machine: Machine,
 ) -> Result<Gathered, AllocError>
-    requires { IsFormat version }
+    requires { IsFrameFormat version }
     ensures gathers { IfOk result (λ g. Gathers version bytes.now machine g.machine) }
     ensures good { IfOk result (λ g. Good g.machine) }
 {
@@ -100,9 +100,23 @@ fn is_creation(command: &Command) -> bool {
     matches!(command, Command::Create { .. })
 }
 
-// What was gathered, with a frame more if it is allowed and the machine takes it, or with a doubt.
+// What was gathered, with a frame more if it is allowed and the machine takes it, or with a doubt. That of a mark changes
+// nothing: no document has it.
 fn take(gathered: Gathered, found: Found, allowed: bool) -> Result<Gathered, AllocError>
-    ensures taken { IfOk result (λ g. TakesOrNot gathered.machine (entry_in found) g.machine) }
+    requires good { Good gathered.machine }
+    ensures taken { IfOk result (λ g. TakesOrNot gathered.machine (logged_in found) g.machine) }
+    ensures good { IfOk result (λ g. Good g.machine) }
+{
+    if found.kind.is_noted() {
+        return Ok(gathered);
+    }
+    take_change(gathered, found, allowed)
+}
+
+// The same of the frame of a change.
+fn take_change(gathered: Gathered, found: Found, allowed: bool) -> Result<Gathered, AllocError>
+    requires { is_noted found.kind ≡ false }
+    ensures taken { IfOk result (λ g. TakesOrNot gathered.machine (logged_in found) g.machine) }
     ensures good { IfOk result (λ g. Good g.machine) }
 {
     let Gathered {
@@ -116,6 +130,7 @@ fn take(gathered: Gathered, found: Found, allowed: bool) -> Result<Gathered, All
         len,
         seq,
         command,
+        ..
     } = found;
     match try_taking(&mut machine, command, seq, allowed) {
         None => Ok(Gathered {

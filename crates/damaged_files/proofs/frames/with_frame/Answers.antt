@@ -8,7 +8,7 @@ pub returns : goal.returns
 returns c =
     let place = c.args.place in
     let text = c.args.text.items in
-    let head = frame_head c.args.part.now c.args.check place.at place.seq in
+    let head = frame_head c.args.part.now c.args.check place.at place.kind place.seq in
     let body = drop (head_of c.args.version) (take place.len (drop place.at c.args.bytes.now)) in
     let is = rest_of c.args.bytes.now place.at place.len (head_of c.args.version) c.head_of.result c.head_of.ensures in
     let first : c.extend_from_slice.new.self.items ≡ (text ++ head) ++ body = c.in_ok-extend_from_slice.ensures.items ∙ ap (λ l. c.in_ok-text.text.items ++ l) is ∙ ap (λ l. l ++ body) c.in_ok-text.ensures in

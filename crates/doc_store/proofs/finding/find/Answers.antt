@@ -12,7 +12,7 @@ pub returns-in-Err-replay-clause-refused : goal.returns-in-Err-replay-clause-ref
 returns-in-Err-replay-clause-refused g c =
     let first = c.in-Ok.opened.0 in
     let bytes = c.in-Ok.opened.1.items in
-    let nothing = λ (is : c.in-Err-replay.fault ≡ Damaged). rw (c.deref.ensures.value, c.seq.ensures, c.version.ensures, c.profile_of-profile.ensures, c.rides.ensures) at (c.in-Err-replay.ensures.damaged is) in
+    let nothing = λ (is : c.in-Err-replay.fault ≡ Damaged). rw (c.deref.ensures.value, c.seq.ensures, c.version_of_frames-version.ensures.version, c.version.ensures, c.profile_of-profile.ensures, c.rides.ensures, c.rides-2.ensures) at (c.in-Err-replay.ensures.damaged is) in
     rw (c.number.ensures, c.into_device.ensures) (not_replayed g.D.SectorDevice.disk c.args.device first bytes c.in-Ok.ensures.ok c.in-Ok.ensures.tail c.in-Err-replay.fault nothing)
 
 pub returns-in-Ok-replay-clause-notice : goal.returns-in-Ok-replay-clause-notice

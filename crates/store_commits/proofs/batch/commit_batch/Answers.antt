@@ -11,7 +11,6 @@ use Rattle.store_commits.specs.declared.event.Reply.TheVariants.{Refused}
 use Rattle.store_commits.proofs.Joining.{broken_whole}
 use Rattle.store_commits.proofs.Parts.{planned_replies}
 use Rattle.store_commits.proofs.Standing.{standing}
-use Rattle.store_commits.proofs.batch.commit_batch.Given.{Over}
 use Rattle.store_commits.proofs.Modelled.{both_models}
 use Rattle.store_commits.proofs.batch.commit_batch.Goals as goal
 
@@ -45,18 +44,15 @@ commit_all-requires-clause-room g c =
     omega (arith, count, all, same, len, ok, made.len, made.exact)
 
 -- of the store that it began with
-made : (g : Over) (c : goal.After-drop-machine-in-Ok-4 g)
-    → HasCommitted g.D.SectorDevice.disk (store_view c.args.journal.now c.args.machine.now (target_of c.args.copy.now)) (map transaction_of c.args.transactions.items) c.commit_all.new.said.items
-    c.commit_all.new.journal c.commit_all.result (target_of c.commit_all.new.copy)
-made g c =
+pub returns-in-Ok-clause-batched : goal.returns-in-Ok-clause-batched
+returns-in-Ok-clause-batched g c =
     let disk = g.D.SectorDevice.disk in
     let journal = c.args.journal.now in
     let cs = map transaction_of c.args.transactions.items in
     let s = c.begin-trial.result.state in
     let start = c.begin-trial.ensures.state ∙ c.replace.ensures.value in
     let stored = subst (λ (q : State × Option Target). IsStored (disk journal.device) journal q.0 q.1) (λ i. (sym start i, sym c.in-Ok.ensures.same i)) c.requires in
+    let made : HasCommitted disk (store_view journal c.args.machine.now (target_of c.args.copy.now)) cs c.commit_all.new.said.items c.commit_all.new.journal c.commit_all.result (target_of c.commit_all.new.copy) =
     subst (λ (v : StoreView g.row.D.Denot). HasCommitted disk v cs c.commit_all.new.said.items c.commit_all.new.journal c.commit_all.result (target_of c.commit_all.new.copy))
-    (λ i. store_view journal (start i) (c.in-Ok.ensures.same i)) (c.commit_all.ensures s cs stored c.in-Ok.ensures.prepared)
-
-pub returns-in-Ok-clause-batched : goal.returns-in-Ok-clause-batched
-returns-in-Ok-clause-batched g c = (made g c).batched
+    (λ i. store_view journal (start i) (c.in-Ok.ensures.same i)) (c.commit_all.ensures s cs stored c.in-Ok.ensures.prepared) in
+    made.batched

@@ -1,29 +1,8 @@
-use Rattle.std.proofs.Common.{rules, ◌≢◌, List, ℕ, [], sym, subst, ap, ◌∙◌}
-use Rattle.std.proofs.lemmas.List.{take_rest}
-use Rattle.std.proofs.lemmas.Result.{err_from_is_err_and}
-use Rattle.doc_changes.specs.State.{State}
-use Rattle.store_commits.specs.Replay.{Replayed}
-use Rattle.store_commits.proofs.Replays.{damaged_first, replayed_first, replayed_start}
+use Rattle.std.proofs.Common.{◌≡◌, ℕ, IfErr, subst, sym}
+use Rattle.store_commits.specs.Replay.{HoldsNothing}
+use Rattle.store_commits.specs.declared.replaying.ReplayFault.TheVariants.{Damaged}
 use Rattle.store_commits.proofs.replaying.replay.Goals as goal
 
-pub loop-rest-init : goal.loop-rest-init
-loop-rest-init c = (replayed_start c.args.profile c.args.version c.args.seq c.args.bytes.now c.at-machine.result c.at-machine.ensures.empty, ap (λ (s : State). s.seq) c.at-machine.ensures.empty, ap (λ (s : State). s.profile) c.at-machine.ensures.empty, c.at-machine.ensures.good)
-
-pub returns-in_err-after-clause-damaged : goal.returns-in_err-after-clause-damaged
-returns-in_err-after-clause-damaged c =
-    let nonempty : c.loop-rest.rest.now ≢ [] = search rules in
-    let p = err_from_is_err_and c.from_residual.result c.from_residual.ensures.1 in
-    rw (p.1, p.2) (λ damaged. damaged_first c.args.profile c.args.version c.args.seq c.args.bytes.now c.loop-rest.rest.now c.loop-rest.machine c.loop-rest.invariant.0 nonempty
-    (c.in_err-after.ensures.damaged damaged))
-
-pub loop-rest-preserved : goal.loop-rest-preserved
-loop-rest-preserved c =
-    let nonempty : c.loop-rest.rest.now ≢ [] = search rules in
-    let first = c.in_ok-after.ensures.taken in
-    let len = c.in_ok-after.len in (
-      subst (λ (l : List ℕ). Replayed c.args.profile c.args.version c.args.seq c.args.bytes.now l c.in_ok-after.after) (sym (take_rest c.loop-rest.rest.now len))
-          (replayed_first c.args.profile c.args.version c.args.seq c.args.bytes.now c.loop-rest.rest.now c.loop-rest.machine c.in_ok-after.after len c.loop-rest.invariant.0 nonempty first),
-      ap (λ (s : State). s.seq) first.new_is ∙ c.loop-rest.invariant.1,
-      ap (λ (s : State). s.profile) first.new_is ∙ c.loop-rest.invariant.2,
-      c.in_ok-after.ensures.good,
-    )
+pub returns-then-version-eq3-clause-damaged : goal.returns-then-version-eq3-clause-damaged
+returns-then-version-eq3-clause-damaged c =
+    subst (λ (v : ℕ). IfErr c.replay_log.result (λ fault. fault ≡ Damaged → HoldsNothing c.args.profile v c.args.seq c.args.bytes.now)) (sym c.if-version-eq3.true) c.replay_log.ensures.damaged

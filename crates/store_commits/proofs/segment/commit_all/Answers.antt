@@ -1,14 +1,16 @@
 use Rattle.std.proofs.Common.{◌≡◌, ◌+◌, ◌*◌, ◌-◌, [], List, length, ap, sym, subst, ◌∙◌, arith}
 use Rattle.std.proofs.lemmas.List.{nil_from_length}
 use Rattle.std.specs.Vec.Iter.{into_iter_items}
+use Rattle.store_commits.specs.Account.{with_copy}
 use Rattle.store_commits.specs.Batch.{waiting}
-use Rattle.store_commits.specs.Copying.{HasSpare, target_of}
+use Rattle.store_commits.specs.Copying.{HasSpare, copy_of, target_of}
 use Rattle.store_commits.specs.Folds.{all_changes}
 use Rattle.store_commits.specs.Run.{Reply}
-use Rattle.store_commits.specs.Inside.{LeavesNumbers, HasCome, bytes_in, replies_in}
+use Rattle.store_commits.specs.Inside.{LeavesNumbers, HasCome, account_of, bytes_in, replies_in}
 use Rattle.store_commits.specs.declared.segment.Segment.{Segment}
 use Rattle.store_commits.proofs.Joining.{all_come, come_further, come_nowhere, committed, how_many, next_ready}
 use Rattle.store_commits.proofs.Modelled.{both_models}
+use Rattle.store_commits.proofs.Parts.{planned_some}
 use Rattle.store_commits.proofs.segment.commit_all.Goals as goal
 
 pub loop-segment-init : goal.loop-segment-init
@@ -95,4 +97,4 @@ returns g c = λ s cs stored prepared.
     let before = c.seq-before.ensures in
     let oldest = c.seq.result - c.seq-before.result in
     let number : oldest ≡ length (all_changes (waiting was.told.first)) = omega (arith, many, seq, before) in
-    committed disk coherent journal l.journal s copy copied prepared.slots prepared.end replies was c.args.trial prepared.tried oldest number c.end.result (c.end.ensures ∙ c.keep.ensures.state) cs prepared.all
+    committed disk coherent journal l.journal s copy copied prepared.slots prepared.end replies was (planned_some (with_copy (account_of journal s) (copy_of copy)) c.args.segments.items prepared.slots prepared.end prepared.planned) c.args.trial prepared.tried oldest number c.end.result (c.end.ensures ∙ c.keep.ensures.state) cs prepared.all

@@ -1,8 +1,8 @@
-use Rattle.std.proofs.Common.{◌≡◌, ◌∙◌, ◌≤◌, [], length, sym, subst, arith, Option, true, false}
+use Rattle.std.proofs.Common.{◌≡◌, ◌∙◌, ◌≤◌, [], length, sym, subst, arith, Option, Bool, true, false}
 use Rattle.std.proofs.lemmas.Result.{err_from_is_err_and}
 use Rattle.store_journal.specs.Layout.{capacity_of}
 use Rattle.store_commits.specs.Account.{with_copy}
-use Rattle.store_commits.specs.Copying.{IsCopying, Target, copy_of, target_of, view_of}
+use Rattle.store_commits.specs.Copying.{IsBegun, IsCopying, Target, copy_of, target_of, view_of}
 use Rattle.store_commits.specs.Inside.{account_of}
 use Rattle.store_commits.specs.Batch.{FailedCommit}
 use Rattle.store_commits.specs.Run.{to_step}
@@ -32,13 +32,13 @@ returns-in_err-pump-clause-moments_err g c =
     let p = err_from_is_err_and c.from_residual-in_err-pump.result c.from_residual-in_err-pump.ensures.1 in
     let before = c.self.inside.journal in
     let t = view_of c.in_ok-copying.copying in
-    let copying = begun_copying (disk before.device) before c.self.inside.machine (target_of c.self.inside.copy) t c.self.invariant (c.has_number.ensures.0 c.if-not-has_number.false) c.in_ok-copying.ensures.ok in
+    let copying = begun_copying (disk before.device) before c.self.inside.machine (target_of c.self.inside.copy) t c.self.invariant (c.has_number.ensures.0 c.if-not-has_number.false) (subst (λ (r : Bool). IsBegun r c.self.inside.machine (target_of c.self.inside.copy) (view_of c.in_ok-copying.copying)) c.rides-rides.ensures c.in_ok-copying.ensures.ok) in
     let step = c.in_err-pump.ensures in
     rw (p.1, p.2) (λ _. rw (← c.self.view_is)
     (λ honest works. step_moments (disk before.device) (disk c.step.new.journal.device) before c.step.new.journal c.self.inside.machine t c.self.invariant.held copying step.honest step.kept honest (step.any_moment honest)))
 
 copying : (g : Over) (c : goal.Joined-self-left g) → IsCopying (g.D.SectorDevice.disk c.self.inside.journal.device) c.self.inside.journal c.self.inside.machine (view_of c.in_ok-copying.copying)
-copying g c = begun_copying (g.D.SectorDevice.disk c.self.inside.journal.device) c.self.inside.journal c.self.inside.machine (target_of c.self.inside.copy) (view_of c.in_ok-copying.copying) c.self.invariant (c.has_number.ensures.0 c.if-not-has_number.false) c.in_ok-copying.ensures.ok
+copying g c = begun_copying (g.D.SectorDevice.disk c.self.inside.journal.device) c.self.inside.journal c.self.inside.machine (target_of c.self.inside.copy) (view_of c.in_ok-copying.copying) c.self.invariant (c.has_number.ensures.0 c.if-not-has_number.false) (subst (λ (r : Bool). IsBegun r c.self.inside.machine (target_of c.self.inside.copy) (view_of c.in_ok-copying.copying)) c.rides-rides.ensures c.in_ok-copying.ensures.ok)
 
 pub returns-clause-moments : goal.returns-clause-moments
 returns-clause-moments g c = rw (← c.self.view_is) (λ honest works.
@@ -67,8 +67,8 @@ returns-in_err-pump-clause-failed g c =
     let state = c.self.inside.machine in
     let copy = target_of c.self.inside.copy in
     let t = view_of c.in_ok-copying.copying in
-    let copying = begun_copying (disk before.device) before state copy t c.self.invariant (c.has_number.ensures.0 c.if-not-has_number.false) c.in_ok-copying.ensures.ok in
-    let at = begun_at (disk before.device) before state copy t c.in_ok-copying.ensures.ok in
+    let copying = begun_copying (disk before.device) before state copy t c.self.invariant (c.has_number.ensures.0 c.if-not-has_number.false) (subst (λ (r : Bool). IsBegun r c.self.inside.machine (target_of c.self.inside.copy) (view_of c.in_ok-copying.copying)) c.rides-rides.ensures c.in_ok-copying.ensures.ok) in
+    let at = begun_at (disk before.device) before state copy t (subst (λ (r : Bool). IsBegun r c.self.inside.machine (target_of c.self.inside.copy) (view_of c.in_ok-copying.copying)) c.rides-rides.ensures c.in_ok-copying.ensures.ok) in
     let step = c.in_err-pump.ensures in
     let now = c.step.new.journal in
     let fits : length t.bytes ≤ capacity_of before.rides before.sectors = omega (arith, c.if-capacity-len.false, c.capacity.ensures, c.len.ensures, c.in_ok-copying.copying.target.ok) in

@@ -1,7 +1,10 @@
-use Rattle.std.proofs.Common.{true, false}
+use Rattle.std.proofs.Common.{◌≡◌, ◌≤◌, ◌∙◌, ℕ, length, ap, sym, subst, true, false}
 use Rattle.std.proofs.lemmas.Result.{IfErr-weaker}
+use Rattle.store_journal.specs.Layout.{FitsBetween, capacity_of}
 use Rattle.store_journal.specs.Writes.{downgrade_calls}
-use Rattle.doc_store.proofs.Formats.{ready_moments, turned_failed, turned_moments}
+use Rattle.store_commits.specs.Account.{Account}
+use Rattle.doc_store.specs.Formats.{size_in}
+use Rattle.doc_store.proofs.Formats.{ready_moments, ready_sectors, turned_failed, turned_moments}
 use Rattle.doc_store.proofs.store.Store.lower.Goals as goal
 
 pub returns-in_err-make_ready-clause-any_moment : goal.returns-in_err-make_ready-clause-any_moment
@@ -28,3 +31,10 @@ returns-clause-any_moment g c = λ honest.
     let b = c.make_ready.new.self.account in
     let mid_honest = c.turn_down.ensures.honest.1 honest in
     turned_moments old mid new a b false 0 c.in_ok-make_ready.ensures.ok (c.make_ready.ensures.any_moment (c.make_ready.ensures.honest.1 mid_honest)) (c.turn_down.ensures.any_moment mid_honest)
+
+pub turn_down-requires-clause-fits : goal.turn_down-requires-clause-fits
+turn_down-requires-clause-fits g c =
+    let a = c.args.self.now.account in
+    let len : length c.deref.result.now ≡ size_in false a = ap length (c.deref.ensures.value ∙ c.in_ok-frames.ensures.frames) in
+    let sectors : c.make_ready.new.self.account.sectors ≡ a.sectors = ap (λ (b : Account). b.sectors) c.in_ok-make_ready.ensures.ok ∙ ready_sectors a in
+    subst (λ (n : ℕ). length c.deref.result.now ≤ capacity_of false n) (sym sectors) (subst (λ (n : ℕ). n ≤ capacity_of false a.sectors) (sym len) c.in_ok-frames.ensures.way.fits)

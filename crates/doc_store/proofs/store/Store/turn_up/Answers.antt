@@ -1,12 +1,15 @@
-use Rattle.std.proofs.Common.{◌≡◌, ◌∙◌, ap, sym, subst, true, false, None}
+use Rattle.std.proofs.Common.{◌≡◌, ◌∙◌, ℕ, length, ap, sym, subst, true, false, None}
+use Rattle.std.proofs.lemmas.Result.{err_from_is_err_and}
+use Rattle.sector_device.specs.Charges.{Failed, Made}
 use Rattle.schema_rules.specs.declared.profile.Profile.TheVariants.{Two}
 use Rattle.doc_changes.specs.State.{Good, State}
-use Rattle.store_commits.specs.Account.{StoreView}
+use Rattle.store_commits.specs.Account.{StoreView, with_copy}
 use Rattle.store_commits.specs.Copying.{copy_of, target_of}
-use Rattle.store_commits.specs.Inside.{IsStored}
+use Rattle.store_commits.specs.Inside.{IsStored, account_of}
 use Rattle.store_commits.specs.Snapshot.{snapshot_bytes}
 use Rattle.store_commits.proofs.Standing.{standing}
-use Rattle.doc_store.proofs.Formats.{holds_up, images_are, over_held, over_moments, over_up, within_up}
+use Rattle.store_journal.specs.Writes.{upgrade_calls}
+use Rattle.doc_store.proofs.Formats.{holds_over, images_are, over_held, over_is, over_moments, over_up, up_failed, within_up}
 use Rattle.doc_store.proofs.store.Store.turn_up.Goals as goal
 
 pub set_profile-requires : goal.set_profile-requires
@@ -21,8 +24,8 @@ returns-in_err-upgrade-clause-any_moment g c =
     let state = c.self.inside.machine in
     let k = copy_of (target_of c.self.inside.copy) in
     let held = c.self.invariant.held in
-    let bytes : c.args.snapshot.now ≡ snapshot_bytes state.documents = c.requires.snapshot ∙ ap (λ (v : StoreView g.row.D.Denot). snapshot_bytes v.account.state.documents) (sym c.self.view_is) in
-    let holds = holds_up disk before state k held c.earlier_profiles_stay.ensures.changes in
+    let bytes : c.args.snapshot.now ≡ snapshot_bytes true state.documents state.marks = c.requires.snapshot ∙ ap (λ (v : StoreView g.row.D.Denot). snapshot_bytes true v.account.state.documents v.account.state.marks) (sym c.self.view_is) in
+    let holds = holds_over disk before state k held true (within_up disk before state k held c.earlier_profiles_stay.ensures.documents) in
     rw (← c.self.view_is) (λ honest. over_moments disk before state k held true c.args.identity holds now (c.upgrade.ensures.honest honest) ((rw bytes at c.upgrade.ensures.any_moment) honest))
 
 pub returns-clause-any_moment : goal.returns-clause-any_moment
@@ -33,8 +36,8 @@ returns-clause-any_moment g c =
     let state = c.self.inside.machine in
     let k = copy_of (target_of c.self.inside.copy) in
     let held = c.self.invariant.held in
-    let bytes : c.args.snapshot.now ≡ snapshot_bytes state.documents = c.requires.snapshot ∙ ap (λ (v : StoreView g.row.D.Denot). snapshot_bytes v.account.state.documents) (sym c.self.view_is) in
-    let holds = holds_up disk before state k held c.earlier_profiles_stay.ensures.changes in
+    let bytes : c.args.snapshot.now ≡ snapshot_bytes true state.documents state.marks = c.requires.snapshot ∙ ap (λ (v : StoreView g.row.D.Denot). snapshot_bytes true v.account.state.documents v.account.state.marks) (sym c.self.view_is) in
+    let holds = holds_over disk before state k held true (within_up disk before state k held c.earlier_profiles_stay.ensures.documents) in
     rw (← c.self.view_is) (λ honest. over_moments disk before state k held true c.args.identity holds now (c.upgrade.ensures.honest honest) ((rw bytes at c.upgrade.ensures.any_moment) honest))
 
 pub invariant_of-self-2 : goal.invariant_of-self-2
@@ -45,10 +48,10 @@ invariant_of-self-2 g c =
     let state = c.self.inside.machine in
     let k = copy_of (target_of c.self.inside.copy) in
     let held = c.self.invariant.held in
-    let bytes : c.args.snapshot.now ≡ snapshot_bytes state.documents = c.requires.snapshot ∙ ap (λ (v : StoreView g.row.D.Denot). snapshot_bytes v.account.state.documents) (sym c.self.view_is) in
-    let holds = holds_up disk before state k held c.earlier_profiles_stay.ensures.changes in
+    let bytes : c.args.snapshot.now ≡ snapshot_bytes true state.documents state.marks = c.requires.snapshot ∙ ap (λ (v : StoreView g.row.D.Denot). snapshot_bytes true v.account.state.documents v.account.state.marks) (sym c.self.view_is) in
+    let holds = holds_over disk before state k held true (within_up disk before state k held c.earlier_profiles_stay.ensures.documents) in
     let told = c.upgrade.ensures in
-    let went = over_up disk before now c.args.identity (snapshot_bytes state.documents) told.kept (rw bytes at c.in_ok-upgrade.ensures.ok) in
+    let went = over_up disk before now c.args.identity (snapshot_bytes true state.documents state.marks) told.kept (rw bytes at c.in_ok-upgrade.ensures.ok) in
     let set = c.set_profile.ensures.set in
     subst (λ (s : State). IsStored (disk now.device) now s None) (sym set)
     (record { held = over_held disk before state k held true c.args.identity holds now went (subst Good set c.set_profile.ensures.good); copied = tt })
@@ -60,3 +63,43 @@ returns-clause-done g c =
 
 pub returns-clause-standing : goal.returns-clause-standing
 returns-clause-standing g c = standing (g.D.SectorDevice.disk c.upgrade.new.journal.device) c.upgrade.new.journal c.set_profile.new.self (invariant_of-self-2 g c).held
+
+pub returns-in_err-upgrade-clause-failed : goal.returns-in_err-upgrade-clause-failed
+returns-in_err-upgrade-clause-failed g c =
+    let disk = g.D.SectorDevice.disk in
+    let before = c.self.inside.journal in
+    let now = c.upgrade.new.journal in
+    let state = c.self.inside.machine in
+    let k = copy_of (target_of c.self.inside.copy) in
+    let held = c.self.invariant.held in
+    let bytes : c.args.snapshot.now ≡ snapshot_bytes true state.documents state.marks = c.requires.snapshot ∙ ap (λ (v : StoreView g.row.D.Denot). snapshot_bytes true v.account.state.documents v.account.state.marks) (sym c.self.view_is) in
+    let size : length c.args.snapshot.now ≡ length (snapshot_bytes true state.documents state.marks) = ap length bytes in
+    let p = err_from_is_err_and c.from_residual.result c.from_residual.ensures.1 in
+    rw (p.1, p.2, ← c.self.view_is) (up_failed (disk before.device) (disk now.device) _ (upgrade_calls (length c.args.snapshot.now)) (upgrade_calls (length (snapshot_bytes true state.documents state.marks))) (ap upgrade_calls size)
+    (λ halted. halted.failed) c.in_err-upgrade.ensures.err)
+
+pub returns-clause-made : goal.returns-clause-made
+returns-clause-made g c =
+    let disk = g.D.SectorDevice.disk in
+    let before = c.self.inside.journal in
+    let now = c.upgrade.new.journal in
+    let state = c.self.inside.machine in
+    let k = copy_of (target_of c.self.inside.copy) in
+    let held = c.self.invariant.held in
+    let bytes : c.args.snapshot.now ≡ snapshot_bytes true state.documents state.marks = c.requires.snapshot ∙ ap (λ (v : StoreView g.row.D.Denot). snapshot_bytes true v.account.state.documents v.account.state.marks) (sym c.self.view_is) in
+    let size : length c.args.snapshot.now ≡ length (snapshot_bytes true state.documents state.marks) = ap length bytes in
+    rw (← c.self.view_is) (subst (λ (n : ℕ). Made (disk before.device) (disk now.device) (upgrade_calls n)) size c.in_ok-upgrade.ensures.ok.made)
+
+pub returns-clause-ok : goal.returns-clause-ok
+returns-clause-ok g c =
+    let disk = g.D.SectorDevice.disk in
+    let before = c.self.inside.journal in
+    let now = c.upgrade.new.journal in
+    let state = c.self.inside.machine in
+    let k = copy_of (target_of c.self.inside.copy) in
+    let held = c.self.invariant.held in
+    let bytes : c.args.snapshot.now ≡ snapshot_bytes true state.documents state.marks = c.requires.snapshot ∙ ap (λ (v : StoreView g.row.D.Denot). snapshot_bytes true v.account.state.documents v.account.state.marks) (sym c.self.view_is) in
+    let works = ap (λ (v : StoreView g.row.D.Denot). v.account.broken) c.self.view_is ∙ c.requires.works in
+    let holds = holds_over disk before state k held true (within_up disk before state k held c.earlier_profiles_stay.ensures.documents) in
+    let went = over_up disk before now c.args.identity (snapshot_bytes true state.documents state.marks) c.upgrade.ensures.kept (rw bytes at c.in_ok-upgrade.ensures.ok) in
+    rw (← c.self.view_is) (ap (λ (s : State). with_copy (account_of now s) None) c.set_profile.ensures.set ∙ over_is disk before state k held true c.args.identity holds now went works)

@@ -16,8 +16,8 @@ use Rattle.doc_store.proofs.Pumps.{snapshot_failed, snapshot_passed}
 use Rattle.doc_store.proofs.store.Store.write_anew.Given.{Over}
 use Rattle.doc_store.proofs.store.Store.write_anew.Goals as goal
 
-bytes_are : (g : Over) (c : goal.After-drop-frames-2 g) → c.deref.result.now ≡ snapshot_bytes c.self.inside.machine.documents
-bytes_are g c = c.deref.ensures.value ∙ c.in_ok-frames.ensures.frames ∙ ap (λ (v : StoreView g.row.D.Denot). snapshot_bytes v.account.state.documents) (sym c.self.view_is)
+bytes_are : (g : Over) (c : goal.After-drop-frames-2 g) → c.deref.result.now ≡ snapshot_bytes c.self.inside.journal.rides c.self.inside.machine.documents c.self.inside.machine.marks
+bytes_are g c = c.deref.ensures.value ∙ c.in_ok-frames.ensures.frames ∙ ap (λ (v : StoreView g.row.D.Denot). snapshot_bytes v.account.rides v.account.state.documents v.account.state.marks) (sym c.self.view_is)
 
 can_snapshot : (g : Over) (c : goal.After-drop-frames-2 g) → (let a = account_of c.self.inside.journal c.self.inside.machine in CanHold a (snapshot_size a))
 can_snapshot g c = record {

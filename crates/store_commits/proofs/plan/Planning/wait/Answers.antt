@@ -1,8 +1,8 @@
 use Rattle.std.proofs.Common.{rules, ◌≡◌, ◌+◌, ◌-◌, ◌++◌, ◌∷◌, [], ℕ, List, length, ap, ◌∙◌, arith}
-use Rattle.doc_machine.specs.Transaction.{changes_of, transaction_of}
+use Rattle.doc_machine.specs.Transaction.{transaction_of}
 use Rattle.store_commits.specs.Run.{Done}
-use Rattle.store_commits.proofs.Changes.{frames_size}
-use Rattle.store_commits.proofs.Plans.{further_waits}
+use Rattle.store_commits.proofs.Changes.{size_is}
+use Rattle.store_commits.proofs.Plans.{first_stays, further_waits}
 use Rattle.store_commits.proofs.plan.Planning.wait.Goals as goal
 
 pub returns-clause-ok : goal.returns-clause-ok
@@ -10,12 +10,15 @@ returns-clause-ok c = λ a slots is.
     let p = c.args.self.now in
     let t = transaction_of c.args.transaction in
     let tried = c.in-Ok.ensures.made in
-    let size = ap length c.requires.frames ∙ frames_size c.args.trial.now.state.seq (changes_of t) in
+    let size = ap length c.requires.frames ∙ size_is p.rides c.args.trial.now.state.seq t in
     let fits = c.requires.fits in
     let sum : c.in-Some.bytes ≡ p.bytes + length c.args.frames.now = search rules in
     let count : c.in-Some-checked_add.adds ≡ p.last.adds + c.len-adds.result = search rules in
     let said = p.last.replies.items in
-    further_waits a slots p c.args.trial.now is t tried.accepted c.transact.new.self tried.made
+    further_waits a slots p c.args.trial.now is t tried.accepted c.transact.new.self tried.made c.transact.ensures.good
     c.extend_from_slice.new.self (c.in_ok-extend_from_slice.ensures.items ∙ ap (λ (l : List ℕ). p.last.frames.items ++ l) c.requires.frames)
     c.push.new.self (c.in_ok-push.ensures.items ∙ ap (λ (n : ℕ). said ++ Done n ∷ []) tried.seq_is)
     (p.left - length c.args.frames.now) c.in-Some.bytes c.in-Some-checked_add.adds (omega (arith, size, fits)) (omega (arith, sum, size)) (count ∙ ap (λ (n : ℕ). p.last.adds + n) c.len-adds.ensures)
+
+pub returns-in_err-push-clause-origin : goal.returns-in_err-push-clause-origin
+returns-in_err-push-clause-origin c = first_stays c.args.trial.now c.transact.new.self (transaction_of c.args.transaction) c.in-Ok.seq c.in-Ok.ensures.made

@@ -1,6 +1,6 @@
 use Rattle.std.proofs.Common.{rules, ◌≢◌}
 use Rattle.store_commits.proofs.Replays.{patch_damaged, patch_taken}
-use Rattle.store_commits.proofs.replaying.take_first.Goals as goal
+use Rattle.store_commits.proofs.frame_replay.take_first.Goals as goal
 
 pub returns-in-Some-clause-taken : goal.returns-in-Some-clause-taken
 returns-in-Some-clause-taken c =

@@ -1,0 +1,4 @@
+pub mod Heads
+pub mod Frames
+pub mod Logs
+pub mod Places

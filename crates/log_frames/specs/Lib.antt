@@ -1,0 +1,4 @@
+pub mod Kinds
+pub mod Log
+pub mod Places
+pub mod Fault
