@@ -1,5 +1,5 @@
 -- A disk in memory that was formatted and opened is a store in which nothing was ever made.
-use Rattle.std.proofs.Common.{◌≡◌, ◌∙◌, ℕ, false, [], None, length, refl, ap, sym}
+use Rattle.std.proofs.Common.{◌≡◌, ◌∙◌, ℕ, false, [], None, arith, length, refl, ap, sym}
 use Rattle.sector_device.specs.Disk.{Disk, Image}
 use Rattle.half_journal.specs.States.{one_more}
 use Rattle.store_journal.specs.Carries.{Carried, Carries}
@@ -22,7 +22,17 @@ stands_empty image carries = record {
   carries = carries;
   seq_is = refl;
   profile_is = refl;
-  holds = record { entries = []; framed = tt; dated = λ _. tt; spelled = refl; taken = tt; documents_are = refl };
+  holds = record {
+    entries = [];
+    notes = [];
+    framed = tt;
+    dated = λ _. tt;
+    spelled = record { framed = λ _. (refl, refl); logged = λ three. absurd (omega (arith, three)) };
+    taken = tt;
+    documents_are = refl;
+    noted = tt;
+    marks_are = refl;
+  };
 }
 
 pub opened_new : (old new : Disk) (account : Account) → ((image : Image) (one other : Carried) → Carries one image → Carries other image → one ≡ other) → StandsForOne

@@ -41,7 +41,7 @@ abbrev pub account_copied : Format → ℕ → Account → ℕ → Account
 account_copied format identity a sectors =
     record {
       state = in_profile (profile_in (rides_in format)) a.state;
-      used = length (snapshot_bytes a.state.documents);
+      used = length (snapshot_bytes (rides_in format) a.state.documents a.state.marks);
       half = 0;
       opens = a.opens;
       identity = identity_in (rides_in format) identity;

@@ -1,14 +1,13 @@
 -- Lists of documents and the changes whose objects they are.
-use Rattle.std.proofs.Common.{◌≡◌, ◌≤◌, ℕ, suc, List, [], ◌∷◌, ◌++◌, arith, codes, length, map, refl, sym, ◌∙◌, ap}
+use Rattle.std.proofs.Common.{◌≡◌, ◌≤◌, suc, List, [], ◌∷◌, ◌++◌, Option, None, Some, Vec, Global, arith, length, map, refl, sym, ◌∙◌, ap}
 use Rattle.std.proofs.lemmas.List.{map-append}
-use Rattle.doc_tree.specs.Cursor.{IsNext}
-use Rattle.doc_tree.specs.Doc.{Doc, Elements, Members, element, member, no_elements, no_members, object}
+use Rattle.doc_tree.specs.Doc.{Doc, Elements, Members, element, no_elements}
 use Rattle.doc_tree.specs.TreeView.{elements_of, elements_view, view}
 use Rattle.doc_tree.specs.declared.tree.Tree.{Tree}
-use Rattle.record_text.specs.Change.{Change, command_object, object_of}
-use Rattle.doc_machine.specs.Transaction.{several, single}
-use Rattle.protocol.specs.Read.{others_of, transaction_members, word_of}
-use Rattle.protocol.specs.Request.{IsObjectOf, Request, change, get, get_schema, list, objects_of, pump, query, rev, seal, snapshot, status}
+use Rattle.record_text.specs.Change.{Change, change_of, object_of}
+use Rattle.record_text.specs.declared.command.Command.{Command}
+use Rattle.protocol.specs.Read.{AreCommands, AreSeveral}
+use Rattle.protocol.specs.Request.{objects_of, transaction_members}
 
 -- documents behind documents
 abbrev behind : List Doc → Elements → Elements
@@ -48,29 +47,21 @@ as_many [] (c ∷ cs) is = absurd (cc is)
 as_many (t ∷ trees) [] is = absurd (cc is)
 as_many (t ∷ trees) (c ∷ cs) is = let rest : elements_view trees ≡ objects_of cs = cc is in ap suc (as_many trees cs rest)
 
--- ---- objects whose first member is a list of changes
+-- ---- the members of a transaction's object
 
--- they are no other request's, since theirs is `cmd`
-not_alone : (ms : Members) → IsNext (codes "changes") ms → (word : List ℕ) (others : Members) → object ms ≡ command_object word others → ⊥
-not_alone no_members next word others is = next
-not_alone (member k d ms) next word others is =
-    let name : k ≡ codes "cmd" = cc is in
-    let both = ap length (sym next ∙ name) in
-    omega (arith, both)
-
-pub only_several : (ms : Members) → IsNext (codes "changes") ms → ((cs : List Change) → ms ≡ transaction_members (objects_of cs) → 1 ≤ length cs → length cs ≤ 1_024 → ⊥)
-    → (r : Request) → IsObjectOf (object ms) r → ⊥
-only_several ms next none (change (single c)) is = not_alone ms next (word_of (change (single c))) (others_of (change (single c))) is.0
-only_several ms next none (change (several cs)) is = none cs (cc is.0) is.1.0 is.1.1
-only_several ms next none (get name path) is = not_alone ms next (word_of (get name path)) (others_of (get name path)) is.0
-only_several ms next none (get_schema name) is = not_alone ms next (word_of (get_schema name)) (others_of (get_schema name)) is.0
-only_several ms next none (rev name) is = not_alone ms next (word_of (rev name)) (others_of (rev name)) is.0
-only_several ms next none (query name path) is = not_alone ms next (word_of (query name path)) (others_of (query name path)) is.0
-only_several ms next none list is = not_alone ms next (word_of list) (others_of list) is.0
-only_several ms next none status is = not_alone ms next (word_of status) (others_of status) is.0
-only_several ms next none snapshot is = not_alone ms next (word_of snapshot) (others_of snapshot) is.0
-only_several ms next none seal is = not_alone ms next (word_of seal) (others_of seal) is.0
-only_several ms next none (pump most) is = not_alone ms next (word_of (pump most)) (others_of (pump most)) is.0
-
-pub same_changes : (ds es : Elements) → transaction_members ds ≡ transaction_members es → ds ≡ es
+same_changes : (ds es : Elements) → transaction_members ds ≡ transaction_members es → ds ≡ es
 same_changes ds es is = cc is
+
+-- there are none, since the list has not as many as a transaction may have
+pub not_several : (ms : Members) (trees : List Tree) → ms ≡ transaction_members (elements_view trees) → ((1 ≤ length trees) × (length trees ≤ 1_024) → ⊥) → AreSeveral ms None
+not_several ms trees are many cs is range =
+    let n = as_many trees cs (same_changes (elements_view trees) (objects_of cs) (sym are ∙ is)) in
+    many (omega (arith, n, range.0), omega (arith, n, range.1))
+
+-- they are those whose objects the elements are
+pub as_several : (ms : Members) (trees : List Tree) → ms ≡ transaction_members (elements_view trees) → (1 ≤ length trees) × (length trees ≤ 1_024)
+    → (o : Option (Vec Command Global)) → AreCommands (elements_view trees) o → AreSeveral ms o
+as_several ms trees are many None h = λ cs is range. h cs (same_changes (elements_view trees) (objects_of cs) (sym are ∙ is))
+as_several ms trees are many (Some commands) h =
+    let n = as_many trees (map change_of commands.items) h in
+    (are ∙ ap transaction_members h, (omega (arith, n, many.0), omega (arith, n, many.1)))

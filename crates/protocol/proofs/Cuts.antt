@@ -1,8 +1,10 @@
 -- The first line feed of some bytes.
-use Rattle.std.proofs.Common.{◌≡◌, ◌≢◌, not, ◌<◌, ◌≤◌, ◌+◌, ◌-◌, ℕ, zero, suc, Bool, true, false, cond, eqb, List, [], ◌∷◌, ◌++◌, length, length-drop, take, drop, get_or, Some, None, refl, ap, ap₂, ◌∙◌, sym, subst, arith, take-append-drop}
+use Rattle.std.proofs.Common.{◌≡◌, ◌≢◌, not, ◌<◌, ◌≤◌, ◌+◌, ◌-◌, ℕ, zero, suc, Bool, true, false, cond, eqb, List, [], ◌∷◌, ◌++◌, length, length-drop, take, drop, get_or, Option, Some, None, refl, ap, ap₂, ◌∙◌, sym, subst, arith, take-append-drop}
 use Rattle.std.specs.List.{position, position_or_len}
 use Rattle.std.proofs.Math.Seq.{drop-cons}
-use Rattle.std.proofs.lemmas.Bool.{eqb-true, ltb-false}
+use Rattle.std.proofs.lemmas.Bool.{eqb-true, ltb-false, lt-ltb, le-ltb}
+use Rattle.std.proofs.lemmas.List.Sums.{position_or_len_is}
+use Rattle.memchr.specs.Find.{IsFirstByte, is_byte}
 use Rattle.std.proofs.lemmas.List.{take_all}
 use Rattle.std.proofs.lemmas.List.Quantifiers.{position-Some}
 use Rattle.std.proofs.Math.Dec.{ltb}
@@ -10,6 +12,23 @@ use Rattle.protocol.specs.Lines.{line_feed, HasNoBreak}
 
 abbrev is_feed : ℕ → Bool
 is_feed b = eqb b line_feed
+
+-- the place that a search finds
+position_at : (bs : List ℕ) (i : ℕ) → position_or_len is_feed bs ≡ i → position is_feed bs ≡ cond (ltb i (length bs)) (Some i) None
+position_at bs i e = ap (λ n. cond (ltb n (length bs)) (Some n) None) e
+
+fails : (b : Bool) → (b ≡ true → ⊥) → b ≡ false
+fails true h = absurd (h refl)
+fails false h = refl
+
+pub first_is : (bs : List ℕ) (r : Option ℕ) → IsFirstByte (is_byte line_feed) bs r → r ≡ position is_feed bs
+first_is bs None h =
+    let none : position_or_len is_feed bs ≡ length bs = position_or_len_is is_feed bs (length bs) 0 (omega arith) (λ k l. fails _ (h k (omega arith) l)) (λ l. absurd (omega arith)) in
+    sym (position_at bs (length bs) none ∙ ap (λ t. cond t (Some (length bs)) None) (le-ltb (length bs) (length bs) (omega arith)))
+first_is bs (Some i) h =
+    let high = h.0.high in
+    let found : position_or_len is_feed bs ≡ i = position_or_len_is is_feed bs i 0 (omega (arith, high)) (λ k l. fails _ (h.0.before k (omega arith) l)) (λ l. h.1) in
+    sym (position_at bs i found ∙ ap (λ t. cond t (Some i) None) (lt-ltb i (length bs) high))
 
 apart : (b : ℕ) → is_feed b ≡ false → b ≢ line_feed
 apart b h e = let yes : is_feed b ≡ true = subst (λ (x : ℕ). is_feed x ≡ true) (sym e) refl in cc

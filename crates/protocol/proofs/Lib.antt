@@ -3,3 +3,4 @@ pub mod Texts
 pub mod Cuts
 pub mod Keeps
 pub mod Changes
+pub mod Marks

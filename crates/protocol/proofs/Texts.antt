@@ -1,17 +1,20 @@
 -- The lines of the replies that are written byte by byte.
 use Rattle.std.proofs.Common.{◌≡◌, ℕ, List, [], ◌∷◌, ◌++◌, codes, decimal, refl, ap, ◌∙◌, sym, Bool, true, false, cond, eqb, arith, append_assoc, Option, Some, None}
-use Rattle.json.specs.Print.{escape, escape_byte}
+use Rattle.json.specs.Print.{escape, escape_byte, quoted}
 use Rattle.refusals.specs.Names.{name_of, name_in, names}
+use Rattle.refusals.specs.declared.numbers.TheConstants.{MARK}
+use Rattle.doc_changes.specs.Marks.{Mark}
 use Rattle.doc_changes.specs.declared.refusal.Refusal.{Refusal}
 use Rattle.std.proofs.Common.{subst, pos, ◌&&◌, ◌||◌, ap₂, ◌<◌, nat_lt}
 use Rattle.std.proofs.lemmas.Bool.{ne_eqb, ltb-true, eqb-true, le-ltb}
+use Rattle.std.proofs.lemmas.Fmt.{decimal_digit, decimal_step}
 use Rattle.std.specs.List.{list_all}
 use Rattle.doc_tree.specs.Doc.{object, member, no_members, text, int, boolean}
 use Rattle.store_commits.specs.declared.pump.Pump.{Pump}
 use Rattle.store_commits.specs.declared.pump.CopyState.{CopyState}
 use Rattle.store_commits.specs.declared.pump.CopyState.TheVariants.{Running, Switched, Dropped}
-use Rattle.protocol.specs.Reply.{change_reply, snapshot_reply, copy_word, pump_reply, revision_reply, refusal_reply, sealed_reply, line_of, with_number}
-use Rattle.protocol.specs.Written.{number_text, opening}
+use Rattle.protocol.specs.Reply.{change_reply, snapshot_reply, copy_word, mark_reply, other_mark_reply, pump_reply, revision_reply, refusal_reply, sealed_reply, line_of, with_number}
+use Rattle.protocol.specs.Written.{number_text, opening, told_text}
 
 pub line_of-change_reply : (seq : ℕ) → line_of (change_reply seq) ≡ codes "{\"ok\":true,\"seq\":" ++ (decimal seq ++ codes "}\n")
 unfolding escape_byte
@@ -41,6 +44,22 @@ pump_line Dropped written = ap (λ t. codes "{\"copy\":\"dropped\",\"ok\":true,\
 
 pub line_of-pump_reply : (p : Pump) → line_of (pump_reply p) ≡ pump_text p.copy p.written
 line_of-pump_reply p = pump_line p.copy p.written
+
+-- the lines that tell a mark
+
+pub line_of-mark_reply : (m : Option Mark) → line_of (mark_reply m) ≡ told_text (codes "{\"mark\":") m (codes ",\"ok\":true")
+unfolding escape_byte
+line_of-mark_reply None = refl
+line_of-mark_reply (Some m) = simp append_assoc
+
+decimal_mark : decimal MARK ≡ codes "25"
+decimal_mark = decimal_step 25 (omega arith) (omega arith) ∙ ap (λ (ds : List ℕ). ds ++ codes "5") (decimal_digit 2 (omega arith))
+
+pub line_of-other_mark_reply : (m : Option Mark) → line_of (other_mark_reply m) ≡ told_text (codes "{\"error\":\"mark\",\"mark\":") m (codes ",\"number\":25,\"ok\":false")
+unfolding escape_byte
+line_of-other_mark_reply None = ap (λ t. (codes "{\"error\":\"mark\",\"mark\":null,\"number\":" ++ (t ++ codes ",\"ok\":false}")) ++ codes "\n") decimal_mark
+line_of-other_mark_reply (Some m) =
+    ap (λ t. (codes "{\"error\":\"mark\",\"mark\":" ++ (quoted m.value ++ (codes ",\"number\":" ++ (t ++ (codes ",\"ok\":false,\"seq\":" ++ (decimal m.seq ++ codes "}")))))) ++ codes "\n") decimal_mark ∙ simp append_assoc
 
 -- three pieces, one after the other
 pub joined : (w x y z a b c : List ℕ) → x ≡ w ++ a → y ≡ x ++ b → z ≡ y ++ c → z ≡ w ++ (a ++ (b ++ c))

@@ -4,6 +4,7 @@ pub mod Rows
 pub mod Written
 pub mod Room
 pub mod Lines
+pub mod Marks
 pub mod Request
 pub mod Read
 pub mod LineBuffer

@@ -1,11 +1,13 @@
 -- Replies: the document that answers a request, and its line.
-use Rattle.std.specs.Prelude.{ℕ, List, [], ◌∷◌, ◌++◌, map, flat_map, length, min, pos, true, false, codes, encode_utf8_all, Option, None, Some}
-use Rattle.doc_tree.specs.Doc.{Doc, boolean, int, text, list, object, member, no_members, Elements, no_elements, element, Members}
+use Rattle.std.specs.Prelude.{ℕ, List, [], ◌∷◌, ◌++◌, map, flat_map, length, min, pos, true, false, codes, encode_utf8_all, Option, None, Some, option_map}
+use Rattle.doc_tree.specs.Doc.{Doc, null, boolean, int, text, list, object, member, no_members, Elements, no_elements, element, Members}
 use Rattle.doc_tree.specs.Text.{text_of}
 use Rattle.doc_tree.specs.TreeView.{elements_of}
 use Rattle.path_eval.specs.Nodes.{Located}
 use Rattle.path_parse.specs.NormalPath.{normal_path}
 use Rattle.refusals.specs.Names.{name_of}
+use Rattle.refusals.specs.declared.numbers.TheConstants.{MARK}
+use Rattle.doc_changes.specs.Marks.{Mark}
 use Rattle.doc_changes.specs.declared.refusal.Refusal.{Refusal}
 use Rattle.store_commits.specs.declared.pump.Pump.{Pump}
 use Rattle.store_commits.specs.declared.pump.CopyState.{CopyState}
@@ -63,6 +65,24 @@ nodes_reply nodes = object (member (codes "nodes") (list (elements_of (map node_
 abbrev pub with_number : List ℕ → Option ℕ → Members → Members
 with_number name None members = members
 with_number name (Some number) members = member name (int (pos number)) members
+
+-- the value of a mark, or null if there is none
+abbrev pub value_or_null : Option Mark → Doc
+value_or_null None = null
+value_or_null (Some m) = text m.value
+
+-- the number of a mark, if there is one
+abbrev pub seq_of_mark : Option Mark → Members
+seq_of_mark m = with_number (codes "seq") (option_map (λ mark. mark.seq) m) no_members
+
+-- the mark that was asked for, if it is there
+abbrev pub mark_reply : Option Mark → Doc
+mark_reply m = object (member (codes "mark") (value_or_null m) (member (codes "ok") (boolean true) (seq_of_mark m)))
+
+-- changes were refused, since they ask for another mark than the present one, which is this, if it is there
+abbrev pub other_mark_reply : Option Mark → Doc
+other_mark_reply present =
+    object (member (codes "error") (text (name_of MARK)) (member (codes "mark") (value_or_null present) (member (codes "number") (int (pos MARK)) (member (codes "ok") (boolean false) (seq_of_mark present)))))
 
 -- the members that only some refusals have: the operation of a patch at fault, and the document's revision if a patch
 -- asked for another; and, as the first member, the change of a transaction that was refused

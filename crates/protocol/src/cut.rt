@@ -2,6 +2,8 @@
 ghost use Rattle.std.specs.Prelude.{◌≡◌, ◌==◌, ◌++◌, ◌∷◌, MatchOption, position};
 ghost use Rattle.protocol.specs.Lines.{line_feed, HasNoBreak};
 
+use memchr::memchr;
+
 /// What comes before the first line feed, and after it.
 pub fn cut_at_feed(bytes: &[u8]) -> Option<(&[u8], &[u8])>
     ensures { MatchOption result (HasNoBreak bytes.now)
@@ -16,5 +18,5 @@ pub fn cut_at_feed(bytes: &[u8]) -> Option<(&[u8], &[u8])>
 fn feed_in(bytes: &[u8]) -> Option<usize>
     ensures { result ≡ position (λ b. b == line_feed) bytes.now }
 {
-    bytes.iter().position(|b| *b == b'\n')
+    memchr(b'\n', bytes)
 }

@@ -73,7 +73,8 @@ fn comma(number: usize) -> &'static str
     if number > 0 { "," } else { "" }
 }
 
-fn with_bytes(line: Vec<u8>, bytes: &[u8]) -> Result<Vec<u8>, AllocError>
+/// The line with these bytes after it.
+pub(crate) fn with_bytes(line: Vec<u8>, bytes: &[u8]) -> Result<Vec<u8>, AllocError>
     ensures { IfOk result (λ longer. longer.items ≡ line.items ++ bytes.now) }
 {
     let mut longer = line;

@@ -1,17 +1,18 @@
 //! The requests of lines.
-ghost use Rattle.std.specs.Prelude.{◌≡◌, ◌≤◌, ◌↔◌, length, codes, IfErr, IfOk, IsTrue, MatchOption};
+ghost use Rattle.std.specs.Prelude.{◌≡◌, ◌≤◌, length, codes, IfErr, IfOk};
 ghost use Rattle.doc_tree.specs.Cursor.{IsNext, ahead};
-ghost use Rattle.doc_tree.specs.Doc.{Elements, object};
+ghost use Rattle.doc_tree.specs.Doc.{object};
 ghost use Rattle.doc_tree.specs.Fault.{IsFaultOf};
 ghost use Rattle.doc_tree.specs.Read.{document, read_of};
-ghost use Rattle.doc_tree.specs.TreeView.{elements_view, view};
-ghost use Rattle.protocol.specs.Read.{AreCommands, AsksWith, IsRequest, ReadsRequest, transaction_members};
+ghost use Rattle.doc_tree.specs.TreeView.{view};
+ghost use Rattle.protocol.specs.Read.{AsksWith, IsRequest, IsUnmarkedRequest, ReadsRequest};
 
 use crate::limits::{LINE_BYTES, PUMP_SECTORS};
-use doc_machine::limits::TRANSACTION_CHANGES;
-use doc_machine::{Command, Refusal, Transaction};
+use crate::marked::{marked, take_out};
+use crate::several::several;
+use doc_machine::{Refusal, Transaction};
 use doc_tree::{MemberCursor, Tree, TreeFault};
-use record_text::{command_from, command_with, plain_tree};
+use record_text::{command_with, plain_tree};
 use refusals::numbers::COMMAND;
 use std::alloc::{AllocError, Global};
 
@@ -26,6 +27,8 @@ pub enum Request {
     GetSchema { name: String },
     /// The revision of a document.
     Rev { name: String },
+    /// The mark of a key.
+    Mark { key: String },
     /// What a query selects in a document. Whether the path is a query isn't judged yet.
     Query { name: String, path: String },
     /// The names of all documents.
@@ -69,26 +72,51 @@ fn document_in(alloc: Global, line: &[u8]) -> Result<Tree, TreeFault>
 fn request_in(alloc: Global, tree: Tree) -> Result<Option<Request>, AllocError>
     ensures { IfOk result (IsRequest (view tree)) }
 {
+    let Tree::Object(mut members) = tree else {
+        return Ok(None);
+    };
+    match take_out(&mut members, "mark") {
+        Some(mark) => marked(alloc, mark, members),
+        None => unmarked(alloc, Tree::Object(members)),
+    }
+}
+
+// The request that speaks of no mark with its changes and whose object it is.
+fn unmarked(alloc: Global, tree: Tree) -> Result<Option<Request>, AllocError>
+    ensures { IfOk result (IsUnmarkedRequest (view tree)) }
+{
     let Some(members) = MemberCursor::of(tree) else {
         return Ok(None);
     };
     if members.is_at("changes") {
-        several(alloc, members)
+        transaction(alloc, members)
     } else {
         Ok(alone(members))
+    }
+}
+
+// The transaction whose object has these members, of which the first is its changes.
+fn transaction(alloc: Global, members: MemberCursor) -> Result<Option<Request>, AllocError>
+    requires { IsNext (codes "changes") (ahead members) }
+    ensures { IfOk result (IsUnmarkedRequest (object (ahead members))) }
+{
+    match several(alloc, members)? {
+        Some(commands) => Ok(Some(Request::Change(Transaction::Several(commands)))),
+        None => Ok(None),
     }
 }
 
 // The request whose object has these members, and no changes in it.
 fn alone(members: MemberCursor) -> Option<Request>
     requires { IsNext (codes "changes") (ahead members) → ⊥ }
-    ensures { IsRequest (object (ahead members)) result }
+    ensures { IsUnmarkedRequest (object (ahead members)) result }
 {
     let (word, others) = members.take_text("cmd")?;
     match word.as_str() {
         "get" => get(others),
         "get-schema" => get_schema(others),
         "rev" => rev(others),
+        "mark" => mark(others),
         "query" => query(others),
         "list" => list(others),
         "status" => status(others),
@@ -100,62 +128,6 @@ fn alone(members: MemberCursor) -> Option<Request>
             Some(Request::Change(Transaction::Single(command)))
         }
     }
-}
-
-// The transaction whose object has these members, of which the first is its changes.
-fn several(alloc: Global, members: MemberCursor) -> Result<Option<Request>, AllocError>
-    requires { IsNext (codes "changes") (ahead members) }
-    ensures { IfOk result (IsRequest (object (ahead members))) }
-{
-    let Some(changes) = changes_in(members) else {
-        return Ok(None);
-    };
-    if !is_countable(changes.len()) {
-        return Ok(None);
-    }
-    match commands_in(alloc, changes)? {
-        Some(commands) => Ok(Some(Request::Change(Transaction::Several(commands)))),
-        None => Ok(None),
-    }
-}
-
-// Whether a transaction may have `many` changes.
-fn is_countable(many: usize) -> bool
-    ensures { IsTrue result ↔ ((1 ≤ many) × (many ≤ 1_024)) }
-{
-    1 <= many && many <= TRANSACTION_CHANGES
-}
-
-// The list of changes if these are the members of a transaction's object.
-fn changes_in(members: MemberCursor) -> Option<Vec<Tree>>
-    ensures { MatchOption result
-        ((ds : Elements) → ahead members ≡ transaction_members ds → ⊥)
-        (λ trees. ahead members ≡ transaction_members (elements_view trees.items)) }
-{
-    let (value, rest) = members.take("changes")?;
-    let (word, rest) = rest.take_text("cmd")?;
-    rest.end()?;
-    if word.as_str() != "transaction" {
-        return None;
-    }
-    match value {
-        Tree::List(trees) => Some(trees),
-        _ => None,
-    }
-}
-
-// The commands whose objects these are, with the trees' own parts. `None` if one is no command's.
-fn commands_in(alloc: Global, trees: Vec<Tree>) -> Result<Option<Vec<Command>>, AllocError>
-    ensures { IfOk result (AreCommands (elements_view trees.items)) }
-{
-    let mut commands = Vec::with_capacity(alloc, trees.len())?;
-    for tree in trees {
-        let Some(command) = command_from(tree) else {
-            return Ok(None);
-        };
-        commands.push(command)?;
-    }
-    Ok(Some(commands))
 }
 
 fn get(others: MemberCursor) -> Option<Request>
@@ -181,6 +153,14 @@ fn rev(others: MemberCursor) -> Option<Request>
     let (name, rest) = others.take_text("name")?;
     rest.end()?;
     Some(Request::Rev { name })
+}
+
+fn mark(others: MemberCursor) -> Option<Request>
+    ensures { AsksWith (codes "mark") (ahead others) result }
+{
+    let (key, rest) = others.take_text("key")?;
+    rest.end()?;
+    Some(Request::Mark { key })
 }
 
 fn query(others: MemberCursor) -> Option<Request>

@@ -14,7 +14,8 @@ use Rattle.path_eval.specs.Evaluating.{nodelist}
 use Rattle.path_eval.specs.Nodes.{Located, only_node}
 use Rattle.path_eval.specs.TooMany.{too_many}
 use Rattle.refusals.specs.Names.{name_of}
-use Rattle.refusals.specs.declared.numbers.TheConstants.{BROKEN, MEMORY, NAME, NO_DOCUMENT, NO_VALUE, PATH, PATH_LEFT_OUT, PATH_LONG, PATH_NODES, REPLY_LONG}
+use Rattle.refusals.specs.declared.numbers.TheConstants.{BROKEN, MARK, MEMORY, NAME, NO_DOCUMENT, NO_VALUE, PATH, PATH_LEFT_OUT, PATH_LONG, PATH_NODES, REPLY_LONG}
+use Rattle.doc_changes.specs.Marks.{Mark, mark_of}
 use Rattle.doc_changes.specs.Names.{is_name}
 use Rattle.doc_changes.specs.Reading.{document_at, found_or, in_document, value_at}
 use Rattle.doc_changes.specs.Refusals.{plain}
@@ -26,10 +27,10 @@ use Rattle.store_commits.specs.Account.{Account}
 use Rattle.store_commits.specs.Run.{Event}
 use Rattle.store_commits.specs.declared.event.Reply.{Reply}
 use Rattle.protocol.specs.declared.limits.TheConstants.{REPLY_BYTES}
-use Rattle.protocol.specs.Request.{Request, Asks, IsAskedBy, IsInRange, change, get, get_schema, rev, query, list, status, snapshot, pump, seal, object_of}
-use Rattle.protocol.specs.Reply.{change_reply, names_reply, node_object, nodes_reply, refusal_reply, revision_reply, texts, told_by, value_reply, with_number}
+use Rattle.protocol.specs.Request.{Request, Asks, IsAskedBy, IsInRange, change, get, get_schema, rev, mark, query, list, status, snapshot, pump, seal, object_of}
+use Rattle.protocol.specs.Reply.{change_reply, mark_reply, names_reply, node_object, nodes_reply, other_mark_reply, refusal_reply, revision_reply, texts, told_by, value_or_null, value_reply, with_number}
 use Rattle.serve_lines.specs.Kept.{AsksFor, Has, HaveOwnNames, IsRefusal, LineTells, Refuses, Shows, Tells}
-use Rattle.serve_lines.specs.Session.{AnswersOther, Finds, Replies, Selects, found_reply, id_of, reply_to_rev, selected_reply}
+use Rattle.serve_lines.specs.Session.{AnswersOther, Finds, Replies, Selects, found_reply, id_of, reply_to_mark, reply_to_rev, selected_reply}
 use Rattle.serve_lines.proofs.Statuses.{tells_seq}
 
 true_false : true ≡ false → ⊥
@@ -69,8 +70,16 @@ refuses r =
 pub refuses_by : (reply : Doc) (r : Refusal) → reply ≡ refusal_reply r → Refuses reply r.number
 refuses_by reply r is = subst (λ (d : Doc). Refuses d r.number) (sym is) (refuses r)
 
-is_refusal : (reply : Doc) (r : Refusal) → reply ≡ refusal_reply r → IsRefusal reply
+pub is_refusal : (reply : Doc) (r : Refusal) → reply ≡ refusal_reply r → IsRefusal reply
 is_refusal reply r is = (r.number, refuses_by reply r is)
+
+-- the reply that tells the present mark refuses too
+other_mark_is : (present : Option Mark) → Refuses (other_mark_reply present) MARK
+other_mark_is None = (_, refl, (refl, (refl, (refl, (refl, tt)))), refl, refl)
+other_mark_is (Some m) = (_, refl, (refl, (refl, (refl, (refl, (refl, tt))))), refl, refl)
+
+pub other_mark_refuses : (reply : Doc) (present : Option Mark) → reply ≡ other_mark_reply present → IsRefusal reply
+other_mark_refuses reply present is = (MARK, subst (λ (d : Doc). Refuses d MARK) (sym is) (other_mark_is present))
 
 -- one that refuses doesn't say that a transaction was done
 no_ok : (reply : Doc) → IsRefusal reply → (seq : ℕ) → reply ≢ change_reply seq
@@ -165,6 +174,10 @@ revision_answered : (s : State) (name : List ℕ) (reply : Doc) (r : Result Docu
 revision_answered s name reply (Ok d) is said = inl (d, has_document s name d is, said)
 revision_answered s name reply (Err r) is said = inr (is_refusal reply r said, λ shown shows. no_other s name shows.0 r shows.1 is)
 
+mark_answered : (s : State) (key : List ℕ) (reply : Doc) (named : Bool) → is_name key ≡ named → reply ≡ reply_to_mark (if named then Ok (mark_of key s.marks) else Err (plain NAME)) → IsAnswered s (mark key) reply
+mark_answered s key reply true is said = inl (is, said)
+mark_answered s key reply false is said = inr (is_refusal reply (plain NAME) said, λ shown shows. true_false (sym shows.0 ∙ is))
+
 -- the reply to nodes that were selected
 sized_reply : (s : State) (name path : List ℕ) (reply : Doc) (d : Document) (q : Segments) (long : Bool) → Has s name d → length path ≤ 1_024 → SpellsOnly q (chars path) → too_many d.doc q (only_node d.doc) ≡ false
     → nat_le (length (text_of (nodes_reply (nodelist d.doc q (only_node d.doc))))) REPLY_BYTES ≡ long
@@ -220,6 +233,7 @@ request_tells old new seal events said reply (Err r, answers, is, asked, told) =
 request_tells old new (get name path) events said reply h = value_answered old.state name path reply h.0 h.1 h.2
 request_tells old new (get_schema name) events said reply h = schema_answered old.state name reply (document_at old.state name) refl h.0
 request_tells old new (rev name) events said reply h = revision_answered old.state name reply (document_at old.state name) refl h.0
+request_tells old new (mark key) events said reply h = mark_answered old.state key reply (is_name key) refl h.0
 request_tells old new (query name path) events said reply h = query_answered old.state name path reply h.0 h.1 h.2
 request_tells old new list events said reply h = inl h.0
 request_tells old new status events said reply h = inl (ap (resolve (codes "seq" ∷ [])) h.0 ∙ tells_seq (status_of old) (id_of (status_of old)), ap (resolve (codes "documents" ∷ [])) h.0)
@@ -254,6 +268,7 @@ not_shown s seal seq shows = shows
 not_shown s (get name path) seq shows = other_member seq (codes "value") (value_reply shows.4) shows.4 shows.6 refl refl
 not_shown s (get_schema name) seq shows = other_member seq (codes "value") (value_reply shows.0.schema) shows.0.schema shows.2 refl refl
 not_shown s (rev name) seq shows = other_member seq (codes "rev") (revision_reply shows.0.revision) (int (pos shows.0.revision)) shows.2 refl refl
+not_shown s (mark key) seq shows = other_member seq (codes "mark") (mark_reply (mark_of key s.marks)) (value_or_null (mark_of key s.marks)) shows.1 refl refl
 not_shown s (query name path) seq shows =
     let nodes = nodelist shows.0.doc shows.3 (only_node shows.0.doc) in
     other_member seq (codes "nodes") (nodes_reply nodes) (docs.list (elements_of (map node_object nodes))) shows.6 refl refl
@@ -268,6 +283,7 @@ request_not_done s seal seq tells = ⊎_elim (no_seq seq) (not_refused seq) tell
 request_not_done s (get name path) seq tells = ⊎_elim (not_shown s (get name path) seq) (λ refused. not_refused seq refused.0) tells
 request_not_done s (get_schema name) seq tells = ⊎_elim (not_shown s (get_schema name) seq) (λ refused. not_refused seq refused.0) tells
 request_not_done s (rev name) seq tells = ⊎_elim (not_shown s (rev name) seq) (λ refused. not_refused seq refused.0) tells
+request_not_done s (mark key) seq tells = ⊎_elim (not_shown s (mark key) seq) (λ refused. not_refused seq refused.0) tells
 request_not_done s (query name path) seq tells = ⊎_elim (not_shown s (query name path) seq) (λ refused. not_refused seq refused.0) tells
 request_not_done s list seq tells = ⊎_elim (not_shown s list seq) (λ refused. not_refused seq refused.0) tells
 request_not_done s status seq tells = ⊎_elim (not_shown s status seq) (λ refused. not_refused seq refused.0) tells

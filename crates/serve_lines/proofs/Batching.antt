@@ -1,10 +1,11 @@
 -- Changes of one batch: what they were replied, and what followed them.
-use Rattle.std.proofs.Common.{◌≡◌, inl, inr, refl, ap, sym, ◌∙◌, subst, List, [], ◌∷◌, ◌++◌, length, map, replicate, arith, length-append}
-use Rattle.std.proofs.lemmas.List.{append-nil}
+use Rattle.std.proofs.Common.{◌≡◌, inl, inr, refl, ap, sym, ◌∙◌, subst, List, [], ◌∷◌, ◌++◌, length, map, replicate, arith, length-append, ℕ, suc, ◌+◌, ◌<◌, ◌≤◌, Option, String, Global, get_or, drop, drop-cons, add-one, append_assoc}
+use Rattle.std.proofs.lemmas.List.{append-nil, drop_all}
 use Rattle.sector_device.specs.Disk.{Disk}
 use Rattle.doc_tree.specs.Doc.{Doc}
 use Rattle.doc_machine.specs.Transaction.{Transaction}
 use Rattle.doc_changes.specs.Refusals.{plain}
+use Rattle.doc_changes.specs.State.{State}
 use Rattle.doc_changes.specs.declared.refusal.Refusal.{Refusal}
 use Rattle.refusals.specs.declared.numbers.TheConstants.{MEMORY}
 use Rattle.store_commits.specs.Account.{Account, StoreView}
@@ -16,47 +17,25 @@ use Rattle.store_commits.specs.declared.event.Reply.TheVariants.{Done, Snapped, 
 use Rattle.store_commits.proofs.Modelled.{AreCoherent}
 use Rattle.store_commits.proofs.Running.{batch_paired, ran_joined}
 use Rattle.protocol.specs.Reply.{refusal_reply}
+use Rattle.protocol.specs.Says.{Says}
 use Rattle.protocol.specs.declared.reply.Reply.{Reply}
 use Rattle.protocol.specs.declared.reply.Reply.TheVariants as shown
-use Rattle.serve_lines.specs.LineReplies.{AllSay, BatchIsAnswered, EndsBatch, FollowsBatch, MakesCopyStep, IsRunFrom, shown_as}
-use Rattle.serve_lines.specs.Session.{Follows, HasDone, WantsStep, shown_reply}
+use Rattle.serve_lines.specs.LineReplies.{AllSay, BatchIsAnswered, EndsBatch, FollowsBatch, MakesCopyStep, IsRunFrom, key_in, shown_as}
+use Rattle.serve_lines.specs.Session.{AreTold, Follows, HasDone, IsTold, WantsStep, key_of, shown_reply}
 use Rattle.serve_lines.specs.declared.options.Options.{Options}
 
 pub none_long : {X : Type 0} (xs : List X) → length xs ≡ 0 → xs ≡ []
 none_long [] e = refl
 none_long (x ∷ xs) e = absurd (omega (arith, e))
 
--- ---- replies
-
-pub says_append : (xs ys : List Reply) (a b : List Doc) → AllSay xs a → AllSay ys b → AllSay (xs ++ ys) (a ++ b)
-says_append [] ys [] b h k = k
-says_append [] ys (d ∷ a) b h k = absurd h
-says_append (x ∷ xs) ys [] b h k = absurd h
-says_append (x ∷ xs) ys (d ∷ a) b h k = (h.0, says_append xs ys a b h.1 k)
-
--- no reply says nothing
-pub says_none : (docs : List Doc) → AllSay [] docs → docs ≡ []
-says_none [] h = refl
-says_none (d ∷ docs) h = absurd h
-
--- the replies of a store, as a session's
-pub says_shown : (said : List StoreReply) → AllSay (map shown_as said) (map shown_reply said)
-says_shown [] = tt
-says_shown (Done seq ∷ said) = (refl, says_shown said)
-says_shown (Snapped used ∷ said) = (refl, says_shown said)
-says_shown (Pumped step ∷ said) = (refl, says_shown said)
-says_shown (Sealed ∷ said) = (refl, says_shown said)
-says_shown (Refused refusal ∷ said) = (refl, says_shown said)
-
--- one refusal to each
-pub says_refused : (refusal : Refusal) (cs : List Transaction) → AllSay (replicate (length cs) (shown.Refused refusal)) (map (λ _. refusal_reply refusal) cs)
-says_refused refusal [] = tt
-says_refused refusal (c ∷ cs) = (refl, says_refused refusal cs)
-
 -- ---- one reply to each change
 
 pub one_reply_each : (a b : Account) (ts : List Transaction) (rs : List StoreReply) (commits : List Commit) → IsBatch a ts rs commits b → length rs ≡ length ts
 one_reply_each a b ts rs commits is = sym (batch_paired a b ts rs commits is)
+
+-- as many as were made
+pub made_each : {D : Type 0} (disk : D → Disk) (old mid : StoreView D) (cs : List Transaction) (said : List StoreReply) → Batched disk old mid cs said → length said ≡ length cs
+made_each disk old mid cs said made = one_reply_each old.account mid.account cs said made.is.commits made.is.batch
 
 -- ---- what a batch led to
 
@@ -74,23 +53,15 @@ module _ {D : Type 0} (disk : D → Disk) (options : Options) where
     led = inl (refl, refl, refl);
   }
 
-  module _ (old mid : StoreView D) (cs : List Transaction) (said : List StoreReply) (made : Batched disk old mid cs said) where
-    -- as many as were made
-    pub made_each : length said ≡ length cs
-    made_each = one_reply_each old.account mid.account cs said made.is.commits made.is.batch
-
-    -- the reply to each
-    abbrev pub docs : List Doc
-    docs = map shown_reply said
-
-    -- and what follows them
+  module _ (old mid : StoreView D) (cs : List Transaction) (said : List StoreReply) (docs : List Doc) (made : Batched disk old mid cs said) (told : AreTold mid.account.state (map key_of cs) said docs) where
+    -- what follows it
     batch_with : (new : StoreView D) (more : List store.Event) (more_said : List StoreReply) → Follows options said mid.account more more_said new.account → IsRunFrom disk old (changes cs ++ more) (said ++ more_said) new
         → BatchIsAnswered disk options old cs docs new
     batch_with new more more_said follows led = record {
       mid = mid.account;
       own = changes cs;
       own_said = said;
-      answers = inr (made.is.commits, made.is.batch, refl, refl);
+      answers = inr (made.is.commits, made.is.batch, refl, told);
       more = more;
       more_said = more_said;
       follows = follows;

@@ -19,7 +19,7 @@ use Rattle.serve_lines.specs.LineReplies.{AllSay}
 use Rattle.serve_lines.specs.declared.session.Session.{Session}
 use Rattle.serve_lines.specs.declared.options.Options.{Options}
 use Rattle.serve_lines.specs.Serve.{IsSession}
-use Rattle.serve_lines.proofs.Batching.{says_none}
+use Rattle.serve_lines.proofs.Saying.{says_none}
 use Rattle.serve_lines.proofs.Ending.{reaches_more, reaches_start, settles_ended}
 
 -- the first of the replies that are ready says the first of their documents

@@ -28,7 +28,7 @@ use Rattle.protocol.specs.Request as asked
 use Rattle.protocol.specs.Reply.{refusal_reply}
 use Rattle.serve_lines.specs.Kept.{IsKept, Replied, no_line, was_done, was_hit, was_told}
 use Rattle.serve_lines.specs.Serve.{BreaksOff, IsSession, Pauses}
-use Rattle.serve_lines.specs.Session.{AnswersGroup, AnswersOther, AreGroups, Does, Follows, Group, Replies, Session, alone, begun, no_groups, one_alone, one_full, one_more, one_short, shown_reply, together}
+use Rattle.serve_lines.specs.Session.{AnswersGroup, AnswersOther, AreGroups, Does, Follows, Group, Replies, Session, alone, begun, no_groups, one_alone, one_full, one_more, one_short, together}
 use Rattle.serve_lines.specs.declared.options.Options.{Options}
 use Rattle.serve_lines.proofs.Answering.{other_tells}
 use Rattle.serve_lines.proofs.Batching.{one_reply_each}
@@ -118,6 +118,7 @@ quiet_request old new asked.seal events said reply h = quiet_seal old new events
 quiet_request old new (asked.get name path) events said reply h = quiet_none old new events said h.3.0 h.3.1 h.3.2
 quiet_request old new (asked.get_schema name) events said reply h = quiet_none old new events said h.1.0 h.1.1 h.1.2
 quiet_request old new (asked.rev name) events said reply h = quiet_none old new events said h.1.0 h.1.1 h.1.2
+quiet_request old new (asked.mark key) events said reply h = quiet_none old new events said h.1.0 h.1.1 h.1.2
 quiet_request old new (asked.query name path) events said reply h = quiet_none old new events said h.3.0 h.3.1 h.3.2
 quiet_request old new asked.list events said reply h = quiet_none old new events said h.1.0 h.1.1 h.1.2
 quiet_request old new asked.status events said reply h = quiet_none old new events said h.1.0 h.1.1 h.1.2
@@ -182,14 +183,14 @@ own_replied old mid (together lines) events said replies (cs, asks, inl memory) 
     (quiet_replied old mid lines events said (map (λ _. refusal_reply (plain MEMORY)) cs) (quiet_none old mid events said memory.1.0 memory.1.1 memory.1.2) (batch_unmade old.state lines cs asks))
 own_replied old mid (together lines) events said replies (cs, asks, inr batch) =
     let counted = batch_counts old mid cs said batch.0 batch.1 in
-    let own : LinesReplied old mid lines (changes cs) said (map shown_reply said) = record {
+    let own : LinesReplied old mid lines (changes cs) said replies = record {
       each = changes_length cs ∙ sym (one_reply_each old mid cs said batch.0 batch.1);
-      replied = batch_replied old.state lines cs said asks counted.counts;
+      replied = batch_replied old.state mid.state lines cs said replies asks counted.counts batch.3;
       state = counted.state;
       hit = counted.hit;
       broke = counted.broke;
     } in
-    subst (λ (es : List Event). LinesReplied old mid lines es said replies) (sym batch.2) (subst (λ (l : List Doc). LinesReplied old mid lines (changes cs) said l) (sym batch.3) own)
+    subst (λ (es : List Event). LinesReplied old mid lines es said replies) (sym batch.2) own
 
 group_replied : (options : Options) (old new : Account) (group : Group) (events : List Event) (said : List Reply) (replies : List Doc) → Does options old group events said replies new
     → LinesReplied old new (lines_in group) events said replies

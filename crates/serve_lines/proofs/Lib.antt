@@ -1,4 +1,5 @@
 pub mod Batching
+pub mod Saying
 pub mod Ending
 pub mod Hearing
 mod One

@@ -12,6 +12,7 @@ use Rattle.path_grammar.specs.Answers.{SpellsOnly}
 use Rattle.path_eval.specs.Evaluating.{nodelist}
 use Rattle.path_eval.specs.Nodes.{only_node}
 use Rattle.path_eval.specs.TooMany.{too_many}
+use Rattle.doc_changes.specs.Marks.{mark_of}
 use Rattle.doc_changes.specs.Names.{is_name}
 use Rattle.doc_changes.specs.State.{Document, State, find}
 use Rattle.doc_machine.specs.Transaction.{Transaction, after_in}
@@ -20,8 +21,8 @@ use Rattle.store_commits.specs.Account.{StoreView}
 use Rattle.doc_store.specs.Promise.{KeepsPromise}
 use Rattle.protocol.specs.declared.limits.TheConstants.{LINE_BYTES, REPLY_BYTES}
 use Rattle.protocol.specs.Lines.{lines_of}
-use Rattle.protocol.specs.Request.{Request, change, get, get_schema, rev, query, list, status, snapshot, pump, seal, object_of, IsInRange}
-use Rattle.protocol.specs.Reply.{change_reply, names_reply, nodes_reply, revision_reply, value_reply}
+use Rattle.protocol.specs.Request.{Request, change, get, get_schema, rev, mark, query, list, status, snapshot, pump, seal, object_of, IsInRange}
+use Rattle.protocol.specs.Reply.{change_reply, mark_reply, names_reply, nodes_reply, revision_reply, value_reply}
 
 -- A line asks for a request: it isn't too long, and read as JSON it is the request's object.
 abbrev pub AsksFor : List ℕ → Request → Type 0
@@ -49,6 +50,7 @@ abbrev pub Shows : State → Request → Doc → Type 0
 Shows s (get name path) reply = (d : Document) × Has s name d × (tokens : List (List ℕ)) × (pointer_text tokens ≡ path) × (v : Doc) × (resolve tokens d.doc ≡ Some v) × (reply ≡ value_reply v)
 Shows s (get_schema name) reply = (d : Document) × Has s name d × (reply ≡ value_reply d.schema)
 Shows s (rev name) reply = (d : Document) × Has s name d × (reply ≡ revision_reply d.revision)
+Shows s (mark key) reply = (is_name key ≡ true) × (reply ≡ mark_reply (mark_of key s.marks))
 Shows s (query name path) reply =
     (d : Document) × Has s name d × (length path ≤ 1_024) × (q : Segments) × SpellsOnly q (chars path) × (too_many d.doc q (only_node d.doc) ≡ false)
     × (reply ≡ nodes_reply (nodelist d.doc q (only_node d.doc))) × (length (text_of reply) ≤ REPLY_BYTES)

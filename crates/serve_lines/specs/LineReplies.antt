@@ -1,5 +1,6 @@
 -- The answers to a request or a line, for private clauses.
-use Rattle.std.specs.Prelude.{◌≡◌, ◌⊎◌, ◌<◌, List, [], ◌∷◌, ◌++◌, length, ℕ, Result, ⊤}
+use Rattle.std.specs.Prelude.{◌≡◌, ◌⊎◌, ◌<◌, List, [], ◌∷◌, ◌++◌, length, ℕ, Option, String, option_map, string_bytes, Result, ⊤}
+use Rattle.std.specs.Global.{Global}
 use Rattle.sector_device.specs.Disk.{Disk}
 use Rattle.doc_tree.specs.Doc.{Doc}
 use Rattle.doc_machine.specs.Transaction.{Transaction}
@@ -88,3 +89,7 @@ AllSay [] [] = ⊤
 AllSay [] (said ∷ docs) = ⊥
 AllSay (reply ∷ replies) [] = ⊥
 AllSay (reply ∷ replies) (said ∷ docs) = Says reply said × AllSay replies docs
+
+-- the key of a mark, if there is one, without its place in memory
+abbrev pub key_in : Option (String Global) → Option (List ℕ)
+key_in key = option_map string_bytes key

@@ -1,22 +1,23 @@
 -- Sessions: the replies to the lines that were read, one to each, in order.
-use Rattle.std.specs.Prelude.{◌≡◌, ◌⊎◌, ◌<◌, ◌≤◌, ◌*◌, ℕ, Bool, List, [], ◌∷◌, ◌++◌, map, max, length, chars, nat_le, if◌then◌else◌, is_some, option_map, true, false, Option, Some, None, Result, Ok, Err, ⊤, pos, codes}
+use Rattle.std.specs.Prelude.{◌≡◌, ◌⊎◌, ◌<◌, ◌≤◌, ◌*◌, ℕ, Bool, List, [], ◌∷◌, ◌++◌, map, max, length, chars, nat_eq, nat_le, if◌then◌else◌, is_some, option_map, true, false, Option, Some, None, Result, Ok, Err, ⊤, pos, codes}
 use Rattle.std.specs.List.{list_any}
 use Rattle.std.specs.Int.{w128, to_be_bytes}
 use Rattle.hex.specs.Hex.{encode_lower}
 use Rattle.doc_tree.specs.Doc.{Doc, Members, boolean, int, text, object, member, no_members}
 use Rattle.doc_tree.specs.Text.{text_of}
-use Rattle.doc_machine.specs.Transaction.{Transaction}
+use Rattle.doc_machine.specs.Transaction.{Transaction, marked}
 use Rattle.doc_pointer.specs.Text.{pointer_text}
 use Rattle.doc_pointer.specs.Fault.{IsNoPointer}
 use Rattle.path_grammar.specs.Syntax.{Segments}
 use Rattle.path_grammar.specs.Answers.{SpellsOnly, SpellsLeftOut, SpellsNone}
 use Rattle.path_eval.specs.Nodes.{Located}
 use Rattle.doc_changes.specs.Refusals.{plain}
+use Rattle.doc_changes.specs.Marks.{Mark, mark_of}
 use Rattle.doc_changes.specs.State.{State}
-use Rattle.doc_changes.specs.Reading.{value_at, schema_at, revision_at, names_of}
+use Rattle.doc_changes.specs.Reading.{value_at, schema_at, revision_at, mark_at, names_of}
 use Rattle.doc_machine.specs.Queries.{nodes_at}
 use Rattle.doc_changes.specs.declared.refusal.Refusal.{Refusal}
-use Rattle.refusals.specs.declared.numbers.TheConstants.{MEMORY, POINTER, PATH, PATH_LEFT_OUT, PATH_LONG, REPLY_LONG}
+use Rattle.refusals.specs.declared.numbers.TheConstants.{MARK, MEMORY, POINTER, PATH, PATH_LEFT_OUT, PATH_LONG, REPLY_LONG}
 use Rattle.store_commits.specs.Account.{Account}
 use Rattle.store_commits.specs.Batch.{Commit, IsBatch, changes}
 use Rattle.store_commits.specs.Events.{is_done}
@@ -30,8 +31,8 @@ use Rattle.store_commits.specs.declared.event.Reply.TheVariants.{Done, Snapped, 
 use Rattle.doc_store.specs.Formats.{status_of}
 use Rattle.store_commits.specs.declared.pump.Pump.{Pump}
 use Rattle.protocol.specs.declared.limits.TheConstants.{REPLY_BYTES}
-use Rattle.protocol.specs.Request.{Request, change, get, get_schema, rev, query, list, status, snapshot, pump, seal, Asks}
-use Rattle.protocol.specs.Reply.{change_reply, snapshot_reply, pump_reply, sealed_reply, value_reply, revision_reply, nodes_reply, names_reply, refusal_reply}
+use Rattle.protocol.specs.Request.{Request, change, get, get_schema, rev, mark, query, list, status, snapshot, pump, seal, Asks}
+use Rattle.protocol.specs.Reply.{change_reply, snapshot_reply, pump_reply, sealed_reply, value_reply, revision_reply, mark_reply, other_mark_reply, nodes_reply, names_reply, refusal_reply}
 use Rattle.serve_lines.specs.declared.options.Options.{Options}
 use Rattle.serde.specs.Event.{Log, Logs, field_key, unsigned}
 use Rattle.serde.specs.Event as event
@@ -111,6 +112,11 @@ abbrev pub reply_to_rev : Result ℕ Refusal → Doc
 reply_to_rev (Ok revision) = revision_reply revision
 reply_to_rev (Err refusal) = refusal_reply refusal
 
+-- the reply to a request for a mark
+abbrev pub reply_to_mark : Result (Option Mark) Refusal → Doc
+reply_to_mark (Ok m) = mark_reply m
+reply_to_mark (Err refusal) = refusal_reply refusal
+
 -- the reply to a query: its nodes, unless the text of that reply is over the limit
 abbrev pub selected_reply : Result (List Located) Refusal → Doc
 selected_reply (Ok nodes) = if nat_le (length (text_of (nodes_reply nodes))) REPLY_BYTES then nodes_reply nodes else refusal_reply (plain REPLY_LONG)
@@ -149,6 +155,7 @@ Replies old seal events said reply new =
 Replies old (get name path) events said reply new = (found : Result Doc Refusal) × Finds old.state name path found × (reply ≡ found_reply found) × ChangesNothing old events said new
 Replies old (get_schema name) events said reply new = (reply ≡ found_reply (schema_at old.state name)) × ChangesNothing old events said new
 Replies old (rev name) events said reply new = (reply ≡ reply_to_rev (revision_at old.state name)) × ChangesNothing old events said new
+Replies old (mark key) events said reply new = (reply ≡ reply_to_mark (mark_at old.state key)) × ChangesNothing old events said new
 Replies old (query name path) events said reply new =
     (selected : Result (List Located) Refusal) × Selects old.state name path selected × (reply ≡ selected_reply selected) × ChangesNothing old events said new
 Replies old list events said reply new = (reply ≡ names_reply (names_of old.state)) × ChangesNothing old events said new
@@ -173,12 +180,37 @@ AskFor [] (c ∷ cs) = ⊥
 AskFor (line ∷ lines) [] = ⊥
 AskFor (line ∷ lines) (c ∷ cs) = Asks line (Ok (change c)) × AskFor lines cs
 
+-- the key of the mark that a transaction sets, if it sets one
+abbrev pub key_of : Transaction → Option (List ℕ)
+key_of (marked m cs) = Some m.key
+key_of _ = None
+
+-- whether the store refused a transaction, since it asks for another mark than the present one
+abbrev pub asks_another_mark : Reply → Bool
+asks_another_mark (Refused r) = nat_eq r.number MARK
+asks_another_mark _ = false
+
+-- The document of the store's reply to a transaction with a mark of that key, in the state that its batch left: the refusal of a mark has the one that is present in it.
+abbrev pub told_in : State → Option (List ℕ) → Reply → Doc
+told_in s None said = shown_reply said
+told_in s (Some key) said = if asks_another_mark said then other_mark_reply (mark_of key s.marks) else shown_reply said
+
+-- The reply is that document. That memory ran out may be answered in place of the present mark.
+abbrev pub IsTold : State → Option (List ℕ) → Reply → Doc → Type 0
+IsTold s key said reply = (reply ≡ told_in s key said) ⊎ ((asks_another_mark said ≡ true) × (reply ≡ refusal_reply (plain MEMORY)))
+
+-- the store's replies to transactions with marks of these keys are those documents, one each
+abbrev pub AreTold : State → List (Option (List ℕ)) → List Reply → List Doc → Type 0
+AreTold s [] [] [] = ⊤
+AreTold s (key ∷ keys) (one ∷ said) (reply ∷ replies) = IsTold s key one reply × AreTold s keys said replies
+AreTold s _ _ _ = ⊥
+
 -- From old, transactions were made as one batch, and given these replies; that led to new. That memory ran out may be
 -- answered to all of them before the store is asked.
 abbrev pub AnswersBatch : Account → List Transaction → List Event → List Reply → List Doc → Account → Type 0
 AnswersBatch old cs events said replies new =
     ((replies ≡ map (λ _. refusal_reply (plain MEMORY)) cs) × ChangesNothing old events said new)
-    ⊎ ((commits : List Commit) × IsBatch old cs said commits new × (events ≡ changes cs) × (replies ≡ map shown_reply said))
+    ⊎ ((commits : List Commit) × IsBatch old cs said commits new × (events ≡ changes cs) × AreTold new.state (map key_of cs) said replies)
 
 -- lines that are done at once: one by itself, or transactions that are one batch
 pub data Group : Type 0 where

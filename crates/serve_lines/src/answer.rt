@@ -19,7 +19,7 @@ use doc_pointer::Pointer;
 use doc_store::Store;
 use path_eval::lent_nodes;
 use path_parse::Query;
-use protocol::{Reply, Request, names_line, nodes_line, value_line};
+use protocol::{Reply, Request, mark_line, names_line, nodes_line, value_line};
 use refusals::numbers::MEMORY;
 use sector_device::SectorDevice;
 use std::alloc::{AllocError, Global};
@@ -49,6 +49,7 @@ fn reply_to<D: SectorDevice>(alloc: Global, store: &mut Store<D>, request: Reque
         Request::Get { name, path } => get(alloc, store, name.as_str(), path.as_str()),
         Request::GetSchema { name } => get_schema(alloc, store, name.as_str()),
         Request::Rev { name } => rev(store, name.as_str()),
+        Request::Mark { key } => mark(alloc, store, key.as_str()),
         Request::Query { name, path } => query(alloc, store, name.as_str(), path.as_str()),
         Request::List => list(alloc, store),
         Request::Status => status(alloc, store),
@@ -112,6 +113,15 @@ fn rev<D: SectorDevice>(store: &Store<D>, name: &str) -> Reply
 {
     match store.revision(name) {
         Ok(revision) => Reply::Revision(revision),
+        Err(refusal) => Reply::Refused(refusal),
+    }
+}
+
+fn mark<D: SectorDevice>(alloc: Global, store: &Store<D>, key: &str) -> Reply
+    ensures { (reply : Doc) × Says result reply × AnswersRequest store.now.account (asked.mark key.now) [] [] reply store.now.account }
+{
+    match store.mark(key) {
+        Ok(present) => shown(mark_line(alloc, present)),
         Err(refusal) => Reply::Refused(refusal),
     }
 }

@@ -7,12 +7,14 @@ ghost use Rattle.doc_tree.specs.Doc.{Doc};
 ghost use Rattle.doc_machine.specs.Transaction.{transaction_of};
 ghost use Rattle.store_commits.specs.Events.{is_done};
 ghost use Rattle.doc_changes.specs.Refusals.{plain};
+ghost use Rattle.store_commits.specs.Run.{Batched};
 ghost use Rattle.protocol.specs.declared.reply.Reply.{Reply as Shown};
 ghost use Rattle.protocol.specs.declared.reply.Reply.TheVariants.{Refused};
-ghost use Rattle.serve_lines.specs.LineReplies.{AllSay, BatchIsAnswered, EndsBatch, FollowsBatch, MakesCopyStep, shown_as};
-ghost use Rattle.serve_lines.specs.Session.{WantsStep, most_of, shown_reply};
+ghost use Rattle.serve_lines.specs.LineReplies.{AllSay, EndsBatch, FollowsBatch, MakesCopyStep, key_in};
+ghost use Rattle.serve_lines.specs.Session.{WantsStep, key_of, most_of};
 
 use crate::options::Options;
+use crate::replies::{keys_of, push, say};
 use doc_machine::{Refusal, Transaction};
 use doc_store::Store;
 use protocol::Reply;
@@ -43,22 +45,24 @@ pub(crate) fn commit<D: SectorDevice>(
     if many == 0 {
         return;
     }
-    match change_all(alloc, store, options, waiting) {
-        Ok(said) => say(ready, said),
+    match change_all(alloc, store, waiting) {
+        Ok((said, keys)) => {
+            say(alloc, store, ready, said.as_slice(), keys.as_slice());
+            follow(store, options, said.as_slice());
+        }
         Err(_) => refuse(ready, many, MEMORY),
     }
 }
 
-// Makes the transactions that wait as one batch, and nothing waits then. The replies to them, or that memory is refused, and
-// nothing was done.
+// Makes the transactions that wait as one batch, and nothing waits then. The store's replies to them and the keys of their
+// marks, or that memory is refused, and nothing was done.
 fn change_all<D: SectorDevice>(
     alloc: Global,
     store: &mut Store<D>,
-    options: &Options,
     waiting: &mut Vec<Transaction>,
-) -> Result<Vec<doc_store::Reply>, Refusal>
-    ensures ok { IfOk result (λ said. (length said.items ≡ length waiting.old.items)
-        × BatchIsAnswered D.disk options.now store.old (map transaction_of waiting.old.items) (map shown_reply said.items) store.new) }
+) -> Result<(Vec<doc_store::Reply>, Vec<Option<String>>), Refusal>
+    ensures made { IfOk result (λ done. Batched D.disk store.old store.new (map transaction_of waiting.old.items) done.0.items) }
+    ensures keys { IfOk result (λ done. map key_in done.1.items ≡ map key_of (map transaction_of waiting.old.items)) }
     ensures err { IfErr result (λ _. store.new ≡ store.old) }
     ensures none { (waiting.new.items ≡ []) × (vec_len waiting.new ≡ 0) }
     ensures places { vec_capacity waiting.old ≤ vec_capacity waiting.new }
@@ -67,9 +71,10 @@ fn change_all<D: SectorDevice>(
         waiting.clear();
         return Err(Refusal::plain(MEMORY));
     };
-    let said = store.transact_batch(mem::replace(waiting, places))?;
-    follow(store, options, &said);
-    Ok(said)
+    let transactions = mem::replace(waiting, places);
+    let keys = keys_of(alloc, transactions.as_slice())?;
+    let said = store.transact_batch(transactions)?;
+    Ok((said, keys))
 }
 
 // Makes a step of a copy after these replies, if a change was done and one is wanted.
@@ -115,31 +120,6 @@ fn wants_step<D: SectorDevice>(store: &Store<D>, options: &Options) -> bool
     0 < options.pump && (store.is_copying() || status.capacity / 2 < status.used)
 }
 
-// Lets the replies to a batch be ready.
-fn say(ready: &mut VecDeque<Reply>, said: Vec<doc_store::Reply>)
-    requires room { deque_len ready.old + length said.items ≤ deque_capacity ready.old }
-    ensures said { ready.new.items ≡ ready.old.items ++ map shown_as said.items }
-    ensures len { deque_len ready.new ≡ deque_len ready.old + length said.items }
-    ensures room { deque_capacity ready.old ≤ deque_capacity ready.new }
-{
-    for reply in said {
-        push(ready, shown(reply));
-    }
-}
-
-// A reply of the store, as a session's.
-fn shown(reply: doc_store::Reply) -> Reply
-    ensures { result ≡ shown_as reply }
-{
-    match reply {
-        doc_store::Reply::Done(seq) => Reply::Changed(seq),
-        doc_store::Reply::Snapped(used) => Reply::Snapshot(used),
-        doc_store::Reply::Pumped(pump) => Reply::Pumped(pump),
-        doc_store::Reply::Sealed => Reply::Sealed,
-        doc_store::Reply::Refused(refusal) => Reply::Refused(refusal),
-    }
-}
-
 // Makes the refusal with that number ready as the reply to `many` transactions.
 fn refuse(ready: &mut VecDeque<Reply>, many: usize, number: u16)
     requires room { deque_len ready.old + many ≤ deque_capacity ready.old }
@@ -150,16 +130,6 @@ fn refuse(ready: &mut VecDeque<Reply>, many: usize, number: u16)
     for _ in 0..many {
         push(ready, Reply::Refused(Refusal::plain(number)));
     }
-}
-
-/// Makes a reply ready after the others, without memory.
-pub(crate) fn push(ready: &mut VecDeque<Reply>, reply: Reply)
-    requires room { deque_len ready.old < deque_capacity ready.old }
-    ensures pushed { ready.new.items ≡ ready.old.items ++ reply ∷ [] }
-    ensures len { deque_len ready.new ≡ deque_len ready.old + 1 }
-    ensures room { deque_capacity ready.old ≤ deque_capacity ready.new }
-{
-    ready.push_back(reply).unwrap();
 }
 
 /// Lets a transaction wait with the others, without memory.

@@ -17,6 +17,7 @@ pub mod laws;
 pub mod limits;
 mod options;
 mod progress;
+mod replies;
 mod serving;
 mod session;
 mod status;

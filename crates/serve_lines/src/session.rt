@@ -10,8 +10,9 @@ ghost use Rattle.protocol.specs.Request.{Asks, change};
 ghost use Rattle.serve_lines.specs.Session.{most_of};
 
 use crate::answer::answer;
-use crate::batch::{commit, hold, is_full, push};
+use crate::batch::{commit, hold, is_full};
 use crate::options::Options;
+use crate::replies::push;
 use doc_machine::{Refusal, Transaction};
 use doc_store::Store;
 use protocol::{Line, Reply, Request, cut_at_feed, read_request};

@@ -3,7 +3,7 @@
 ghost use Rattle.std.specs.Prelude.{◌≡◌, ◌≤◌, IfOk, IfErr, OnErr, OnOk, length};
 ghost use Rattle.command_line.specs.declared.limits.TheConstants.{MAX_SECTORS};
 ghost use Rattle.store_commits.specs.Snapshot.{snapshot_bytes};
-ghost use Rattle.doc_store.specs.Formats.{status_of};
+ghost use Rattle.doc_store.specs.Formats.{rides_in, status_of};
 ghost use Rattle.store_commits.specs.Account.{Account};
 ghost use Rattle.file_device.specs.File.{file_disk};
 ghost use Rattle.jpstore.specs.Copies.{IsCopiedFile, IsFilled, ShowsCopy, account_copied};
@@ -163,7 +163,7 @@ fn status_of_copy(
     identity: u128,
 ) -> Status
     requires most { sectors ≤ MAX_SECTORS }
-    ensures { (a : Account) → status.now ≡ status_of a → used ≡ length (snapshot_bytes a.state.documents) → result ≡ status_of (account_copied format identity a sectors) }
+    ensures { (a : Account) → status.now ≡ status_of a → used ≡ length (snapshot_bytes (rides_in format) a.state.documents a.state.marks) → result ≡ status_of (account_copied format identity a sectors) }
 {
     Status {
         documents: status.documents,

@@ -23,6 +23,9 @@ returns-in-GetSchema g c = asks_nothing g.D.SectorDevice.disk c.args.store.now (
 pub returns-in-Rev : goal.returns-in-Rev
 returns-in-Rev g c = asks_nothing g.D.SectorDevice.disk c.args.store.now (asked_by c.args.request) c.rev.result (search rules)
 
+pub returns-in-Mark : goal.returns-in-Mark
+returns-in-Mark g c = asks_nothing g.D.SectorDevice.disk c.args.store.now (asked_by c.args.request) c.mark.result (search rules)
+
 pub returns-in-List : goal.returns-in-List
 returns-in-List g c = asks_nothing g.D.SectorDevice.disk c.args.store.now (asked_by c.args.request) c.list.result (search rules)
 

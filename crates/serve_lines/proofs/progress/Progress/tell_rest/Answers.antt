@@ -5,7 +5,7 @@ use Rattle.protocol.specs.declared.reply.Reply.{Reply}
 use Rattle.protocol.specs.Reply.{count_of, reply_lines}
 use Rattle.serve_lines.specs.Progress.{HasWritten, HasReplied}
 use Rattle.serve_lines.specs.LineReplies.{AllSay}
-use Rattle.serve_lines.proofs.Batching.{says_none}
+use Rattle.serve_lines.proofs.Saying.{says_none}
 use Rattle.serve_lines.proofs.Hearing.{first_says}
 use Rattle.serve_lines.proofs.progress.Progress.tell_rest.Goals as goal
 

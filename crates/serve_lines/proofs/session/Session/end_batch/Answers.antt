@@ -2,7 +2,7 @@ use Rattle.std.proofs.Common.{List, ◌∷◌, ◌++◌, ◌∙◌, [], ap, sym,
 use Rattle.doc_machine.specs.Transaction.{transaction_of}
 use Rattle.protocol.specs.declared.reply.Reply.{Reply}
 use Rattle.serve_lines.specs.LineReplies.{AllSay}
-use Rattle.serve_lines.proofs.Batching.{says_append}
+use Rattle.serve_lines.proofs.Saying.{says_append}
 use Rattle.serve_lines.proofs.session.Session.end_batch.Goals as goal
 
 pub returns-clause-ends : goal.returns-clause-ends

@@ -7,7 +7,7 @@ use Rattle.store_commits.proofs.Modelled.{both_models}
 use Rattle.serve_lines.specs.Progress.{EndsLine, waiting_in}
 use Rattle.serve_lines.specs.LineReplies.{AllSay, EndsBatch}
 use Rattle.serve_lines.specs.declared.options.Options.{Options}
-use Rattle.serve_lines.proofs.Batching.{says_append, says_none}
+use Rattle.serve_lines.proofs.Saying.{says_append, says_none}
 use Rattle.serve_lines.specs.Serve.{IsSession}
 use Rattle.serve_lines.proofs.Ending.{session_end}
 use Rattle.serve_lines.proofs.session.Session.finish.Goals as goal

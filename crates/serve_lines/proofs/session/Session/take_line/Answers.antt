@@ -7,7 +7,7 @@ use Rattle.store_commits.proofs.Modelled.{both_models}
 use Rattle.serve_lines.specs.Progress.{EndsLine, HasCut, waiting_in}
 use Rattle.serve_lines.specs.LineReplies.{AllSay}
 use Rattle.serve_lines.specs.declared.options.Options.{Options}
-use Rattle.serve_lines.proofs.Batching.{says_none}
+use Rattle.serve_lines.proofs.Saying.{says_none}
 use Rattle.serve_lines.proofs.Ending.{reaches_more, reaches_line}
 use Rattle.serve_lines.proofs.session.Session.take_line.Goals as goal
 
