@@ -118,6 +118,7 @@ enum jpstore_refusal {
     JPSTORE_REFUSAL_TOO_MANY = 22,          /* there are 1,024 documents already, or 65,536 in format 3 */
     JPSTORE_REFUSAL_TOO_LARGE = 23,         /* the document would have over 1,048,576 bytes */
     JPSTORE_REFUSAL_REVISION = 24,          /* the document has another revision, cause->rev */
+    JPSTORE_REFUSAL_MARK = 25,              /* the changes ask for another mark than the present one */
     JPSTORE_REFUSAL_PATCH_SHAPE = 30,       /* the patch is no list of operations */
     JPSTORE_REFUSAL_PATCH_POINTER = 31,     /* a place in an operation is no JSON Pointer */
     JPSTORE_REFUSAL_PATCH_MISSING = 32,     /* a place that an operation needs isn't there */
@@ -206,8 +207,8 @@ typedef struct jpstore_state {
  *     JPSTORE_PROCESSOR. */
 int jpstore_open(const char *path, const jpstore_options *options, jpstore **store, jpstore_cause *cause);
 
-/* The same with a new store in memory, of 3 to 1048576 sectors of 512 bytes: for tests and to try things out. What it holds is
- * gone when it is freed. Each call of its disk takes 16 bytes more until then, so it isn't for long use. */
+/* The same with a new store in memory, in format 2, of 3 to 1048576 sectors of 512 bytes: for tests and to try things out. What it
+ * holds is gone when it is freed. Each call of its disk takes 16 bytes more until then, so it isn't for long use. */
 int jpstore_open_memory(uint64_t sectors, jpstore **store, jpstore_cause *cause);
 
 /* Makes the file at path, which must not exist, with an empty store of so many sectors of 512 bytes, from 3 to 4294967296.
@@ -342,7 +343,7 @@ enum jpstore_step {
  * jpstore_step, *written how many it wrote. */
 int jpstore_pump(jpstore *store, uint64_t sectors, int *step, uint64_t *written, jpstore_cause *cause);
 
-/* Lines: what the program reads and writes. */
+/* Lines: what the program reads and writes. Marks are set and read by them alone. */
 
 /* Gives the store the next length bytes of its input: one line, many, or a part of one. Each line ends with LF. OWNED.
  *

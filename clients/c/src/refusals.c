@@ -15,6 +15,7 @@ static const char *const NAMES[] = {
     [JPSTORE_REFUSAL_TOO_MANY] = "too-many",
     [JPSTORE_REFUSAL_TOO_LARGE] = "too-large",
     [JPSTORE_REFUSAL_REVISION] = "revision",
+    [JPSTORE_REFUSAL_MARK] = "mark",
     [JPSTORE_REFUSAL_PATCH_SHAPE] = "patch-shape",
     [JPSTORE_REFUSAL_PATCH_POINTER] = "patch-pointer",
     [JPSTORE_REFUSAL_PATCH_MISSING] = "patch-missing",

@@ -12,11 +12,11 @@ at a time. It needs a POSIX system and Python 3.8 or later.
 from typing import TYPE_CHECKING, Any
 
 from .adapt import Adapted, Schema
-from .client import Node, Pumped, Status, Store
+from .client import Mark, Node, Pumped, Status, Store
 from .dump import LoadStopped, dump, grow, grow_file, load
 from .errors import (
     AccessError, Broken, Conflict, Ended, Full, Invalid, JpstoreError, JpstoreWarning, Malformed, NoMemory, NotFound,
-    Outdated, Refused, TimedOut, TooLarge, Unsendable,
+    Outdated, Overtaken, Refused, TimedOut, TooLarge, Unsendable,
 )
 from .explain import Fault, explain
 from .follow import Latest
@@ -33,10 +33,11 @@ if TYPE_CHECKING:
 
 __all__ = [
     "AccessError", "Adapted", "AsyncStore", "Broken", "Change", "Conflict", "Document", "Ended", "Fault", "Full",
-    "Gone", "Invalid", "JpstoreError", "JpstoreWarning", "Latest", "LoadStopped", "Malformed", "Moment", "NoMemory",
-    "Node", "NotFound", "Outdated", "Pumped", "REFUSALS", "Refusal", "Refused", "Scaled", "Schema", "Status", "Store",
-    "TimedOut", "TooLarge", "Unsendable", "Watch", "__version__", "check_file", "copy_file", "create", "delete", "dump",
-    "explain", "format_file", "grow", "grow_file", "load", "patch", "set_schema", "transaction", "upgrade_file",
+    "Gone", "Invalid", "JpstoreError", "JpstoreWarning", "Latest", "LoadStopped", "Malformed", "Mark", "Moment",
+    "NoMemory", "Node", "NotFound", "Outdated", "Overtaken", "Pumped", "REFUSALS", "Refusal", "Refused", "Scaled",
+    "Schema", "Status", "Store", "TimedOut", "TooLarge", "Unsendable", "Watch", "__version__", "check_file",
+    "copy_file", "create", "delete", "dump", "explain", "format_file", "grow", "grow_file", "load", "patch",
+    "set_schema", "transaction", "upgrade_file",
 ]
 
 

@@ -4,10 +4,10 @@ The steps of a `Store` are done when they return, so its coroutines never wait, 
 """
 from typing import Any, Callable, Dict, List, Optional, Protocol, Sequence, TypeVar
 
-from .errors import Conflict, Ended, Invalid, JpstoreError, NotFound, Outdated, Refused
+from .errors import Conflict, Ended, Invalid, JpstoreError, NotFound, Outdated, Overtaken
 from .faults.words import shown
 from .merge import operations_of_merge
-from .once import Once
+from .once import Once, mark_of_key
 from .results import Node
 from .wire import requests
 from .wire.commands import Command
@@ -113,38 +113,27 @@ async def put(steps: Steps, replacing: Request[int], making: Optional[Request[in
 
 async def once(steps: Steps, work: Once, attempts: int, pause: float) -> int:
     """As `Store.once`."""
-    trying, left = Trying(steps.wait), attempts
-    while left > 0:
+    if attempts < 1:
+        raise JpstoreError(NO_ATTEMPT)
+    made = work.made(await steps.ask(requests.mark(work.place))) if work.is_by else None
+    trying, left = Trying(steps.wait), attempts - 1
+    while made is None:
         try:
-            return await _once(steps, work)
+            return await steps.ask(work.request)
+        except Overtaken as refused:
+            made = work.overtaken(refused, left > 0)
+            left, wait = left - 1, pause if made is None else 0.0
         except JpstoreError as error:
-            overtaken = isinstance(error, Refused)
-            left -= overtaken
-            work.check_again(error, left > 0 and not steps.closed, trying)
-            await steps.pause(pause if overtaken else trying.pause)
-    raise JpstoreError(NO_ATTEMPT)
+            work.check_again(error, not steps.closed, trying)
+            wait = trying.pause
+        await steps.pause(wait)
+    return made
 
 
-async def _once(steps: Steps, work: Once) -> int:
-    try:
-        made = work.take(await steps.ask(work.asked))
-    except NotFound:
-        made = work.take(None)
-    return await steps.ask(work.request()) if made is None else made
-
-
-async def noted(steps: Steps, work: Once) -> Optional[int]:
+async def noted(steps: Steps, key: str, by: Optional[str]) -> Optional[int]:
     """As `Store.noted`."""
-    for left in range(ATTEMPTS - 1, -1, -1):
-        try:
-            return work.take(await steps.ask(work.asked))
-        except NotFound:
-            return None
-        except Outdated:
-            # Another note was made meanwhile.
-            if not left:
-                raise
-    raise JpstoreError(NO_ATTEMPT)
+    found = await steps.ask(requests.mark(mark_of_key(key, by)))
+    return None if found is None or (by is not None and found.value != key) else found.seq
 
 
 async def query_all(steps: Steps, path: str, prefix: str) -> Dict[str, List[Node]]:

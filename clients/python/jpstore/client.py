@@ -12,18 +12,18 @@ from .embedded import SECTORS, Embedded
 from .errors import Invalid, JpstoreError, Refused
 from .follow import Values, followed
 from .moment import Moment, moment_of
-from .once import KEPT, NOTES, Once
-from .results import Node, Pumped, Status
+from .once import Once
+from .results import Mark, Node, Pumped, Status
 from .watch import UNWATCHED, Watch
 from .wire import requests
-from .wire.commands import Command
+from .wire.commands import AskedMark, Command
 from .wire.connection import Connection
 from .wire.finished import finished
 from .wire.program import Path, Program, find_program, serve_words
 from .wire.requests import Outcome, Request
 from .wire.session import Channel, Session, give_back_if_dropped
 
-__all__ = ["ATTEMPTS", "NO_ATTEMPT", "Node", "Pumped", "Status", "Store"]
+__all__ = ["ATTEMPTS", "Mark", "NO_ATTEMPT", "Node", "Pumped", "Status", "Store"]
 
 T = TypeVar("T")
 S = TypeVar("S", bound="Store")
@@ -79,7 +79,10 @@ class Store:
 
     @classmethod
     def in_memory(cls: Type[S], sectors: int = SECTORS) -> S:
-        """A new store in memory, in this process, of this many sectors of 512 bytes, for tests. Closing forgets it."""
+        """A new store in memory, in this process, of this many sectors of 512 bytes, for tests. Closing forgets it.
+
+        It has format 2, and so no marks.
+        """
         store = cls.__new__(cls)
         store.path = ":memory:"
         store.hub = None
@@ -166,37 +169,50 @@ class Store:
         """Deletes a document; with `if_rev` only if it has that revision, as `set_schema` does."""
         return self._do(requests.change(requests.delete(name), if_rev))
 
-    def transaction(self, changes: Iterable[Command]) -> int:
+    def transaction(self, changes: Iterable[Command], *, mark: Optional[Tuple[str, str]] = None,
+                    if_mark: AskedMark = False) -> int:
         """Makes changes, all or none: those of `create`, `patch`, `set_schema` and `delete` of this package.
 
         There are 1 to 1,024. What they copy, and the documents that they put under other schemas, have at most
         33,554,432 bytes of text together (65, `TooLarge`). They are judged in order, each after those before it. Each
         has a number of its own, and that of the last is returned. If one is refused, nothing is changed: the refusal is
         raised, and its `change` is the place of that change, counted from 0.
+
+        In format 3 `mark`, a key and a value, sets this mark with the changes (see `mark`). With `if_mark` only if the
+        key has a mark of this value, or none if it is None, else `Overtaken`, whose `mark` and `seq` are those of the
+        one that is there.
         """
-        return self._do(requests.transaction(list(changes)))
+        return self._do(requests.transaction(list(changes), mark, if_mark))
 
-    def once(self, key: str, changes: Iterable[Command], *, notes: str = NOTES, keep: int = KEPT,
-             attempts: int = ATTEMPTS, pause: float = 0) -> int:
-        """Makes changes as `transaction` does, but only if no call with this key has made them before.
+    def once(self, key: str, changes: Iterable[Command], *, by: Optional[str] = None, attempts: int = ATTEMPTS,
+             pause: float = 0) -> int:
+        """Makes changes as `transaction` does, but only if no call with this key has made them before. Format 3 alone.
 
-        The key is a text that the caller chooses for this one piece of work, such as `"order-1234"`. It is noted in the
-        document `notes` together with the changes. A call with a key that is noted changes nothing, and returns the
-        number that the first one returned. So a call whose answer was lost may be made again, from another process too.
-        Over a hub that comes back this is done here, for the `wait` seconds of the store.
+        The key is a text that the caller chooses for this one piece of work, such as `"order-1234"`. A mark is set with
+        the changes: its key is `once-` and 40 digits, its value 40 digits, the first of the SHA-256 in hexadecimal of
+        the key and of the list of the changes in compact text. A call that finds it changes nothing, and returns the
+        number that the first one returned; if its changes are others, that is an error. So a call whose answer was lost
+        may be made again, from another process too. Over a hub that comes back this is done here, for the `wait`
+        seconds of the store. A key is known until 1,024 others were used, by all clients together; then its changes
+        would be made again. Until then it takes some 150 bytes of the store's half, which no call gives back.
 
-        Let each client have a document of its own; it is made when it is needed. It has the newest `keep` notes: a key
-        that `keep` others followed is forgotten, and its changes would be made again. A job that restarts from its
-        beginning needs `keep` over its length.
-
-        `attempts` is how often it is tried if others change the same notes meanwhile, and `pause` how long it waits
-        between.
+        A client that makes its work piece by piece has a name, `by`, as documents have. The mark is its own then, with
+        the key of up to 128 bytes as value: its last key is known, however many it used, if fewer than 1,024 marks of
+        others were set since. The changes aren't compared. `attempts` is how often it is tried if another process works
+        under the same name, and `pause` how long it waits between.
         """
-        return finished(calls.once(_Steps(self), Once(key, list(changes), notes, keep), attempts, pause))
+        return finished(calls.once(_Steps(self), Once(key, list(changes), by), attempts, pause))
 
-    def noted(self, key: str, notes: str = NOTES) -> Optional[int]:
-        """The number that `once` returned for this key, if it is noted; None if its changes are not made."""
-        return finished(calls.noted(_Steps(self), Once(key, [], notes, KEPT)))
+    def noted(self, key: str, by: Optional[str] = None) -> Optional[int]:
+        """The number that `once` returned for this key; None if its changes are not made, or the key is forgotten."""
+        return finished(calls.noted(_Steps(self), key, by))
+
+    def mark(self, key: str) -> Optional[Mark]:
+        """The mark of a key: its value, and the number of the last change that was made with it; None if there is none.
+
+        A store of format 3 has the marks of the 1,024 keys that were set last, and a dump has none.
+        """
+        return self._do(requests.mark(key))
 
     @overload
     def group(self, changes: Iterable[Command], *, check: Literal[True] = True) -> List[int]: ...

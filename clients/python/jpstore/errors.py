@@ -18,8 +18,8 @@ if TYPE_CHECKING:
 
 __all__ = [
     "AccessError", "Broken", "Conflict", "Ended", "Full", "Invalid", "JpstoreError", "JpstoreWarning", "Malformed",
-    "NoMemory", "NotFound", "Outdated", "Refused", "TimedOut", "TooLarge", "Unsendable", "accessing", "accessing_store",
-    "refusal_of",
+    "NoMemory", "NotFound", "Outdated", "Overtaken", "Refused", "TimedOut", "TooLarge", "Unsendable", "accessing",
+    "accessing_store", "refusal_of",
 ]
 
 
@@ -83,11 +83,13 @@ class Refused(JpstoreError):
 
     def __init__(self, number: int, name: str, op: Optional[int] = None, rev: Optional[int] = None,
                  command: Optional[Dict[str, Any]] = None, change: Optional[int] = None,
-                 before: Sequence[Dict[str, Any]] = ()) -> None:
+                 before: Sequence[Dict[str, Any]] = (), mark: Optional[str] = None, seq: Optional[int] = None) -> None:
         #: The refusal's number and name, and the operation of the patch that is at fault, counted from 0.
         self.number, self.name, self.op = number, name, op
         #: The document's revision, if the patch asked for another (24).
         self.rev = rev
+        #: The value and the number of the key's mark, if another was asked for (25); None if there is none.
+        self.mark, self.seq = mark, seq
         #: The command that was refused, if it is known; of a transaction the change that was.
         self.command: Dict[str, Any] = command if isinstance(command, dict) else {}
         #: The place of that change in its transaction, counted from 0; None if no change of a transaction was refused.
@@ -101,7 +103,7 @@ class Refused(JpstoreError):
         #: What the refusal means, and what to do about it.
         self.meaning = row.meaning if row else ""
         self.advice = as_called(advice_for(number, self.command, op) or (row.advice if row else ""))
-        super().__init__(number, name, op, rev, command, change, self.before)
+        super().__init__(number, name, op, rev, command, change, self.before, mark, seq)
 
     @property
     def detail(self) -> str:
@@ -133,6 +135,8 @@ class Refused(JpstoreError):
             said += f", operation {self.op}"
         if self.rev is not None:
             said += f", revision {self.rev}"
+        if self.mark is not None:
+            said += f", mark {json.dumps(self.mark, ensure_ascii=False)} of change {self.seq}"
         meaning = "" if self.detail and self.number in _TOLD_BY_DETAIL else self.meaning
         parts = [told_command(self.command), said, meaning, self.detail]
         return ": ".join(part for part in parts if part)
@@ -158,11 +162,15 @@ class NotFound(Refused):
 
 
 class Conflict(Refused):
-    """The name is taken, a `test` found another value, or the document has another revision (`Outdated`)."""
+    """A name is taken, a `test` found another value, or the revision (`Outdated`) or mark (`Overtaken`) is another."""
 
 
 class Outdated(Conflict):
     """The document has another revision than the one that the patch asked for by `if_rev`; it is `rev`."""
+
+
+class Overtaken(Conflict):
+    """The key has another mark than the one that was asked for by `if_mark`; it is `mark`, of change `seq`, or None."""
 
 
 class Invalid(Refused):
@@ -216,6 +224,7 @@ _FAMILIES: Dict[Type[Refused], Sequence[int]] = {
     NotFound: (21, 32, 37),
     Conflict: (20, 34),
     Outdated: (24,),
+    Overtaken: (25,),
     Invalid: (45,),
     TooLarge: (10, 13, 22, 23, 36, 44, 52, 53, 54, 65),
     Full: (60, 64),
@@ -235,7 +244,8 @@ def refusal_of(reply: Dict[str, Any], command: Optional[Dict[str, Any]] = None,
     if change is not None and command is not None:
         before, command = command["changes"][:change], command["changes"][change]
     family = _FAMILY_OF.get(number, Refused)
-    return family(number, reply["error"], reply.get("op"), reply.get("rev"), command, change, before)
+    return family(number, reply["error"], reply.get("op"), reply.get("rev"), command, change, before, reply.get("mark"),
+                  reply.get("seq"))
 
 
 class _Explained(NamedTuple):

@@ -59,6 +59,9 @@ _ROWS = [
     Refusal(24, "revision",
             "the document has another revision than `if_rev`; `rev` is the document's",
             "read the document again, and send a patch that fits it, with its new revision"),
+    Refusal(25, "mark",
+            "the mark is another than `if_mark`; `mark` is the present one",
+            "if it is your own, the change is made"),
     Refusal(30, "patch-shape",
             "`ops` is not a list, or an operation is not an object, has no known `op`, or lacks a member",
             "compare the operations with RFC 6902, section 4"),
@@ -128,8 +131,8 @@ _ROWS = [
             "the reply would have over 16,777,216 bytes without its LF",
             "select less, or read the values one by one"),
     Refusal(60, "full",
-            "there is no room for the change, not even after a snapshot, and in format 3 none for the documents that "
-            "it would leave; or the requested snapshot is longer than a half",
+            "there is no room for the change, not even after a snapshot, and in format 3 none for the documents and "
+            "marks that it would leave; or the requested snapshot is longer than a half",
             "make it larger by `jpstore-cli grow STORE`, also while a hub serves it; in format 2 a `delete` takes room "
             "too"),
     Refusal(61, "device",
@@ -182,7 +185,7 @@ _ROWS = [
 ]
 
 # Those whose advice depends on the command.
-_PATCH_MISSING, _PATCH_ROOT, _SCHEMA_KEYWORD, _MEMORY = 32, 35, 41, 63
+_COMMAND, _PATCH_MISSING, _PATCH_ROOT, _SCHEMA_KEYWORD, _MEMORY = 14, 32, 35, 41, 63
 
 #: The dialect that a schema may name.
 DIALECT = "https://json-schema.org/draft/2020-12/schema"
@@ -245,6 +248,9 @@ def advice_for(number: int, command: Mapping[str, Any], operation: Optional[int]
         refused = operations[operation] if known else None  # type: ignore[index]
         adds = isinstance(refused, dict) and refused.get("op") == "add"
         return "" if adds or refused is None else "read the document, to see what is there"
+    from .faults.command import NO_MARKS, fault_of_form
+    if number == _COMMAND and fault_of_form(command) == NO_MARKS:
+        return "marks need a store in format 3 that is no replica: `jpstore upgrade FILE` makes one of one in format 2"
     if number == _PATCH_ROOT:
         return "delete the document instead: by `store.delete(name)`, `rm STORE NAME`, or `DELETE` over HTTP"
     from .faults.schema import FORMAT_3_ONLY

@@ -2,14 +2,14 @@
 import json
 import re
 from dataclasses import dataclass, fields
-from typing import Any, Dict, Optional, Tuple, Union
+from typing import Any, Dict, NamedTuple, Optional, Tuple, Union
 
 from .wire.values import escaped
 
 # A part of a normalized path: an index, or a name with its escapes.
 _PART = re.compile(r"\[(?:(0|[1-9][0-9]*)|'((?:[^'\\]|\\.)*)')\]", re.DOTALL)
 
-__all__ = ["Node", "Pumped", "Status"]
+__all__ = ["Mark", "Node", "Pumped", "Status"]
 
 
 @dataclass(frozen=True)
@@ -34,6 +34,13 @@ def _name(quoted: str) -> str:
     """A name in a normalized path: its escapes are those of JSON, but for that of the quotation marks."""
     name: str = json.loads('"' + quoted.replace("\\'", "'").replace('"', '\\"') + '"')
     return name
+
+
+class Mark(NamedTuple):
+    """The mark of a key: its value, and the number of the last change that was made with it."""
+
+    value: str
+    seq: int
 
 
 @dataclass(frozen=True)

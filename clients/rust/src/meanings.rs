@@ -1,7 +1,7 @@
 //! What each refusal means, and what to do about it: the table of `docs/use/PROTOCOL.md`, with which a test compares it.
 
 /// The number, the meaning and the advice of each refusal.
-pub(crate) const ROWS: [(u16, &str, &str); 44] = [
+pub(crate) const ROWS: [(u16, &str, &str); 45] = [
     (
         10,
         "the line has over 1,048,576 bytes",
@@ -56,6 +56,11 @@ pub(crate) const ROWS: [(u16, &str, &str); 44] = [
         24,
         "the document has another revision than `if_rev`; `rev` is the document's",
         "read the document again, and send a patch that fits it, with its new revision",
+    ),
+    (
+        25,
+        "the mark is another than `if_mark`; `mark` is the present one",
+        "if it is your own, the change is made",
     ),
     (
         30,
@@ -172,7 +177,7 @@ pub(crate) const ROWS: [(u16, &str, &str); 44] = [
     (
         60,
         "there is no room for the change, not even after a snapshot, and in format 3 none for the \
-         documents that it would leave; or the requested snapshot is longer than a half",
+         documents and marks that it would leave; or the requested snapshot is longer than a half",
         "make it larger by `jpstore-cli grow STORE`, also while a hub serves it; in format 2 a \
          `delete` takes room too",
     ),

@@ -88,6 +88,8 @@ pub enum Reason {
     TooLarge = 23,
     /// The document has another revision; [`Refusal::rev`] tells which.
     Revision = 24,
+    /// Changes ask for another mark than the present one.
+    Mark = 25,
     /// The patch is no list of operations of RFC 6902.
     PatchShape = 30,
     /// A place in an operation is no JSON Pointer.
@@ -156,7 +158,7 @@ pub enum Reason {
     NewerSchema = 76,
 }
 
-const ALL: [Reason; 44] = [
+const ALL: [Reason; 45] = [
     Reason::LineTooLong,
     Reason::NotJson,
     Reason::Number,
@@ -168,6 +170,7 @@ const ALL: [Reason; 44] = [
     Reason::TooMany,
     Reason::TooLarge,
     Reason::Revision,
+    Reason::Mark,
     Reason::PatchShape,
     Reason::PatchPointer,
     Reason::PatchMissing,

@@ -48,7 +48,7 @@ impl Store {
         Options::new().open(path)
     }
 
-    /// A new store in memory, of 3 to 1,048,576 sectors of 512 bytes: for tests, and to try things out.
+    /// A new store in memory, in format 2, of 3 to 1,048,576 sectors of 512 bytes: for tests, and to try things out.
     ///
     /// # Errors
     ///
@@ -339,7 +339,7 @@ impl Store {
     }
 
     /// Sends lines of `docs/use/PROTOCOL.md`, each with its line feed, and answers their replies: one line for each that isn't
-    /// blank, in order.
+    /// blank, in order. Marks are set and read by lines alone.
     ///
     /// With a batch, the changes among these lines share commits, and none waits for those of a later call. After a fault
     /// [`Store::replies_before_fault`] has what was answered.

@@ -9,11 +9,11 @@ from typing import (
 from .. import calls
 from ..calls import ATTEMPTS
 from ..errors import Invalid, JpstoreError
-from ..once import KEPT, NOTES, Once
-from ..results import Node, Pumped, Status
+from ..once import Once
+from ..results import Mark, Node, Pumped, Status
 from ..watch import UNWATCHED
 from ..wire import requests
-from ..wire.commands import Command
+from ..wire.commands import AskedMark, Command
 from ..wire.program import Path, find_program, serve_words
 from ..wire.requests import Outcome, Request
 from ..wire.session import give_back_if_dropped
@@ -124,18 +124,23 @@ class AsyncStore:
         """As `Store.delete`."""
         return await self._do(requests.change(requests.delete(name), if_rev))
 
-    async def transaction(self, changes: Iterable[Command]) -> int:
+    async def transaction(self, changes: Iterable[Command], *, mark: Optional[Tuple[str, str]] = None,
+                          if_mark: AskedMark = False) -> int:
         """As `Store.transaction`."""
-        return await self._do(requests.transaction(list(changes)))
+        return await self._do(requests.transaction(list(changes), mark, if_mark))
 
-    async def once(self, key: str, changes: Iterable[Command], *, notes: str = NOTES, keep: int = KEPT,
-                   attempts: int = ATTEMPTS, pause: float = 0) -> int:
+    async def once(self, key: str, changes: Iterable[Command], *, by: Optional[str] = None, attempts: int = ATTEMPTS,
+                   pause: float = 0) -> int:
         """As `Store.once`."""
-        return await calls.once(_Steps(self), Once(key, list(changes), notes, keep), attempts, pause)
+        return await calls.once(_Steps(self), Once(key, list(changes), by), attempts, pause)
 
-    async def noted(self, key: str, notes: str = NOTES) -> Optional[int]:
+    async def noted(self, key: str, by: Optional[str] = None) -> Optional[int]:
         """As `Store.noted`."""
-        return await calls.noted(_Steps(self), Once(key, [], notes, KEPT))
+        return await calls.noted(_Steps(self), key, by)
+
+    async def mark(self, key: str) -> Optional[Mark]:
+        """As `Store.mark`."""
+        return await self._do(requests.mark(key))
 
     @overload
     async def group(self, changes: Iterable[Command], *, check: Literal[True] = True) -> List[int]: ...

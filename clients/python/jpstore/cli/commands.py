@@ -9,7 +9,6 @@ from ..client import Store
 from ..dump import GROUP_LINES, dump, load
 from ..edits import patched, put, remove
 from ..errors import JpstoreError
-from ..once import KEPT, NOTES
 from ..server import run_server
 from ..watch import Watch
 from ..wire.commands import set_schema
@@ -58,15 +57,13 @@ def _transaction(words: argparse.Namespace) -> None:
     changes = value_of_word(words.changes)
     if not isinstance(changes, list):
         raise JpstoreError("the changes are a list of JSON objects")
-    for option, value in (("--notes", words.notes), ("--keep", words.keep)):
-        if words.once is None and value is not None:
-            raise JpstoreError(f"`{option}` is for `--once`, which is missing")
+    if words.once is None and words.by is not None:
+        raise JpstoreError("`--by` is for `--once`, which is missing")
     with opened(words) as store:
         if words.once is None:
             accepted(words, store.transaction(changes))
         else:
-            keep = KEPT if words.keep is None else words.keep
-            accepted(words, store.once(words.once, changes, notes=words.notes or NOTES, keep=keep))
+            accepted(words, store.once(words.once, changes, by=words.by))
 
 
 def _ls(words: argparse.Namespace) -> None:
@@ -256,9 +253,8 @@ COMMANDS: Dict[str, Row] = {
                                                               "this"})]),
     "transaction": (_transaction, "makes several changes, all or none", "transaction inventory - < changes.json", [
         ("changes", {"metavar": "CHANGES", "help": _CHANGES_FORM}),
-        ("--once", {"metavar": "KEY", "help": "only if no call with this key has made them before"}),
-        ("--notes", {"metavar": "NAME", "help": f"the document that notes the keys of `--once` ({NOTES})"}),
-        ("--keep", {"metavar": "N", "type": int, "help": f"how many keys it keeps, the newest ({KEPT})"})]),
+        ("--once", {"metavar": "KEY", "help": "only if no call with this key has made them before, in format 3"}),
+        ("--by", {"metavar": "NAME", "help": "the client whose last key alone is known, however many it used"})]),
     "rev": (_rev, "shows the revision of a document: the number of its last change", "rev inventory shelf-1", [_NAME]),
     "status": (_status, "shows how many documents there are, and how full the store is", "status inventory --json", []),
     "snapshot": (_snapshot, "drops the history, which makes room", "snapshot inventory", []),

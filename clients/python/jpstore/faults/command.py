@@ -2,25 +2,29 @@
 import re
 from typing import Any, Dict, Iterator, Tuple
 
-from ..wire.forms import CHANGES, FORMS, TRANSACTION
+from ..wire.forms import CHANGES, FORMS, MARKING, TRANSACTION, Kind, Members
 from ..wire.limits import MOST_CHANGES
 from .depths import deeper_than
 from .words import nearest, place_in, shown
 
-__all__ = ["fault_of_depth", "fault_of_form", "fault_of_name"]
+__all__ = ["NO_MARKS", "fault_of_depth", "fault_of_form", "fault_of_name"]
+
+#: What is wrong with a command that has its form and a mark.
+NO_MARKS = "this store has no marks"
 
 # What the values of members are.
 _VALUES = {
     "changes": f"a list of 1 to {MOST_CHANGES:,} changes", "cmd": "a text", "from": "a whole number from 0",
-    "history": "a text", "if_rev": "a whole number from 0", "max": "a whole number from 1 to 1,000,000",
-    "name": "a text", "path": "a text", "sectors": "a whole number from 0",
+    "history": "a text", "if_mark": "a text or null", "if_rev": "a whole number from 0", "key": "a text",
+    "mark": "an object of a `key` and a `value`, texts, the value of at most 128 bytes",
+    "max": "a whole number from 1 to 1,000,000", "name": "a text", "path": "a text", "sectors": "a whole number from 0",
 }
 
 _DEEPEST = 64
 
 
 def fault_of_form(command: Any, words: Tuple[str, ...] = tuple(FORMS)) -> str:
-    """What a command lacks or has too much; empty if it has its form."""
+    """What a refused command lacks or has too much; empty if it has its form, but for a mark."""
     if not isinstance(command, dict):
         return f"a command is an object, and this is {shown(command)}"
     if "cmd" not in command:
@@ -30,7 +34,21 @@ def fault_of_form(command: Any, words: Tuple[str, ...] = tuple(FORMS)) -> str:
         near = nearest(word, words) if isinstance(word, str) else None
         return f"`cmd` is {shown(word)}, and no such {'command' if len(words) > len(CHANGES) else 'change'} exists" + (
             f": perhaps \"{near}\" is meant" if near else f"; it is one of {', '.join(words)}")
+    if MARKING.keys() & command.keys() and len(words) > len(CHANGES) and FORMS[word].kind is Kind.CHANGE:
+        # In a line alone.
+        return _fault_of_mark(word, command)
     return _fault_of_members(word, command)
+
+
+def _fault_of_mark(word: str, command: Dict[str, Any]) -> str:
+    fault = _fault_of_values(word, MARKING, command)
+    fault = fault or _fault_of_members(word, {name: command[name] for name in command if name not in MARKING})
+    return fault or (NO_MARKS if "mark" in command else f"`{word}` lacks `mark`, which `if_mark` needs beside it")
+
+
+def _fault_of_values(word: str, members: Members, command: Dict[str, Any]) -> str:
+    wrong = next((name for name, has_kind in members.items() if name in command and not has_kind(command[name])), None)
+    return f"`{wrong}` of `{word}` is {shown(command[wrong])}, and must be {_VALUES[wrong]}" if wrong else ""
 
 
 def _fault_of_members(word: str, command: Dict[str, Any]) -> str:
@@ -44,9 +62,7 @@ def _fault_of_members(word: str, command: Dict[str, Any]) -> str:
         return f"`{word}` lacks `{missing[0]}`{_members(word)}"
     if word == TRANSACTION:
         return _fault_of_changes(command["changes"])
-    wrong = next((name for name, has_kind in form.members.items() if name in command and not has_kind(command[name])),
-                 None)
-    return f"`{wrong}` of `{word}` is {shown(command[wrong])}, and must be {_VALUES[wrong]}" if wrong else ""
+    return _fault_of_values(word, form.members, command)
 
 
 def _members(word: str) -> str:

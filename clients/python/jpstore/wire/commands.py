@@ -1,6 +1,6 @@
 """The commands as what is sent: one object a line."""
 import re
-from typing import Any, Dict, List, Optional, Sequence
+from typing import Any, Dict, List, Literal, Optional, Sequence, Tuple, Union
 
 from ..called import called
 from ..errors import Unsendable, told_command
@@ -8,13 +8,18 @@ from .forms import CHANGES, TRANSACTION, is_change
 from .values import WHOLE, text_of
 
 __all__ = [
-    "COPY", "END_OF_TRANSACTION", "EXPORT", "HEAD_OF_CREATION", "LIST", "SNAPSHOT", "STATUS", "changes_in", "create",
+    "AskedMark", "COPY", "END_OF_TRANSACTION", "EXPORT", "HEAD_OF_CREATION", "LIST", "SNAPSHOT", "STATUS",
+    "changes_in", "create",
     "delete", "get", "get_schema", "is_change", "is_changing", "line_of", "line_of_creation", "line_of_schema",
-    "line_of_transaction", "patch", "pump", "query", "rev", "set_schema", "texts_in_transaction", "transaction",
+    "line_of_transaction", "mark_of", "patch", "pump", "query", "rev", "set_schema", "texts_in_transaction",
+    "transaction",
 ]
 
 #: A command; see `docs/use/PROTOCOL.md`.
 Command = Dict[str, Any]
+
+#: The value of the mark that must be there, None if there must be none, or False if nothing is asked.
+AskedMark = Union[str, None, Literal[False]]
 
 #: A line that changes nothing, and so ends a group of changes.
 STATUS = b'{"cmd":"status"}\n'
@@ -58,9 +63,17 @@ def delete(name: str) -> Command:
     return {"cmd": "delete", "name": name}
 
 
-def transaction(changes: Sequence[Command]) -> Command:
-    """Makes changes, all or none: 1 to 1,024 that the four functions above have made."""
-    return {"changes": list(changes), "cmd": TRANSACTION}
+def transaction(changes: Sequence[Command], mark: Optional[Tuple[str, str]] = None,
+                if_mark: AskedMark = False) -> Command:
+    """Makes changes, all or none: 1 to 1,024 that the four functions above have made.
+
+    With `mark`, a key and a value, it sets this mark too; with `if_mark` only if the key has that one.
+    """
+    command: Command = {"changes": list(changes), "cmd": TRANSACTION}
+    if mark is not None:
+        command["mark"] = {"key": mark[0], "value": mark[1]}
+    # Without a mark the store refuses it (14).
+    return command if if_mark is False else {**command, "if_mark": if_mark}
 
 
 def get(name: str, path: str = "") -> Command:
@@ -71,6 +84,11 @@ def get(name: str, path: str = "") -> Command:
 def get_schema(name: str) -> Command:
     """Asks for the schema of a document."""
     return {"cmd": "get-schema", "name": name}
+
+
+def mark_of(key: str) -> Command:
+    """Asks for the mark of a key."""
+    return {"cmd": "mark", "key": key}
 
 
 def rev(name: str) -> Command:

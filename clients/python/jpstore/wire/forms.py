@@ -2,9 +2,9 @@
 from enum import Enum
 from typing import Any, Callable, Dict, FrozenSet, NamedTuple
 
-from .limits import MOST_CHANGES
+from .limits import MOST_CHANGES, MOST_MARK_BYTES
 
-__all__ = ["CHANGES", "FORMS", "TRANSACTION", "Form", "Kind", "has_form", "is_change"]
+__all__ = ["CHANGES", "FORMS", "MARKING", "TRANSACTION", "Form", "Kind", "Members", "has_form", "is_change"]
 
 #: The word of several changes, all or none.
 TRANSACTION = "transaction"
@@ -41,24 +41,34 @@ def _is_any(_: Any) -> bool:
     return True
 
 
+def _is_mark(value: Any) -> bool:
+    return (isinstance(value, dict) and value.keys() == {"key", "value"} and all(map(_is_text, value.values()))
+            and len(value["value"].encode(errors="replace")) <= MOST_MARK_BYTES)
+
+
+def _is_asked(value: Any) -> bool:
+    return value is None or _is_text(value)
+
+
 def _are_changes(value: Any) -> bool:
     return (isinstance(value, list) and 1 <= len(value) <= MOST_CHANGES
             and all(is_change(each) and has_form(each) for each in value))
 
 
-_Members = Dict[str, Callable[[Any], bool]]
+#: The members of an object: what the value of each is.
+Members = Dict[str, Callable[[Any], bool]]
 
 
 class Form(NamedTuple):
     """What a command asks for, and its members; those in `optional` may be left out."""
 
     kind: Kind
-    members: _Members
+    members: Members
     optional: FrozenSet[str] = frozenset()
 
 
-_WORD: _Members = {"cmd": _is_text}
-_NAMED: _Members = {**_WORD, "name": _is_text}
+_WORD: Members = {"cmd": _is_text}
+_NAMED: Members = {**_WORD, "name": _is_text}
 
 #: The forms by the word of the command.
 FORMS: Dict[str, Form] = {
@@ -71,6 +81,7 @@ FORMS: Dict[str, Form] = {
     "get-schema": Form(Kind.QUESTION, _NAMED),
     "rev": Form(Kind.QUESTION, _NAMED),
     "query": Form(Kind.QUESTION, {**_NAMED, "path": _is_text}),
+    "mark": Form(Kind.QUESTION, {**_WORD, "key": _is_text}),
     "list": Form(Kind.QUESTION, _WORD),
     "status": Form(Kind.QUESTION, _WORD),
     "snapshot": Form(Kind.SNAPSHOT, _WORD),
@@ -82,6 +93,9 @@ FORMS: Dict[str, Form] = {
     "copy": Form(Kind.NODE, _WORD),
 }
 
+#: What a line of changes may have beside its form: the mark that is set with them, and the one that must be there.
+MARKING: Members = {"mark": _is_mark, "if_mark": _is_asked}
+
 #: The words of the changes of one document.
 CHANGES = tuple(word for word, form in FORMS.items() if form.kind is Kind.CHANGE and word != TRANSACTION)
 
@@ -92,7 +106,7 @@ def is_change(command: Any) -> bool:
 
 
 def has_form(command: Any) -> bool:
-    """Whether a value is an object that has exactly the members of a command, each of the right kind."""
+    """Whether a value is an object that has exactly the members of a command without a mark, each of the right kind."""
     word = command.get("cmd") if isinstance(command, dict) else None
     form = FORMS.get(word) if isinstance(word, str) else None
     if form is None or form.members.keys() - command.keys() - form.optional:

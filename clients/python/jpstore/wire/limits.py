@@ -1,8 +1,8 @@
 """The limits of the program, as `docs/use/PROTOCOL.md` has them."""
 
 __all__ = [
-    "MOST_CHANGES", "MOST_DEPTH", "MOST_DOCUMENT_BYTES", "MOST_GROUP", "MOST_LINE_BYTES", "MOST_OPERATIONS",
-    "MOST_TRANSACTION_BYTES",
+    "MOST_CHANGES", "MOST_DEPTH", "MOST_DOCUMENT_BYTES", "MOST_GROUP", "MOST_LINE_BYTES", "MOST_MARK_BYTES",
+    "MOST_OPERATIONS", "MOST_TRANSACTION_BYTES",
 ]
 
 #: The most bytes of a line, without its LF.
@@ -22,6 +22,9 @@ MOST_CHANGES = 1024
 
 #: The most bytes that a transaction copies, with the documents that it puts under other schemas.
 MOST_TRANSACTION_BYTES = 1 << 25
+
+#: The most bytes of the value of a mark.
+MOST_MARK_BYTES = 128
 
 #: The most changes that the program makes in one commit.
 MOST_GROUP = 1024

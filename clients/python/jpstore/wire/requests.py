@@ -5,16 +5,17 @@ from typing import Any, Callable, Dict, Generic, Iterator, List, Optional, Seque
 
 from ..errors import Invalid, JpstoreError, NotFound, Refused, Unsendable, refusal_of
 from ..notices import warn_of_command
-from ..results import Node, Pumped, Status
+from ..results import Mark, Node, Pumped, Status
 from . import commands
-from .commands import Command, is_change, is_changing, line_of
+from .commands import AskedMark, Command, is_change, is_changing, line_of
 from .replies import text_in
 from .texts import value_of_text
 
 __all__ = [
     "Outcome", "Request", "accepted", "change", "checked", "create", "delete", "doc_and_schema", "explainable", "get",
-    "grow", "in_pieces", "lines_of_group", "names", "outcomes_of", "patch", "pump", "put", "query", "query_all", "rev",
-    "rev_and_doc", "rev_and_value", "schema", "set_schema", "snapshot", "status", "taken", "texts", "transaction",
+    "grow", "in_pieces", "lines_of_group", "mark", "names", "outcomes_of", "patch", "pump", "put", "query", "query_all",
+    "rev", "rev_and_doc", "rev_and_value", "schema", "set_schema", "snapshot", "status", "taken", "texts",
+    "transaction",
 ]
 
 T = TypeVar("T")
@@ -79,14 +80,15 @@ def change(command: Command, if_rev: Optional[int] = None) -> Request[int]:
     return _numbered([command]) if if_rev is None else _guarded(if_rev, [command])
 
 
-def transaction(changes: Sequence[Command]) -> Request[int]:
-    """Changes, all or none; the number of the last."""
+def transaction(changes: Sequence[Command], mark: Optional[Tuple[str, str]] = None,
+                if_mark: AskedMark = False) -> Request[int]:
+    """Changes, all or none, and perhaps a mark with them; the number of the last."""
     for place, command in enumerate(changes):
         if not is_change(command):
             known = "a transaction has changes only: create, patch, schema and delete"
             raise JpstoreError(f"{known}; `cmd` of change {place}, counted from 0, is none of them")
         warn_of_command(command)
-    return _numbered([commands.transaction(changes)])
+    return _numbered([commands.transaction(changes, mark, if_mark)])
 
 
 def _numbered(asked: List[Command]) -> Request[int]:
@@ -129,6 +131,14 @@ def put(name: str, doc: Any, schema: Any, if_rev: Optional[int]) -> Tuple[Reques
 def get(name: str, path: str) -> Request[Any]:
     """The value at a place of a document."""
     return _request([commands.get(name, path)], lambda replies: replies[0]["value"])
+
+
+def mark(key: str) -> Request[Optional[Mark]]:
+    """The mark of a key, if it has one."""
+    def read(replies: List[Reply]) -> Optional[Mark]:
+        value = replies[0]["mark"]
+        return None if value is None else Mark(value, replies[0]["seq"])
+    return _request([commands.mark_of(key)], read)
 
 
 def rev(name: str) -> Request[int]:

@@ -81,7 +81,7 @@ def each_command(place, store, told):
     assert told(place, "rm", store, "list", "/0") == "done, change 8"
     assert json.loads(told(place, "get", store, "list", "--json")) == [2, 3]
     assert told(place, "rm", store, "list") == "done, change 9"
-    assert "documents  1 of 1,024" in told(place, "status", store)
+    assert "documents  1 of 65,536" in told(place, "status", store)
     assert told(place, "snapshot", store).endswith(" bytes used")
     assert json.loads(told(place, "dump", store).splitlines()[0])["doc"] == {"bolts": 39}
     changes = [delete("shelf"), create("a", 1), create("b", 2)]
@@ -95,27 +95,25 @@ def each_command(place, store, told):
     assert told(place, "schema", store, "a", "--to", "-", "--if-rev", "21", given=b"true") == "done, change 23"
     assert told(place, "rm", store, "a", "--if-rev", "23") == "done, change 25"
     assert told(place, "ls", store) == "c"
-    more = json.dumps([create("n", 1)])
+    once = ["transaction", store, json.dumps([create("n", 1)]), "--once", "k"]
     for _ in range(2):
-        assert told(place, "transaction", store, more, "--once", "k", "--notes", "mine") == "done, change 27"
-    assert told(place, "transaction", store, "[]", "--once", "k") == "done, change 28"
-    assert told(place, "transaction", store, "[]", "--once", "l", "--keep", "1") == "done, change 29"
-    assert told(place, "get", store, "once") == '[{"key": "l", "more": 0}]'
-    # The key was forgotten: nothing is made as if it were not asked for.
-    place.shows("transaction", store, more, "--keep", "9", errors="`--keep` is for `--once`, which is missing\n",
-                status=1)
-    place.shows("transaction", store, more, "--notes", "mine", errors="`--notes` is for `--once`, which is missing\n",
-                status=1)
-    assert told(place, "ls", store) == "c\nmine\nn\nonce"
+        assert told(place, *once) == "done, change 26"
+    other = [*once[:2], json.dumps([create("m", 1)]), *once[3:]]
+    place.shows(*other, errors="the key 'k' was used for other changes, the last of which is number 26\n", status=1)
+    for key in ("k", "l", "l"):
+        changes = json.dumps([create(key, 1)])
+        assert told(place, *once[:2], changes, "--once", key, "--by", "me") == f"done, change {27 + (key == 'l')}"
+    place.shows(*once[:3], "--by", "me", errors="`--by` is for `--once`, which is missing\n", status=1)
+    assert told(place, "ls", store) == "c\nn\nk\nl"
 
 
 def test_each_command_does_its_thing_on_a_file(place):
-    place.format()
+    place.format(version=3)
     each_command(place, "store", told_by_process)
 
 
 def test_each_command_does_its_thing_on_a_hub(place):
-    place.format()
+    place.format(version=3)
     with RealHub(place):
         each_command(place, "socket", told)
 

@@ -238,7 +238,7 @@ def test_a_question_is_asked_again_as_long_as_the_hub_is_waited_for(place):
         begin = time.monotonic()
         raised(Ended, store.rev, "d")
         assert 0.5 <= time.monotonic() - begin < PATIENCE and 10 ** 9 - hub.times > 2
-        raised(Ended, store.once, "k", [])
+        raised(Ended, store.once, "k", [create("d", 1)])
 
 
 def test_a_question_over_asyncio_is_asked_again_as_long_as_the_hub_is_waited_for(place):

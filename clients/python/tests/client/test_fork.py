@@ -194,7 +194,7 @@ def test_a_watch_and_an_export_in_a_child(place):
 
 
 def test_work_is_done_once_in_both_processes(place):
-    place.format()
+    place.format(version=3)
     with Hub(place) as hub, hub.connect() as store:
         store.create("d", 0)
 

@@ -50,6 +50,9 @@ def run_blocks(place):
         if not kind:
             assert said == text
             continue
+        if kind == "text":
+            # Lines and their replies, which are read alone.
+            continue
         words, given = how_to_run(kind, text, "shop")
         if kind == "python":
             words = [sys.executable, "-c", before + text]

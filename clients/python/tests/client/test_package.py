@@ -25,7 +25,7 @@ BEFORE = {
         "NotFound Outdated Refused TimedOut TooLarge Unsendable accessing refusal_of",
     "jpstore.refusals": "COMPLAINTS REFUSALS Refusal table",
     "jpstore.watch": "Change Gone Progress UNWATCHED Watch",
-    "jpstore.once": "KEPT NOTES Once",
+    "jpstore.once": "Once",
     "jpstore.moment": "CHANGED Document EXPORT Moment document_of moment_of moment_of_hub record_of",
     "jpstore.dump": "GROUP_LINES LoadStopped document_lines dump grow load open_store",
     "jpstore.explain": "Fault explain faults_of first_reason",

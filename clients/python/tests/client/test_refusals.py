@@ -42,7 +42,7 @@ def _joined(text):
 def test_the_tables_of_all_clients_are_the_same():
     """The server's, that of the Rust crate, and the names of the library are those of the protocol."""
     rows = re.findall(r"^\| (\d+) ([a-z-]+) \| (.*) \| (.*) \|$", _protocol(), re.M)
-    assert len(rows) == len(REFUSALS) == 44
+    assert len(rows) == len(REFUSALS) == 45
     server = re.findall(r'^    row\((\d+), "([a-z-]+)", \d+, "(.*)", "(.*)"\),$',
                         _source("server", "src", "refusals.rs"), re.M)
     assert server == rows

@@ -35,11 +35,14 @@ def test_what_is_committed_is_what_the_status_says(place, version):
     assert (found.version, found.sectors, found.half, found.length, found.seq, found.opens, found.capacity) == (
         version, SECTORS, status.half, status.used, status.seq, status.opens, status.capacity)
     assert format_of(place.file) == version
-    at = seq = count = 0
+    at, seq, kinds = 0, 0, []
     while at < len(frames):
-        size, seq = int.from_bytes(frames[at:at + 4], "big"), int.from_bytes(frames[at + 4:at + 12], "big")
-        at, count = at + 12 + size, count + 1
-    assert (at, seq, count) == (len(frames), status.seq, len(LENGTHS) + 1)
+        size, seq = int.from_bytes(frames[at + 1:at + 4], "big"), int.from_bytes(frames[at + 4:at + 12], "big")
+        kinds.append(frames[at])
+        at += 12 + size
+    # In format 3 a document of the snapshot is told from a change.
+    assert kinds == [2 if version == 3 else 0] * len(LENGTHS) + [0]
+    assert (at, seq) == (len(frames), status.seq)
 
 
 @FORMATS

@@ -225,7 +225,8 @@ def test_the_place_of_a_fault_is_that_after_the_changes_before_it(place):
 
 
 def test_a_mistake_in_a_schema_is_warned_of_where_the_store_is_called(place):
-    with place.made() as store:
+    place.format(version=3)
+    with place.store() as store:
         calls = [lambda: store.transaction([create("a", 1, {"minimun": 0})]),
                  lambda: store.set_schema("a", {"minimun": 0}, 1), lambda: store.put("a", 1, {"minimun": 0}),
                  lambda: store.group([transaction([set_schema("a", {"minimun": 0})])]),
