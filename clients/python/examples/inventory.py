@@ -4,7 +4,8 @@
     inventory.py SOCKET sell WRITER ORDERS
     inventory.py SOCKET count
 
-SOCKET is that of a hub. A writer goes on if the hub is killed and started anew, and may be killed and started anew too.
+SOCKET is that of a hub, whose store is in format 3. A writer goes on if the hub is killed and started anew. It may be
+killed and started anew too, and goes on after its last order.
 """
 import random
 import sys
@@ -12,7 +13,7 @@ import zlib
 
 from jpstore import Conflict, Store, create, patch
 
-SHELVES, ITEMS, STOCK, KEYS = 50, 5000, 20, 1000
+SHELVES, ITEMS, STOCK = 50, 5000, 20
 ITEM = {
     "type": "object", "required": ["stock", "least", "supplier"],
     "properties": {"stock": {"type": "integer", "minimum": 0}, "least": {"type": "integer"},
@@ -36,7 +37,7 @@ def seed(store):
     store.group(create(name, items, {"additionalProperties": ITEM}) for name, items in maps.items())
 
 
-def take(store, key, wanted, notes):
+def take(store, key, wanted, writer):
     """Takes some of several items, all or none, one time for each key; False if one has too little."""
     while True:
         changes = []
@@ -45,23 +46,23 @@ def take(store, key, wanted, notes):
             stock = store.get(shelf(sku), place)
             if stock < count:
                 # An earlier try with this key may have taken it, whose answer was lost.
-                return store.noted(key, notes) is not None
+                return store.noted(key, by=writer) is not None
             changes.append(patch(shelf(sku), [{"op": "test", "path": place, "value": stock},
                                               {"op": "replace", "path": place, "value": stock - count}]))
         try:
-            # As many keys are kept as a writer begins again with after a stop.
-            store.once(key, changes, notes=notes, keep=KEYS)
+            store.once(key, changes, by=writer)
             return True
         except Conflict:
             pass  # Another writer changed one of them: read again.
 
 
 def sell(store, writer, orders):
-    """Makes orders that are the same at each start of this writer."""
-    chance, made = random.Random(writer), 0
+    """Makes orders that are the same at each start of this writer, but for those that it has made."""
+    chance, made, last = random.Random(writer), 0, store.mark(writer)
     for number in range(orders):
         wanted = {sku_of(chance.randrange(ITEMS)): 1 + chance.randrange(3) for _ in range(3)}
-        made += sum(wanted.values()) if take(store, f"order-{number}", wanted, f"once-{writer}") else 0
+        if last is None or number > int(last.value):
+            made += sum(wanted.values()) if take(store, str(number), wanted, writer) else 0
     print("sold", made)
 
 

@@ -19,7 +19,7 @@ import traceback
 
 from forking import InProcess, calls_of, close_beside, only_here, try_call
 from jpstore import (
-    Broken, Conflict, Ended, Invalid, JpstoreError, NotFound, Outdated, Refused, Store, TooLarge, Unsendable,
+    Broken, Conflict, Ended, Invalid, JpstoreError, NotFound, Outdated, Overtaken, Refused, Store, TooLarge, Unsendable,
     check_file, copy_file, create, delete, format_file, patch, set_schema, transaction, upgrade_file,
 )
 from jpstore.embedded import Embedded, copy_embedded, embedded_version, format_embedded, upgrade_embedded
@@ -182,15 +182,20 @@ def test_a_transaction_over_its_limit(folder):
 
 
 def test_exactly_once(folder):
-    path, one_more = new_file(folder, "once"), [patch("d", [{"op": "add", "path": "/-", "value": "x"}])]
+    path, one_more = new_file(folder, "once", 3), [patch("d", [{"op": "add", "path": "/-", "value": "x"}])]
     with Store(path, embedded=True) as store:
         store.create("d", [])
-        assert [store.once(key, one_more) for key in ("a", "b", "a", "b")] == [3, 5, 3, 5]
+        assert [store.once(key, one_more) for key in ("a", "b", "a", "b")] == [2, 3, 2, 3]
+        assert [store.once(key, one_more, by="me") for key in ("a", "a", "b", "b")] == [4, 4, 5, 5]
     with Store(path, embedded=True) as store:
-        assert (store.once("b", one_more), store.once("a", one_more), store.get("d")) == (5, 3, ["x", "x"])
+        assert (store.once("b", one_more), store.once("a", one_more), len(store.get("d"))) == (3, 2, 4)
+        assert (store.noted("b", by="me"), store.noted("c"), store.mark("me")) == (5, None, ("b", 5))
         assert raised(NotFound, store.once, "c", [delete("d"), delete("d")]).change == 1
+        assert store.transaction(one_more, mark=("k", "v")) == 6
+        refused = raised(Overtaken, lambda: store.transaction(one_more, mark=("k", "w"), if_mark=None))
+        assert (refused.number, refused.mark, refused.seq) == (25, "v", 6)
     with Store.in_memory() as store:
-        assert (store.once("a", []), store.once("a", [])) == (1, 1)
+        assert "this store has no marks" in str(raised(JpstoreError, store.once, "a", [create("d", 1)]))
 
 
 def test_faults(folder):

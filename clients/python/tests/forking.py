@@ -97,6 +97,7 @@ CHANGES = {
 }
 QUESTIONS = {
     "noted": (lambda store, name: store.noted(f"key-{name}"), lambda found, _: found is None),
+    "mark": (lambda store, name: store.mark(f"key-{name}"), lambda found, _: found is None),
     "get": (lambda store, name: store.get(name), lambda found, _: found == {"n": 0}),
     "get a value": (lambda store, name: store.get(name, "/n"), lambda found, _: found == 0),
     "rev": (lambda store, name: store.rev(name), lambda found, _: type(found) is int),
@@ -375,6 +376,10 @@ def judge(client, kind, name, found):
         return
     if kind in QUESTIONS:
         assert QUESTIONS[kind][1](found, name), f"{kind} returned {found!r}"
+        return
+    if kind == "once" and client.call(lambda store: store.status()).id is None:
+        # In format 2 there are no marks.
+        assert "this store has no marks" in found, f"{kind} returned {found!r}"
         return
     number = found[0] if isinstance(found, list) else found
     assert type(number) is int, f"{kind} returned {found!r}"

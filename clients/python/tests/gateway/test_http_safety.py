@@ -520,65 +520,59 @@ def test_counts_are_exact_over_kills_of_the_gateway(place):
 
 
 def _recipe(url):
-    """The `once` that docs/use/MODELLING.md shows, for the gateway at this address, and without its long pauses."""
+    """The `send` that docs/use/MODELLING.md shows, for the gateway at this address, and without its long pauses."""
     with open(os.path.join(PACKAGE, "..", "..", "docs", "use", "MODELLING.md"), encoding="utf-8") as opened:
         page = opened.read()
-    asks = re.search(r"^```python\n(import time\n\nimport requests\n.*?)^def keep_order", page, re.M | re.S).group(1)
-    text = asks + re.search(r"^(def note_of.*?)^def take_order", page, re.M | re.S).group(1)
+    text = re.search(r"^```python\n(import time\n\nimport requests\n.*?)^def keep_order", page, re.M | re.S).group(1)
     known = {"print": lambda *_: None}
     exec(text.replace("http://127.0.0.1:8080", url), known)
     known["time"] = types.SimpleNamespace(sleep=lambda _: time.sleep(0.02), monotonic=time.monotonic)
-    return known["once"]
+    return known["send"]
 
 
-def test_what_the_page_does_once_tries_again_only_if_that_may_help(place):
+def _added(send, value):
+    """The answer to a change that adds a text to a list, with that text as its key."""
+    ops = [{"op": "add", "path": "/-", "value": value}]
+    return send("PATCH", "/documents/all", value, "application/json-patch+json", json=ops)
+
+
+def test_what_the_page_sends_again_is_made_once(place):
     requests = pytest.importorskip("requests")
-    place.format()
+    place.format(version=3)
     with Gateway(place) as gateway:
-        gateway.put("/documents/d", {"n": 0})
-        gateway.put("/documents/none?schema=" + quote('{"maxItems":0}'), [])
-        once = _recipe(gateway.url)
-        one_more = {"cmd": "patch", "name": "d", "ops": [{"op": "add", "path": "/n", "value": 1}]}
-        # The note itself is refused for good, and then the change.
-        cases = ((one_more, "none", (0, 45)), ({**one_more, "name": "x"}, "notes", (1, 21)))
-        for change, notes, place_and_number in cases:
-            with pytest.raises(ValueError) as refused:
-                once("key", lambda: [change], notes)
-            assert (refused.value.args[0]["change"], refused.value.args[0]["number"]) == place_and_number
+        gateway.put("/documents/all?schema=" + quote('{"maxItems":2}'), [])
+        send = _recipe(gateway.url)
 
-        def losing(method, *words, **named):
+        def losing(*words, **named):
             """Sends it, and answers that it may be stored or not."""
-            answer = requests.request(method, *words, **named)
-            if method == "POST":
-                sent.append(answer.status_code)
-                answer.status_code = statuses.pop()
+            answer = requests.request(*words, **named)
+            sent.append(answer.status_code)
+            answer.status_code = statuses.pop() if statuses else answer.status_code
             return answer
         statuses, sent = [504, 503, 502, 500], []
-        once.__globals__["requests"] = types.SimpleNamespace(**{**vars(requests), "request": losing})
-        keys = ["a", "b", "c", "d"]
-        for key in keys:
-            once(key, lambda: [one_more], "notes")
-        assert (sent, statuses, gateway.get("/documents/notes").json()) == ([200] * 4, [], keys)
+        send.__globals__["requests"] = types.SimpleNamespace(**{**vars(requests), "request": losing})
+        assert (_added(send, "a").json(), sent) == ({"seq": 2}, [200] * 5)
+        assert [_added(send, value).status_code for value in "bcc"] == [200, 422, 422]
+        assert (len(sent), gateway.get("/documents/all").json()) == (8, ["a", "b"])
 
 
-def test_what_the_page_does_once_is_exact_over_kills_of_the_gateway(place):
-    requests = pytest.importorskip("requests")
-    place.format()
+def test_what_the_page_sends_is_made_once_over_kills_of_the_gateway(place):
+    pytest.importorskip("requests")
+    place.format(version=3)
     asked, wrong, stop = {}, [], threading.Event()
 
-    def count(name, once, url):
+    def add(name, send):
         try:
             while not stop.is_set():
                 asked[name] = asked.get(name, 0) + 1
-                while not _counted_once(requests, once, url, name, asked[name]):
-                    pass
+                assert _added(send, f"{name}-{asked[name]}").status_code == 200
         except Exception as error:
             wrong.append(error)
     with Hub(place) as hub:
         with hub.connect() as store:
-            store.create("all", 0)
+            store.create("all", [])
         gateway = Gateway(place, store=hub.path)
-        threads = [threading.Thread(target=count, args=(f"c{index}", _recipe(gateway.url), gateway.url), daemon=True)
+        threads = [threading.Thread(target=add, args=(f"c{index}", _recipe(gateway.url)), daemon=True)
                    for index in range(3)]
         for thread in threads:
             thread.start()
@@ -586,30 +580,14 @@ def test_what_the_page_does_once_is_exact_over_kills_of_the_gateway(place):
             time.sleep(0.4)
             gateway.kill()
             gateway = Gateway(place, "--listen", gateway.host, store=hub.path)
-        until(lambda: wrong or (len(asked) == 3 and min(asked.values()) > 1), "the second count of each")
+        until(lambda: wrong or (len(asked) == 3 and min(asked.values()) > 1), "the second change of each")
         stop.set()
         for thread in threads:
             thread.join()
         gateway.kill()
         with hub.connect() as store:
-            assert (wrong, store.get("all")) == ([], sum(asked.values()))
-            assert [len(store.get(f"once-{name}")) for name in asked] == [min(count, 1000) for count in asked.values()]
-
-
-def _counted_once(requests, once, url, name, number):
-    """Counts the document of all clients up, unless this number was counted; whether no other client was first."""
-    try:
-        read = requests.get(url + "/documents/all", timeout=PATIENCE)
-        read.raise_for_status()
-        ops = [{"op": "replace", "path": "", "value": read.json() + 1}]
-        change = {"cmd": "patch", "name": "all", "if_rev": int(read.headers["ETag"].strip('"')), "ops": ops}
-        once(f"{name}-{number}", lambda: [change], f"once-{name}")
-    except requests.RequestException:
-        return False
-    except ValueError as refused:
-        assert refused.args[0]["number"] == 24, refused
-        return False
-    return True
+            wanted = [f"{name}-{number}" for name, count in asked.items() for number in range(1, count + 1)]
+            assert (wrong, sorted(store.get("all"))) == ([], sorted(wanted))
 
 
 def _count(gateway, name, acknowledged):

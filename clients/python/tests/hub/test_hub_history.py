@@ -75,6 +75,40 @@ def test_what_is_noted_stays_after_a_snapshot(place):
     assert told(history) == {1: create("d", {}), 2: put(1), 3: create("e", 1)}
 
 
+@pytest.mark.parametrize("version", [2, 3])
+@pytest.mark.parametrize("step", [lambda store: store.snapshot(), lambda store: store.pump(1000)])
+def test_a_kill_between_a_snapshot_and_its_note_keeps_what_was_noted(place, version, step):
+    place.format(version=version)
+    with Hub(place, options=WAIT) as hub:
+        with hub.connect() as store:
+            store.group([create("d", {}), put(1)])
+            history, before, half = History(hub, place), notes_of(place), store.status().half
+            step(store)
+            assert store.status().half != half
+            after = notes_of(place)[len(before):].splitlines(keepends=True)
+        hub.kill()
+    # In format 3 the hub has noted before that it makes a snapshot: the bytes that were noted can't be found after it.
+    assert len(after) == version - 1
+    put_notes(place, before + b"".join(after[:-1]))
+    again = opened(place)
+    assert (told(again), again.has(2, history.name)) == ({1: create("d", {}), 2: put(1)}, True)
+
+
+def test_a_snapshot_that_a_hub_began_is_not_that_of_another_process(place):
+    place.format(version=3)
+    with Hub(place, options=WAIT) as hub:
+        with hub.connect() as store:
+            store.group([create("d", {}), put(1)])
+            history, before = History(hub, place), notes_of(place)
+            store.snapshot()
+            after = notes_of(place)[len(before):].splitlines(keepends=True)
+        hub.kill()
+    put_notes(place, before + after[0])
+    made(place, put(2))
+    again = opened(place)
+    assert (told(again), again.has(2, history.name)) == ({3: put(2)}, False)
+
+
 def test_what_another_process_changed_meanwhile_is_told(place):
     place.format()
     cut_off(place, [create("d", {})], [put(1)])

@@ -12,13 +12,13 @@ import threading
 import time
 
 import replicas
-from jpstore import Store
+from jpstore import JpstoreError, Store
 from jpstore.replica.engine import Engine, members_in, packed
 from jpstore.replica.log import Log
 from jpstore.replica.capacity import room_of
 from replica_check import played, state_of
 from replicas import FORMAT, LOG, NODES, Members, Replicas, crashing_program
-from support import PATIENCE
+from support import PATIENCE, raised
 
 SECTORS, CAPACITY = (4096, 4096, 8192), 1_000_000
 
@@ -174,7 +174,8 @@ def clients_of_all_kinds(folder, program):
         assert subprocess.check_output([*words, "get", nodes.socket("c"), "d", "/v"], env=environment) == b"2\n"
         with Store.connect(nodes.socket("b")) as store:
             assert store.get("d") == {"v": 2}
-            assert store.once("key", [put("d", {"v": 3})]) == store.once("key", [put("d", {"v": 3})])
+            # Nodes have no marks yet.
+            assert "this store has no marks" in str(raised(JpstoreError, store.once, "key", [put("d", {"v": 3})]))
             assert store.update("d", lambda _: [{"op": "add", "path": "/w", "value": 4}]) and store.get("d", "/w") == 4
             assert store.snapshot() > 0
         at = nodes.wait("c", head(nodes))["seq"]
@@ -207,7 +208,7 @@ def gateway_of_a_node(nodes, words, environment):
         assert "seq" in json.loads(made), made
         assert subprocess.check_output([*curl, f"{base}/documents/h"]) == b"[1]"
         listed = subprocess.check_output([*curl, f"{base}/documents", "-H", "Accept: application/x-ndjson"])
-        assert [json.loads(line)["name"] for line in listed.splitlines()] == ["d", "once", "h"], listed
+        assert [json.loads(line)["name"] for line in listed.splitlines()] == ["d", "h"], listed
         seq = json.loads(made)["seq"]
         words = [*curl[:2], "-N", "-m", "2", f"{base}/changes?from={seq - 1}"]
         followed = subprocess.run(words, stdout=subprocess.PIPE, check=False).stdout

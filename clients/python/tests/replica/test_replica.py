@@ -33,6 +33,8 @@ REFUSED = [
     b'{"cmd":"transaction","changes":[{"cmd":"list"}]}', b'{"cmd":"transaction","changes":[1]}',
     b'{"cmd":"transaction","changes":[{"cmd":"delete","name":5}]}', b'{"cmd":"list","x":"\x01"}',
     b'{"cmd":"create","doc":-0,"name":"x","schema":true}', b'{"changes":[],"cmd":"list"}',
+    b'{"cmd":"delete","mark":{"key":"k","value":"v"},"name":"x"}',
+    b'{"changes":[{"cmd":"delete","name":"x"}],"cmd":"transaction","if_mark":null,"mark":{"key":"k","value":"v"}}',
     b'{"cmd":"create","doc":%b,"name":"x","schema":true}' % DEEP,
 ]
 

@@ -52,7 +52,8 @@ def test_a_change_that_was_made_is_never_told_to_be_sent_again(place):
     place.format(65536)
     most, text = 256 * MIB, json.dumps("x" * 1_000_000)
     count, rest = divmod(most, len(text))
-    with Gateway(place) as gateway, contextlib.ExitStack() as readers:
+    # The first readers keep their places until the last are there, on a slow machine too.
+    with Gateway(place, "--patience", "600") as gateway, contextlib.ExitStack() as readers:
         assert gateway.put("/documents/d", text.encode()).status == 201
         assert gateway.put("/documents/rest", b'"%b"' % (b"x" * (rest - 2))).status == 201
         assert gateway.put("/documents/n", 0).status == 201

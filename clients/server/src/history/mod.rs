@@ -3,9 +3,11 @@
 //! They are in memory, each as the bytes that all followers are sent. `file` keeps them for the next start too.
 
 pub mod file;
+pub mod mark;
 pub mod name;
 
 use bytes::Bytes;
+use mark::Mark;
 use std::collections::VecDeque;
 use std::fs::File;
 use std::io::Read;
@@ -41,12 +43,14 @@ pub struct Change {
     pub text: Vec<u8>,
     /// The numbers of the first and the last change of its transaction, if that has several.
     pub span: Option<(u64, u64)>,
+    /// The mark that was set with its transaction, if this is the last change of it, and was made since the start.
+    pub mark: Option<Mark>,
 }
 
 impl Change {
     /// A change of which it isn't known that others were made with it.
     pub fn alone(text: Vec<u8>) -> Change {
-        Change { text, span: None }
+        Change { text, span: None, mark: None }
     }
 }
 
@@ -57,6 +61,8 @@ pub struct Event {
     /// Where the text begins and ends, and in it the name of the document.
     text: (usize, usize),
     name: (usize, usize),
+    /// Where the event ends, after which the mark is that was set with the change.
+    end: usize,
 }
 
 impl Event {
@@ -72,22 +78,28 @@ impl Event {
             made.extend_from_slice(format!(",\"first\":{first},\"last\":{last}").as_bytes());
         }
         made.extend_from_slice(format!(",\"seq\":{seq}}}\n\n").as_bytes());
-        Event { bytes: made.into(), text, name: name::place_in(&change.text) }
+        let end = made.len();
+        change.mark.iter().for_each(|mark| made.extend(mark.text()));
+        Event { bytes: made.into(), text, name: name::place_in(&change.text), end }
     }
 
     /// The event, with the empty line after it.
     pub fn bytes(&self) -> Bytes {
-        self.bytes.clone()
+        self.bytes.slice(..self.end)
     }
 
     /// The line `{"change":..,"seq":..}` with its LF. In a change of a transaction, `first` and `last` are between them.
     pub fn line(&self) -> Bytes {
-        self.bytes.slice(self.text.0 - HEAD.len()..self.bytes.len() - 1)
+        self.bytes.slice(self.text.0 - HEAD.len()..self.end - 1)
     }
 
-    /// The canonical text of the change.
-    pub fn text(&self) -> Bytes {
-        self.bytes.slice(self.text.0..self.text.1)
+    /// The line that makes the change again, and sets the mark that was set with it since the start.
+    pub fn command(&self) -> Vec<u8> {
+        let (text, mark) = (&self.bytes[self.text.0..self.text.1], &self.bytes[self.end..]);
+        if mark.is_empty() {
+            return [text, b"\n"].concat();
+        }
+        [b"{\"mark\":", mark, b",", &text[1..], b"\n"].concat()
     }
 
     /// The name of the document that is changed.
@@ -308,7 +320,7 @@ impl History {
 
 #[cfg(test)]
 mod tests {
-    use super::{Change, Gone, History, Name, MOST_CHANGES};
+    use super::{Change, Gone, History, Mark, Name, MOST_CHANGES};
     use std::collections::HashSet;
 
     fn alone(text: &str) -> Change {
@@ -322,10 +334,21 @@ mod tests {
         assert_eq!(&event.line()[..], b"{\"change\":{\"a\":1},\"seq\":5}\n");
         let whole = format!("id: 5-{}\ndata: {{\"change\":{{\"a\":1}},\"seq\":5}}\n\n", history.name());
         assert_eq!(event.bytes(), whole.as_bytes());
-        assert_eq!(&event.text()[..], b"{\"a\":1}");
+        assert_eq!(event.command(), b"{\"a\":1}\n");
         assert_eq!(history.after(3, 1).unwrap_err(), Gone(4));
         assert_eq!(history.after(6, 1).unwrap_err(), Gone(4));
         assert!(history.after(5, 1).unwrap().is_empty());
+    }
+
+    #[test]
+    fn a_mark_is_no_part_of_the_event() {
+        let mut line = serde_json::json!({"a": 1, "mark": {"key": "k", "value": "v"}});
+        let mark = Mark::taken_out(&mut line);
+        let history = History::new(4, &[Change { mark, ..alone("{\"a\":1}") }]).unwrap();
+        let event = history.after(4, 1).unwrap().remove(0);
+        assert_eq!(&event.line()[..], b"{\"change\":{\"a\":1},\"seq\":5}\n");
+        assert!(event.bytes().ends_with(b"\"seq\":5}\n\n"));
+        assert_eq!(event.command(), b"{\"mark\":{\"key\":\"k\",\"value\":\"v\"},\"a\":1}\n");
     }
 
     #[test]
@@ -350,7 +373,7 @@ mod tests {
         history.add(&[Change { span: Some((1, 2)), ..alone("{}") }, Change { span: Some((1, 2)), ..alone("{}") }]);
         let event = history.after(1, 1).unwrap().remove(0);
         assert_eq!(&event.line()[..], b"{\"change\":{},\"first\":1,\"last\":2,\"seq\":2}\n");
-        assert_eq!(&event.text()[..], b"{}");
+        assert_eq!(event.command(), b"{}\n");
     }
 
     #[test]

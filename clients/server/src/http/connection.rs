@@ -5,6 +5,7 @@ use super::body::BodyState;
 use super::changes::Events;
 use super::date;
 use super::head::{self, Head};
+use super::once::Once;
 use super::problem::{phrase_of, Problem};
 use super::response::{Body, Response};
 use super::routes;
@@ -63,6 +64,8 @@ pub struct Request<'c> {
     pub query: String,
     /// The host that the target names, if it does.
     pub host: Option<String>,
+    /// How it is made once, if it changes something and says so.
+    pub once: Option<Once>,
     connection: &'c mut Connection,
     taken: Taken,
 }
@@ -71,7 +74,11 @@ impl Request<'_> {
     /// The body.
     pub async fn body(&mut self) -> Result<Vec<u8>, Problem> {
         let Connection { stream, buffer, body, app, .. } = &mut *self.connection;
-        body.all(stream, buffer, &mut self.taken, app.patience).await
+        let read = body.all(stream, buffer, &mut self.taken, app.patience).await?;
+        if let Some(once) = &mut self.once {
+            once.take_body(&read);
+        }
+        Ok(read)
     }
 }
 
@@ -175,7 +182,7 @@ impl Connection {
         };
         let (path, query, host) = (parts.path.to_owned(), parts.query.to_owned(), parts.host.map(str::to_owned));
         let taken = app.bodies.begin();
-        let request = Request { app: app.clone(), head, path, query, host, connection: self, taken };
+        let request = Request { app: app.clone(), head, path, query, host, once: None, connection: self, taken };
         routes::answered(request).await.unwrap_or_else(Problem::response)
     }
 

@@ -6,6 +6,7 @@ use super::lines::DocumentLines;
 use super::making::{changed, done, make, or_problem, Refused};
 use super::merge::{operations_of, replacement_of};
 use super::notices::notices_in;
+use super::once::{or_before, Made};
 use super::problem::Problem;
 use super::response::{Body, Response};
 use super::target::parameters;
@@ -24,7 +25,7 @@ const PATCHES: [&str; 2] = ["application/json-patch+json", "application/merge-pa
 const ACCEPT_PATCH: &str = "application/json-patch+json, application/merge-patch+json";
 
 /// What the line of a change has at most beside its document or its operations.
-const MOST_BESIDE: usize = 256;
+const MOST_BESIDE: usize = 512;
 
 /// Up to this size a document is sent without room being taken for it.
 const SHORT: usize = 1 << 16;
@@ -173,29 +174,47 @@ pub async fn put(request: &mut Request<'_>, name: &str) -> Result<Response, Prob
     check_kind(request, &[JSON])?;
     let condition = Condition::of(&request.head)?;
     let doc = text_of(request).await?;
-    if let Some(schema) = schema_asked(request, schema).await? {
+    let (schema, made) = match schema_asked(request, schema).await {
+        Ok(schema) => {
+            let made = put_made(request, name, &doc, schema.as_deref(), &condition).await;
+            (schema, made)
+        }
+        Err(problem) => (None, Err(problem)),
+    };
+    let made = or_before(request, made).await?;
+    Ok(changed(name, made, &schema.map_or_else(Vec::new, |schema| notices_in(&schema))))
+}
+
+/// Makes a document under a schema, or makes it under `true` or replaces it.
+async fn put_made(
+    request: &Request<'_>,
+    name: &str,
+    doc: &Compact,
+    schema: Option<&[u8]>,
+    condition: &Condition,
+) -> Result<Made, Problem> {
+    if let Some(schema) = schema {
         condition.check(None)?;
-        return match create(request, name, &doc, &schema).await? {
-            Ok(response) => Ok(response),
+        return match make(request, creation(name, &doc.text, schema), 201).await? {
             Err(Refused { number: 20, .. }) if condition.is_only_new() => Err(exists(None)),
-            Err(refused) => Err(refused.problem(&request.app).await),
+            made => or_problem(request, made).await,
         };
     }
     for _ in 0..ATTEMPTS {
-        if let Some(response) = put_once(request, name, &doc, &condition).await? {
-            return Ok(response);
+        if let Some(made) = put_at(request, name, doc, condition).await? {
+            return Ok(made);
         }
     }
     Err(too_busy(name))
 }
 
 /// Makes or replaces a document; none if another client made, changed or deleted it at the same time.
-async fn put_once(
+async fn put_at(
     request: &Request<'_>,
     name: &str,
     doc: &Compact,
     condition: &Condition,
-) -> Result<Option<Response>, Problem> {
+) -> Result<Option<Made>, Problem> {
     let mut rev = None;
     if condition.is_given() && !condition.is_only_new() {
         rev = request.app.store.rev_if_there(name).await?;
@@ -204,16 +223,16 @@ async fn put_once(
     if rev.is_some() || !condition.is_given() {
         check_levels(name, doc)?;
         let ops = [b"[{\"op\":\"replace\",\"path\":\"\",\"value\":", &doc.text[..], b"}]"].concat();
-        match make(&request.app, patching(name, rev, &ops)).await? {
-            Ok(seq) => return changed(name, seq, 200, &[]).map(Some),
+        match make(request, patching(name, rev, &ops), 200).await? {
+            Ok(made) => return Ok(Some(made)),
             Err(Refused { number: 24, .. }) => return Ok(None),
             Err(Refused { number: 21, .. }) if rev.is_some() => return Ok(None),
             Err(Refused { number: 21, .. }) => (),
             Err(refused) => return Err(refused.problem(&request.app).await),
         }
     }
-    match create(request, name, doc, b"true").await? {
-        Ok(response) => Ok(Some(response)),
+    match make(request, creation(name, &doc.text, b"true"), 201).await? {
+        Ok(made) => Ok(Some(made)),
         Err(Refused { number: 20, .. }) if condition.is_only_new() => Err(exists(None)),
         Err(Refused { number: 20, .. }) => Ok(None),
         Err(refused) => Err(refused.problem(&request.app).await),
@@ -228,19 +247,6 @@ fn check_levels(name: &str, doc: &Compact) -> Result<(), Problem> {
     match doc.too_deep.filter(|_| is_refused) {
         Some(place) => Err(too_deep(if is_line { 13 } else { 11 }, place, LEVELS_OF_A_DOCUMENT)),
         None => Ok(()),
-    }
-}
-
-async fn create(
-    request: &Request<'_>,
-    name: &str,
-    doc: &Compact,
-    schema: &[u8],
-) -> Result<Result<Response, Refused>, Problem> {
-    let line = creation(name, &doc.text, schema);
-    match make(&request.app, line).await? {
-        Ok(seq) => Ok(Ok(changed(name, seq, 201, &notices_in(schema))?)),
-        Err(refused) => Ok(Err(refused)),
     }
 }
 
@@ -279,12 +285,22 @@ pub async fn patch(request: &mut Request<'_>, name: &str) -> Result<Response, Pr
     let kind = check_kind(request, &PATCHES)?;
     let condition = Condition::of(&request.head)?;
     let patch = text_of(request).await?;
-    let is_merge = kind == PATCHES[1];
+    let made = patch_made(request, name, &patch, kind == PATCHES[1], &condition).await;
+    Ok(changed(name, or_before(request, made).await?, &[]))
+}
+
+async fn patch_made(
+    request: &Request<'_>,
+    name: &str,
+    patch: &Compact,
+    is_merge: bool,
+    condition: &Condition,
+) -> Result<Made, Problem> {
     for _ in 0..ATTEMPTS {
-        let rev = revision_allowed(request, name, &condition, is_merge).await?;
-        let ops = if is_merge { merging(request, name, &patch).await? } else { patch.text.clone() };
-        match make(&request.app, patching(name, rev, &ops)).await? {
-            Ok(seq) => return changed(name, seq, 200, &[]),
+        let rev = revision_allowed(request, name, condition, is_merge).await?;
+        let ops = if is_merge { merging(request, name, patch).await? } else { patch.text.clone() };
+        match make(request, patching(name, rev, &ops), 200).await? {
+            Ok(made) => return Ok(made),
             Err(Refused { number: 24, rev: found, .. }) if rev.is_some() => condition.check(found)?,
             Err(refused) => return Err(refused.problem(&request.app).await),
         }
@@ -331,19 +347,14 @@ pub async fn delete(request: &Request<'_>, name: &str) -> Result<Response, Probl
     let [] = parameters(&request.query, [])?;
     let condition = Condition::of(&request.head)?;
     let line = format!("{{\"cmd\":\"delete\",\"name\":{}}}\n", quoted(name));
-    let seq = or_problem(request, change_if(request, name, &condition, line.as_bytes()).await?).await?;
-    Ok(Response::json(200, done(seq, &[])))
+    let made = or_before(request, change_if(request, name, &condition, line.as_bytes()).await).await?;
+    Ok(Response::json(made.status, done(made.seq, &[])))
 }
 
 /// Makes a change, whose command takes no revision, of a revision that the condition allows.
-pub async fn change_if(
-    request: &Request<'_>,
-    name: &str,
-    condition: &Condition,
-    line: &[u8],
-) -> Result<Result<u64, Refused>, Problem> {
+pub async fn change_if(request: &Request<'_>, name: &str, condition: &Condition, line: &[u8]) -> Result<Made, Problem> {
     if !condition.is_given() || condition.is_only_there() {
-        return make(&request.app, line.to_vec()).await;
+        return or_problem(request, make(request, line.to_vec(), 200).await?).await;
     }
     for _ in 0..ATTEMPTS {
         let rev = request.app.store.rev(name).await?;
@@ -352,10 +363,9 @@ pub async fn change_if(
         // Both are without their LF.
         let (guard, change) = (&guard[..guard.len() - 1], &line[..line.len() - 1]);
         let both = [b"{\"changes\":[", guard, b",", change, b"],\"cmd\":\"transaction\"}\n"].concat();
-        match make(&request.app, both).await? {
+        match make(request, both, 200).await? {
             Err(refused) if refused.number == 24 && refused.change == Some(0) => (),
-            Err(refused) => return Ok(Err(refused.of_one(line))),
-            done => return Ok(done),
+            made => return or_problem(request, made.map_err(|refused| refused.of_one(line))).await,
         }
     }
     Err(too_busy(name))

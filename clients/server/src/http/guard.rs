@@ -19,7 +19,7 @@ const LEAST_TOKEN: usize = 16;
 const OTHERS: u32 = 0o006;
 
 const METHODS: &str = "GET, HEAD, PUT, PATCH, DELETE, POST";
-const FIELDS: &str = "Authorization, Content-Type, If-Match, If-None-Match, Last-Event-ID, Link";
+const FIELDS: &str = "Authorization, Content-Type, Idempotency-Key, If-Match, If-None-Match, Last-Event-ID, Link";
 const SHOWN: &str = "ETag, Link, Location, Retry-After, Accept-Patch, Jpstore-Seq";
 
 /// Refuses requests that haven't the token, and those of pages of origins that were not named.

@@ -3,6 +3,7 @@
 use super::app::App;
 use super::connection::Request;
 use super::documents::about;
+use super::once::Made;
 use super::problem::Problem;
 use super::response::Response;
 use crate::json::write::list;
@@ -42,12 +43,12 @@ impl Refused {
     }
 }
 
-/// Makes a change or a transaction: its number, or how it was refused.
-pub async fn make(app: &App, line: Vec<u8>) -> Result<Result<u64, Refused>, Problem> {
-    let kept = line.clone();
-    let reply = app.store.change(line).await?;
+/// Makes a change or a transaction, which is answered with this status, or tells how it was refused.
+pub async fn make(request: &Request<'_>, line: Vec<u8>, status: u16) -> Result<Result<Made, Refused>, Problem> {
+    let sent = request.once.as_ref().map_or_else(|| line.clone(), |once| once.line(&line, status));
+    let reply = request.app.store.change(sent).await?;
     if let Some(seq) = seq_in(&reply) {
-        return Ok(Ok(seq));
+        return Ok(Ok(Made { seq, status }));
     }
     let told: Value = serde_json::from_slice(&reply).unwrap_or_default();
     let member = |name: &str| told.get(name).and_then(Value::as_u64);
@@ -57,14 +58,14 @@ pub async fn make(app: &App, line: Vec<u8>) -> Result<Result<u64, Refused>, Prob
         rev: member("rev"),
         change: member("change"),
         problem,
-        line: kept,
+        line,
     }))
 }
 
-/// The number, or the problem of a change that was refused.
-pub async fn or_problem(request: &Request<'_>, made: Result<u64, Refused>) -> Result<u64, Problem> {
+/// What was made, or the problem of a change that was refused.
+pub async fn or_problem(request: &Request<'_>, made: Result<Made, Refused>) -> Result<Made, Problem> {
     match made {
-        Ok(seq) => Ok(seq),
+        Ok(made) => Ok(made),
         Err(refused) => Err(refused.problem(&request.app).await),
     }
 }
@@ -79,7 +80,10 @@ pub fn done(seq: u64, warnings: &[String]) -> String {
 }
 
 /// The answer to a change of a document that is there afterwards: the number is its revision now.
-pub fn changed(name: &str, seq: u64, status: u16, warnings: &[String]) -> Result<Response, Problem> {
-    let response = about(Response::json(status, done(seq, warnings)), name, seq);
-    Ok(if status == 201 { response.with("Location", format!("/documents/{name}")) } else { response })
+pub fn changed(name: &str, made: Made, warnings: &[String]) -> Response {
+    let response = about(Response::json(made.status, done(made.seq, warnings)), name, made.seq);
+    if made.status == 201 {
+        return response.with("Location", format!("/documents/{name}"));
+    }
+    response
 }

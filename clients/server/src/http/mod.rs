@@ -15,6 +15,7 @@ pub mod listening;
 mod making;
 mod merge;
 mod notices;
+mod once;
 mod page;
 pub mod problem;
 pub mod reasons;

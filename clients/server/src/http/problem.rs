@@ -1,7 +1,8 @@
 //! Refusals and faults as Problem Details (RFC 9457).
 
 use super::response::Response;
-use crate::json::Object;
+use crate::json::{quoted, Object};
+use crate::lines::replies::{mark_in, Mark};
 use crate::refusals::{self, by_number, NO_MAJORITY};
 use serde_json::Value;
 
@@ -27,6 +28,8 @@ pub struct Problem {
     pub op: Option<u64>,
     /// The document's revision.
     pub rev: Option<u64>,
+    /// The mark that the key has, if another one was asked for.
+    pub mark: Option<Option<Mark>>,
     /// The number from which on changes are kept.
     pub from: Option<u64>,
     /// The faults of a document, as a JSON text.
@@ -79,6 +82,7 @@ impl Problem {
         problem.op = member("op");
         problem.rev = member("rev");
         problem.from = member("from");
+        problem.mark = mark_in(reply);
         if problem.change.is_some() && matches!(problem.status, 404 | 412) {
             problem.status = 409;
         }
@@ -120,6 +124,10 @@ impl Problem {
             .number_if("op", self.op)
             .number_if("rev", self.rev)
             .number_if("from", self.from);
+        if let Some(mark) = &self.mark {
+            let value = mark.as_ref().map_or("null".to_owned(), |mark| quoted(&mark.value));
+            told = told.json("mark", &value).number_if("seq", mark.as_ref().map(|mark| mark.seq));
+        }
         let advice = self.advice.as_deref().or_else(|| row.map(|row| row.advice));
         let is_placed = self.number.map_or(false, |number| PLACED.contains(&number));
         if let Some(advice) = advice.filter(|advice| is_placed && *advice != self.detail) {

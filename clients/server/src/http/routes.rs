@@ -1,6 +1,7 @@
 //! What may be asked for where.
 
 use super::connection::Request;
+use super::once::Once;
 use super::problem::Problem;
 use super::response::Response;
 use super::target::decoded;
@@ -13,6 +14,7 @@ enum Route {
     Document(String),
     Schema(String),
     Transactions,
+    Mark(String),
     Changes,
     Status,
     Health,
@@ -43,6 +45,7 @@ impl Route {
                 match folder {
                     "documents" => Route::Document(name),
                     "schemas" => Route::Schema(name),
+                    "marks" => Route::Mark(name),
                     "problems" => Route::Problem(name),
                     _ => return None,
                 }
@@ -85,6 +88,9 @@ pub async fn answered(mut request: Request<'_>) -> Result<Response, Problem> {
         let told = format!("{method} is not for this path");
         return Err(Problem::new(405, "request", told).with("Allow", route.methods()));
     }
+    if !matches!(method.as_str(), "GET" | "HEAD" | "OPTIONS") {
+        request.once = Once::of(&request.head)?;
+    }
     match route {
         Route::Document(name) => of_document(&mut request, &name).await,
         Route::Schema(name) if method == "PUT" => schemas::put(&mut request, &name).await,
@@ -109,6 +115,7 @@ async fn read(request: &Request<'_>, route: Route) -> Result<Response, Problem> 
         Route::Documents => documents::names(request).await,
         Route::Document(name) => documents::get(request, &name).await,
         Route::Schema(name) => schemas::get(request, &name).await,
+        Route::Mark(key) => transactions::mark(request, &key).await,
         Route::Changes => changes::follow(request).await,
         Route::Status => facts::status(request).await,
         Route::Health => facts::health(request).await,

@@ -3,8 +3,9 @@
 use super::conditions::Condition;
 use super::connection::Request;
 use super::documents::{change_if, check_kind, read, text_of, JSON};
-use super::making::{changed, or_problem};
+use super::making::changed;
 use super::notices::notices_in;
+use super::once::or_before;
 use super::problem::Problem;
 use super::response::Response;
 use super::target::parameters;
@@ -29,6 +30,6 @@ pub async fn put(request: &mut Request<'_>, name: &str) -> Result<Response, Prob
     let schema = text_of(request).await?.text;
     let line =
         [b"{\"cmd\":\"schema\",\"name\":", quoted(name).as_bytes(), b",\"schema\":", &schema[..], b"}\n"].concat();
-    let seq = or_problem(request, change_if(request, name, &condition, &line).await?).await?;
-    changed(name, seq, 200, &notices_in(&schema))
+    let made = change_if(request, name, &condition, &line).await;
+    Ok(changed(name, or_before(request, made).await?, &notices_in(&schema)))
 }

@@ -1,17 +1,23 @@
-//! Several changes, all or none.
+//! Several changes, all or none, and marks that are set with them.
 
 use super::conditions::Condition;
 use super::connection::Request;
 use super::documents::{check_kind, text_of, JSON};
 use super::making::{done, make, or_problem};
 use super::notices::notices_of;
+use super::once::or_before;
 use super::problem::Problem;
 use super::response::Response;
 use super::target::parameters;
 use crate::json::canonical::{canonical, value_of};
+use crate::json::{quoted, Object};
+use crate::lines::replies::{self, mark_in};
 use serde_json::Value;
 
 const CHANGES: [&str; 4] = ["create", "patch", "schema", "delete"];
+
+/// The members of a body that speak of a mark.
+const OF_MARK: [&str; 2] = ["if_mark", "mark"];
 
 /// Makes the changes of the body.
 pub async fn make_all(request: &mut Request<'_>) -> Result<Response, Problem> {
@@ -24,20 +30,48 @@ pub async fn make_all(request: &mut Request<'_>) -> Result<Response, Problem> {
     let body = text_of(request).await?.text;
     let (line, warnings) = {
         let _turn = request.app.trees.turn(body.len()).await;
-        let changes = changes_in(&body)?;
-        let line = [b"{\"changes\":", &canonical(&changes)[..], b",\"cmd\":\"transaction\"}\n"].concat();
+        let (changes, of_mark) = changes_in(&body)?;
+        if !of_mark.is_empty() && request.once.is_some() {
+            let told = "a transaction that sets a `mark` of its own has no `Idempotency-Key`";
+            return Err(Problem::new(400, "idempotency-key", told));
+        }
+        let changed = canonical(&changes);
+        let line = [b"{", &of_mark[..], b"\"changes\":", &changed, b",\"cmd\":\"transaction\"}\n"].concat();
         (line, warnings_of(&changes))
     };
-    let seq = or_problem(request, make(&request.app, line).await?).await?;
-    Ok(Response::json(200, done(seq, &warnings)))
+    let made = match make(request, line, 200).await {
+        Ok(made) => or_problem(request, made).await,
+        Err(problem) => Err(problem),
+    };
+    let made = or_before(request, made).await?;
+    Ok(Response::json(made.status, done(made.seq, &warnings)))
 }
 
-fn changes_in(body: &[u8]) -> Result<Value, Problem> {
+/// The mark of a key.
+pub async fn mark(request: &Request<'_>, key: &str) -> Result<Response, Problem> {
+    let [] = parameters(&request.query, [])?;
+    let reply = request.app.store.one(replies::mark(key)).await?;
+    let mark = mark_in(&reply).ok_or_else(|| Problem::of_reply(&reply))?;
+    let value = mark.as_ref().map_or("null".to_owned(), |mark| quoted(&mark.value));
+    let told = Object::new().json("mark", &value).number_if("seq", mark.map(|mark| mark.seq));
+    Ok(Response::json(200, told.end()))
+}
+
+/// The changes of a body, and the texts of the members that speak of a mark, each with a comma after it.
+fn changes_in(body: &[u8]) -> Result<(Value, Vec<u8>), Problem> {
     let mut value = value_of(body).ok_or_else(|| Problem::refused(11, "the body nests deeper than 127 levels"))?;
-    let members = value.as_object_mut().filter(|members| members.len() == 1);
-    let changes = members.and_then(|members| members.remove("changes")).filter(Value::is_array);
-    let changes =
-        changes.ok_or_else(|| Problem::refused(14, "the body is an object whose only member is `changes`, a list"))?;
+    let mut of_mark = Vec::new();
+    let changes = value.as_object_mut().and_then(|members| {
+        for name in OF_MARK {
+            let value = members.remove(name);
+            value
+                .iter()
+                .for_each(|value| of_mark.extend([quoted(name).as_bytes(), b":", &canonical(value), b","].concat()));
+        }
+        members.remove("changes").filter(|changes| members.is_empty() && changes.is_array())
+    });
+    let told = "the body is an object of `changes`, a list, and of `mark` and `if_mark`, which may be left out";
+    let changes = changes.ok_or_else(|| Problem::refused(14, told))?;
     let is_change =
         |change: &Value| change.get("cmd").and_then(Value::as_str).map_or(false, |word| CHANGES.contains(&word));
     let wrong = changes.as_array().and_then(|changes| changes.iter().position(|change| !is_change(change)));
@@ -48,7 +82,7 @@ fn changes_in(body: &[u8]) -> Result<Value, Problem> {
             );
             Err(Problem::refused(14, told))
         }
-        None => Ok(changes),
+        None => Ok((changes, of_mark)),
     }
 }
 
@@ -79,7 +113,11 @@ mod tests {
         ] {
             assert_eq!(changes_in(body.as_bytes()).unwrap_err().number, Some(14), "{body}");
         }
-        let changes = changes_in(br#"{"changes":[{"cmd":"delete"},{"cmd":"schema","schema":{"minimun":1}}]}"#).unwrap();
+        let body = br#"{"mark":{"value":"v","key":"k"},"changes":[],"if_mark":null}"#;
+        let of_mark = br#""if_mark":null,"mark":{"key":"k","value":"v"},"#;
+        assert_eq!(changes_in(body).unwrap(), (serde_json::json!([]), of_mark.to_vec()));
+        let (changes, _) =
+            changes_in(br#"{"changes":[{"cmd":"delete"},{"cmd":"schema","schema":{"minimun":1}}]}"#).unwrap();
         assert_eq!(warnings_of(&changes), ["change 1, counted from 0: schema /minimun: `minimun` is not a keyword, and is ignored: perhaps `minimum` is meant"]);
     }
 }

@@ -103,6 +103,11 @@ pub fn most_changes(line: &[u8]) -> usize {
     memchr::memchr_iter(b'{', line).count().saturating_sub(1).clamp(1, MOST_CHANGES)
 }
 
+/// Whether a line may set a mark with its changes.
+pub fn may_have_mark(line: &[u8]) -> bool {
+    memmem::find(line, b"\"mark\"").is_some() || memchr::memchr(b'\\', line).is_some()
+}
+
 /// The command of the server's own that a line is. The program refuses what only looks like one.
 pub fn own_command(line: &[u8]) -> Option<Own> {
     let made = compact(line).ok()?;
@@ -129,7 +134,7 @@ mod tests {
 
     #[test]
     fn the_word_decides() {
-        let rows: [(&str, Kind); 14] = [
+        let rows: [(&str, Kind); 18] = [
             (r#"{"cmd":"create","doc":1,"name":"d","schema":true}"#, Kind::Change),
             (r#"{ "cmd" : "patch" }"#, Kind::Change),
             (r#"{"c\u006dd":"delete","name":"d"}"#, Kind::Change),
@@ -142,6 +147,13 @@ mod tests {
             (r#"{"cmd":"pump","max":1}"#, Kind::Snapshot),
             (r#"{"cmd":"watch"}"#, Kind::Own),
             (r#"[{"cmd":"transaction"}]"#, Kind::Change),
+            (r#"{"cmd":"mark","key":"create"}"#, Kind::Question),
+            (
+                r#"{"cmd":"delete","if_mark":null,"mark":{"key":"k","value":"\"cmd\":\"get\""},"name":"d"}"#,
+                Kind::Change,
+            ),
+            (r#"{"changes":[{"cmd":"get"}],"cmd":"transaction","mark":{"key":"cmd","value":"get"}}"#, Kind::Change),
+            (r#"{"mark":{"cmd":"get"},"changes":[{"cmd":"get"}],"cmd":"transaction"}"#, Kind::Change),
             ("", Kind::Question),
             ("{", Kind::Question),
         ];

@@ -34,6 +34,29 @@ pub fn rev_told(reply: &[u8]) -> Option<u64> {
     })
 }
 
+/// A mark of the store: its value, and the number of the last change that was made with it.
+#[derive(Clone, Debug, PartialEq, Eq)]
+pub struct Mark {
+    /// The value.
+    pub value: String,
+    /// The number.
+    pub seq: u64,
+}
+
+/// The line that asks for the mark of a key.
+pub fn mark(key: &str) -> String {
+    format!("{{\"cmd\":\"mark\",\"key\":{}}}\n", quoted(key))
+}
+
+/// The mark that a reply tells, or a refusal; none if the key has none. The outer one is none if it tells nothing of a mark.
+pub fn mark_in(reply: &[u8]) -> Option<Option<Mark>> {
+    let told: serde_json::Value = serde_json::from_slice(reply).ok()?;
+    match told.get("mark")? {
+        serde_json::Value::Null => Some(None),
+        value => Some(Some(Mark { value: value.as_str()?.to_owned(), seq: told.get("seq")?.as_u64()? })),
+    }
+}
+
 /// Where the text of the value or of the nodes is that a reply has.
 pub fn text_in(reply: &[u8]) -> Option<&[u8]> {
     let reply = without_end(reply);
@@ -151,7 +174,7 @@ impl Status {
 
 #[cfg(test)]
 mod tests {
-    use super::{get, names_in, rev_in, rev_told, seq_in, text_in, told_names, Status};
+    use super::{get, mark_in, names_in, rev_in, rev_told, seq_in, text_in, told_names, Mark, Status};
 
     #[test]
     fn the_head_tells() {
@@ -163,6 +186,16 @@ mod tests {
         assert_eq!(text_in(b"{\"ok\":true,\"value\":{\"a\":1}}\n"), Some(&b"{\"a\":1}"[..]));
         assert_eq!(text_in(b"{\"nodes\":[],\"ok\":true}\n"), Some(&b"[]"[..]));
         assert_eq!(text_in(b"{\"error\":\"no-document\",\"number\":21,\"ok\":false}\n"), None);
+    }
+
+    #[test]
+    fn marks_are_read() {
+        let mark = Mark { value: "v".to_owned(), seq: 7 };
+        assert_eq!(mark_in(b"{\"mark\":\"v\",\"ok\":true,\"seq\":7}\n"), Some(Some(mark.clone())));
+        let refused = b"{\"error\":\"mark\",\"mark\":\"v\",\"number\":25,\"ok\":false,\"seq\":7}\n";
+        assert_eq!(mark_in(refused), Some(Some(mark)));
+        assert_eq!(mark_in(b"{\"mark\":null,\"ok\":true}\n"), Some(None));
+        assert_eq!(mark_in(b"{\"error\":\"command\",\"number\":14,\"ok\":false}\n"), None);
     }
 
     #[test]

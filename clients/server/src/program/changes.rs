@@ -6,9 +6,10 @@
 use super::engine::{Engine, REST};
 use super::job::{document_in, finish, Pending};
 use crate::history::file::length_of_frames;
+use crate::history::mark::{beside_mark, Mark};
 use crate::history::Change;
 use crate::json::canonical::{canonical, value_in};
-use crate::lines::kinds::most_changes;
+use crate::lines::kinds::{may_have_mark, most_changes};
 use crate::lines::replies::{self, is_failure, seq_in};
 use crate::lines::{Line, MOST_CHANGES, SNAPSHOT, STATUS};
 use bytes::Bytes;
@@ -96,7 +97,7 @@ impl Engine {
         for (asked, reply) in asked.into_iter().zip(&replies) {
             if let Some(seq) = seq_in(reply) {
                 names.extend(asked.names);
-                changes.extend(made(asked.texts, seq));
+                changes.extend(made(asked.texts, asked.mark, seq));
                 self.check_number(seq, changes.len())?;
             }
         }
@@ -130,31 +131,70 @@ impl Engine {
 fn most_room(line: &[u8]) -> u64 {
     let changes = most_changes(line) as u64;
     // Beside their texts it has at least a comma between two of them, and the LF.
-    length_of_frames((line.len() as u64).saturating_sub(changes), changes)
+    let room = length_of_frames((line.len() as u64).saturating_sub(changes), changes);
+    // The key and the value of a mark are in the line.
+    room + if may_have_mark(line) { length_of_frames(beside_mark() as u64, 1) } else { 0 }
 }
 
-/// The changes that a line asks for: their canonical texts, and the names of their documents.
+/// The changes that a line asks for: their canonical texts, and the names of their documents; and the mark that it sets with
+/// them.
 struct Asked {
     texts: Vec<Vec<u8>>,
     names: Vec<String>,
+    mark: Option<Mark>,
 }
 
 impl Asked {
     fn of(line: &[u8]) -> Asked {
         let mut value = value_in(line).unwrap_or_default();
+        let mark = Mark::taken_out(&mut value);
         let all = match value.get_mut("changes").and_then(Value::as_array_mut) {
             Some(changes) => std::mem::take(changes),
             None => vec![value],
         };
         let name = |change: &Value| change.get("name").and_then(Value::as_str).map(str::to_owned);
-        Asked { names: all.iter().filter_map(name).collect(), texts: all.iter().map(canonical).collect() }
+        Asked { names: all.iter().filter_map(name).collect(), texts: all.iter().map(canonical).collect(), mark }
     }
 }
 
 /// The changes of an accepted line, the last of which has this number.
-fn made(texts: Vec<Vec<u8>>, last: u64) -> impl Iterator<Item = Change> {
+fn made(texts: Vec<Vec<u8>>, mark: Option<Mark>, last: u64) -> Vec<Change> {
     let count = texts.len() as u64;
     // One without its number is found out right after.
     let span = (count > 1).then(|| ((last + 1).saturating_sub(count), last));
-    texts.into_iter().map(move |text| Change { text, span })
+    let mut changes: Vec<Change> = texts.into_iter().map(|text| Change { span, ..Change::alone(text) }).collect();
+    if let Some(change) = changes.last_mut() {
+        change.mark = mark;
+    }
+    changes
+}
+
+#[cfg(test)]
+mod tests {
+    use super::{made, most_room, Asked};
+    use crate::history::file::length_of_frames;
+
+    #[test]
+    fn a_mark_is_no_part_of_its_change() {
+        let marked = br#"{"if_mark":null,"mark":{"key":"k","value":"v"},"cmd":"delete","name":"d"}"#;
+        let asked = Asked::of(marked);
+        assert!(asked.names == ["d"] && asked.mark.is_some());
+        assert_eq!(asked.texts, [br#"{"cmd":"delete","name":"d"}"#]);
+        let several = br#"{"changes":[{"cmd":"delete","name":"d"},{"cmd":"delete","name":"e"}],"cmd":"transaction","mark":{"key":"k","value":"v"}}"#;
+        let asked = Asked::of(several);
+        let changes = made(asked.texts, asked.mark, 4);
+        assert_eq!((changes[0].span, changes[1].span), (Some((3, 4)), Some((3, 4))));
+        assert!(changes[0].mark.is_none() && changes[1].mark.is_some());
+    }
+
+    #[test]
+    fn a_line_has_room_for_its_mark() {
+        for value in ["", "1", "\\u0001\\n"] {
+            let line =
+                format!("{{\"cmd\":\"delete\",\"mark\":{{\"key\":\"k\",\"value\":\"{value}\"}},\"name\":\"d\"}}\n");
+            let asked = Asked::of(line.as_bytes());
+            let taken = asked.texts[0].len() + asked.mark.unwrap().entry().len();
+            assert!(most_room(line.as_bytes()) >= length_of_frames(taken as u64, 2), "{value}");
+        }
+    }
 }

@@ -235,6 +235,7 @@ impl Engine {
 
     /// The reply to a line that makes a snapshot, or a step of one.
     pub(super) async fn snapshot(&mut self, line: &[u8]) -> io::Result<Bytes> {
+        self.recorder.leave(&self.status);
         let mut replies = self.exchange(&[line, STATUS].concat(), 2).await?;
         let status = replies.pop();
         let reply = replies.pop().unwrap_or_default();

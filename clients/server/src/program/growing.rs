@@ -254,10 +254,7 @@ impl Growing {
             let mut events = self.history.after(self.seq, PIECE).map_err(|_| Stuck::Behind)?;
             events.truncate(MOST_CHANGES);
             let mut lines = Vec::new();
-            for event in &events {
-                lines.extend_from_slice(&event.text());
-                lines.push(b'\n');
-            }
+            events.iter().for_each(|event| lines.extend(event.command()));
             lines.extend_from_slice(STATUS);
             let replies = self.exchange(&lines, events.len() + 1).await?;
             for (seq, reply) in (self.seq + 1..).zip(&replies[..events.len()]) {

@@ -2,6 +2,7 @@
 
 use super::slots::{begin_of, capacity_of, counting, SLOTS};
 use crate::error::Error;
+use crate::history::Change;
 use std::collections::VecDeque;
 use std::fs::File;
 use std::io;
@@ -12,7 +13,7 @@ use std::path::{Path, PathBuf};
 pub const SECTOR: u64 = 512;
 const LETTERS: &[u8] = b"JPSTORE1";
 
-/// A frame is the length of its body, its seq, and the body.
+/// A frame is the length of its body, its seq, and the body. In format 3 the first byte of the length is the kind.
 const HEAD: usize = 12;
 const HEAD_OF_CREATION: &[u8] = b"{\"cmd\":\"create\",";
 
@@ -23,9 +24,26 @@ pub fn length_of_frames(texts: u64, changes: u64) -> u64 {
     texts + HEAD as u64 * changes
 }
 
-/// The frame of the change `seq`, which has this text.
-pub fn frame_of(seq: u64, text: &[u8]) -> Vec<u8> {
-    [&(text.len() as u32).to_be_bytes(), &seq.to_be_bytes()[..], text].concat()
+/// What a frame of format 3 holds. Each of format 2, which doesn't say it, is read and written as the last of its transaction.
+#[derive(Clone, Copy, Debug, PartialEq, Eq)]
+pub enum Kind {
+    /// The last change of a transaction.
+    Last,
+    /// A change that others of its transaction follow, or its mark.
+    More,
+    /// A document of the snapshot.
+    Kept,
+    /// A mark, which ends its transaction, or is of the snapshot.
+    Noted,
+}
+
+const KINDS: [Kind; 4] = [Kind::Last, Kind::More, Kind::Kept, Kind::Noted];
+
+/// The frame of the change `seq`, or of the mark that was set with it, which has this text.
+pub fn frame_of(kind: Kind, seq: u64, text: &[u8]) -> Vec<u8> {
+    let mut frame = [&(text.len() as u32).to_be_bytes(), &seq.to_be_bytes()[..], text].concat();
+    frame[0] = kind as u8;
+    frame
 }
 
 /// What the commit sector says, or the slot that counts. Nobody may write the file while the committed bytes are read.
@@ -151,6 +169,14 @@ impl Committed {
         Ok(bytes)
     }
 
+    /// The kind of the frame that begins so, and how long its body is; none if there is no such kind.
+    fn kind_and_length(&self, head: &[u8]) -> Option<(Kind, u64)> {
+        if self.format == 2 {
+            return Some((Kind::Last, number(head, 0, 4)));
+        }
+        KINDS.get(usize::from(head[0])).map(|kind| (*kind, number(head, 1, 4)))
+    }
+
     fn too_short(&self) -> Error {
         Error::new(format!("{} is shorter than a store is", self.path.display()))
     }
@@ -169,13 +195,17 @@ impl Committed {
     }
 }
 
-/// A frame of the half in force: where it begins and ends there, its seq, and whether it is a creation.
+/// The frame of a change in the half in force, or in format 2 of a document of its snapshot.
 #[derive(Clone, Copy)]
 pub struct Frame {
+    /// Where it begins and ends there.
     begin: u64,
     end: u64,
     seq: u64,
     creates: bool,
+    /// The number of the first change of its transaction, and whether it is the last, as far as that is known.
+    first: u64,
+    ends: bool,
 }
 
 impl Frame {
@@ -185,13 +215,14 @@ impl Frame {
     }
 }
 
-/// The last frames in the half in force, `most` at most.
+/// The last frames of changes in the half in force, `most` at most.
 pub struct Journal {
     /// What is committed.
     pub committed: Committed,
     frames: VecDeque<Frame>,
-    /// Whether there are others before them, and a frame among those that is no creation.
+    /// Whether there are others before them.
     more: bool,
+    /// Whether none of them is of a snapshot for sure: by their kinds, or since one before them is no creation.
     changed: bool,
 }
 
@@ -199,7 +230,8 @@ impl Journal {
     /// The frames of a file that nobody writes meanwhile.
     pub fn of(path: &Path, most: usize) -> Result<Journal, Error> {
         let committed = Committed::of(path)?;
-        let mut journal = Journal { committed, frames: VecDeque::new(), more: false, changed: false };
+        let changed = committed.format != 2;
+        let mut journal = Journal { committed, frames: VecDeque::new(), more: false, changed };
         journal.walk(most)?;
         Ok(journal)
     }
@@ -208,31 +240,53 @@ impl Journal {
         let mut begin = 0;
         while begin < self.committed.length {
             let head = self.committed.read(begin, (HEAD + HEAD_OF_CREATION.len()) as u64)?;
-            let is_whole = head.len() >= HEAD;
-            let end = if is_whole { begin + HEAD as u64 + number(&head, 0, 4) } else { u64::MAX };
-            if end > self.committed.length {
-                let told = format!("{} has a frame that is not whole", self.committed.path.display());
-                return Err(Error::new(told));
-            }
-            let creates = head[HEAD..].starts_with(HEAD_OF_CREATION);
-            self.frames.push_back(Frame { begin, end, seq: number(&head, 4, HEAD), creates });
-            if self.frames.len() > most {
-                self.more = true;
-                self.changed |= self.frames.pop_front().map_or(false, |frame| !frame.creates);
+            let found = if head.len() < HEAD { None } else { self.committed.kind_and_length(&head) };
+            let (kind, end) = match found.map(|(kind, length)| (kind, begin + HEAD as u64 + length)) {
+                Some(found) if found.1 <= self.committed.length => found,
+                _ => return Err(self.not_whole()),
+            };
+            match kind {
+                Kind::Kept => (),
+                Kind::Noted => self.frames.back_mut().into_iter().for_each(|last| last.ends = true),
+                Kind::Last | Kind::More => {
+                    let (seq, creates) = (number(&head, 4, HEAD), head[HEAD..].starts_with(HEAD_OF_CREATION));
+                    self.add(Frame { begin, end, seq, creates, first: seq, ends: kind == Kind::Last }, most);
+                }
             }
             begin = end;
         }
         Ok(())
     }
 
-    /// The bodies of frames, which are the compact texts of commands.
-    pub fn texts(&self, frames: &[Frame]) -> Result<Vec<Vec<u8>>, Error> {
-        let body =
-            |frame: &Frame| self.committed.read(frame.begin + HEAD as u64, frame.end - frame.begin - HEAD as u64);
-        frames.iter().map(body).collect()
+    fn not_whole(&self) -> Error {
+        Error::new(format!("{} has a frame that is not whole", self.committed.path.display()))
     }
 
-    /// The last frames, as many as are changes for sure: a snapshot has only creations, and is first.
+    fn add(&mut self, frame: Frame, most: usize) {
+        let open = self.frames.back().filter(|last| !last.ends);
+        let first = open.map_or(frame.seq, |last| last.first);
+        self.frames.push_back(Frame { first, ..frame });
+        if self.frames.len() > most {
+            self.more = true;
+            self.changed |= self.frames.pop_front().map_or(false, |frame| !frame.creates);
+        }
+    }
+
+    /// The changes of frames that are the last ones. In format 2 it isn't known which were made together.
+    pub fn changes(&self, frames: &[Frame]) -> Result<Vec<Change>, Error> {
+        let mut last = 0;
+        let mut changes = Vec::with_capacity(frames.len());
+        for frame in frames.iter().rev() {
+            last = if frame.ends { frame.seq } else { last };
+            let text = self.committed.read(frame.begin + HEAD as u64, frame.end - frame.begin - HEAD as u64)?;
+            let span = (frame.first < last).then(|| (frame.first, last));
+            changes.push(Change { span, ..Change::alone(text) });
+        }
+        changes.reverse();
+        Ok(changes)
+    }
+
+    /// The last frames, as many as are changes for sure: in format 2 a snapshot has only creations, and is first.
     pub fn surely_changes(&self) -> Vec<Frame> {
         if self.changed {
             return self.frames.iter().copied().collect();

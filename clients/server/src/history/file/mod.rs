@@ -13,7 +13,7 @@ use super::{Change, History, MOST_BYTES, MOST_CHANGES};
 use crate::error::Error;
 use crate::lines::replies::Status;
 use crate::say;
-use journal::{frame_of, Frame, Journal};
+use journal::{frame_of, Frame, Journal, Kind};
 use saved::{HistoryFile, Position, Saved};
 use sha2::{Digest, Sha256};
 use std::path::{Path, PathBuf};
@@ -41,10 +41,21 @@ impl Recorder {
         });
     }
 
+    /// Notes that a snapshot is about to be made of the store. In format 3 nothing is left that would show it later, if the
+    /// server is killed before it has noted the snapshot.
+    pub fn leave(&mut self, status: &Status) {
+        if let Some(identity) = status.identity {
+            self.noted(|file, trace, inode| {
+                let position = trace.position_after(&[], status, inode)?;
+                file.append(&[], &Position { leaves: Some(format!("{identity:032x}")), ..position })
+            });
+        }
+    }
+
     /// Notes the position in a file that is about to take the place of the store's, and has the same changes.
     pub fn announce(&mut self, path: &Path, inode: u64, status: &Status) {
-        self.noted(|file, _, _| {
-            let position = Trace::new(path).position_after(&[], status, inode)?;
+        self.noted(|file, trace, _| {
+            let position = Trace::new(path, trace.has_kinds).position_after(&[], status, inode)?;
             file.append(&[], &position)
         });
     }
@@ -52,7 +63,7 @@ impl Recorder {
     /// Goes on in another file of the store, which has the same changes.
     pub fn go_on(&mut self, history: &History, inode: u64, status: &Status) {
         self.inode = inode;
-        self.trace = Trace::new(&self.trace.path);
+        self.trace = Trace::new(&self.trace.path, self.trace.has_kinds);
         self.noted(|file, trace, inode| {
             let position = trace.position_after(&[], status, inode)?;
             rewrite(file, history, &position)
@@ -87,19 +98,22 @@ fn position_of(status: &Status, inode: u64) -> Position {
         seq: status.seq,
         used: status.used,
         digest: String::new(),
+        leaves: None,
     }
 }
 
 /// A digest of the store's committed bytes, which goes on with each commit. Stores that differ have other digests.
 struct Trace {
     path: PathBuf,
+    /// Whether frames tell their kinds, as in format 3.
+    has_kinds: bool,
     last: Option<Position>,
     made: Sha256,
 }
 
 impl Trace {
-    fn new(path: &Path) -> Trace {
-        Trace { path: path.to_owned(), last: None, made: Sha256::new() }
+    fn new(path: &Path, has_kinds: bool) -> Trace {
+        Trace { path: path.to_owned(), has_kinds, last: None, made: Sha256::new() }
     }
 
     /// The position that a status tells, before which these changes were made last, with the digest.
@@ -123,8 +137,7 @@ impl Trace {
     /// The frames of the changes, if they are what came since the last position.
     fn frames_after(&self, changes: &[Change], position: &Position) -> Option<Vec<u8>> {
         let last = self.last.as_ref().filter(|last| last.half == position.half)?;
-        let numbered = changes.iter().zip(last.seq + 1..);
-        let frames: Vec<u8> = numbered.flat_map(|(change, seq)| frame_of(seq, &change.text)).collect();
+        let frames = frames_of(changes, last.seq, self.has_kinds);
         let (seq, used) = (last.seq + changes.len() as u64, last.used + frames.len() as u64);
         ((seq, used) == (position.seq, position.used)).then(|| frames)
     }
@@ -146,6 +159,18 @@ impl Trace {
     }
 }
 
+/// The frames of the changes after number `seq`, and of the marks that were set with them.
+fn frames_of(changes: &[Change], seq: u64, has_kinds: bool) -> Vec<u8> {
+    let mut frames = Vec::new();
+    for (change, seq) in changes.iter().zip(seq + 1..) {
+        let is_last = change.mark.is_none() && change.span.map_or(true, |(_, last)| last == seq);
+        let kind = if is_last || !has_kinds { Kind::Last } else { Kind::More };
+        frames.extend(frame_of(kind, seq, &change.text));
+        frames.extend(change.mark.iter().flat_map(|mark| frame_of(Kind::Noted, seq, &mark.entry())));
+    }
+    frames
+}
+
 /// A digest in hexadecimal, after which further bytes may be taken.
 fn told(made: &Sha256) -> String {
     made.clone().finalize().iter().map(|byte| format!("{byte:02x}")).collect()
@@ -163,7 +188,7 @@ fn digest_of(committed: &Committed, end: u64) -> Result<Sha256, Error> {
 /// The history of the store in a file, which a program has opened and nobody has changed since.
 pub fn open(store: &Path) -> Result<(History, Recorder), Error> {
     let journal = Journal::of(store, MOST_CHANGES)?;
-    let (file, mut trace) = (HistoryFile::beside(store)?, Trace::new(store));
+    let (file, mut trace) = (HistoryFile::beside(store)?, Trace::new(store, journal.committed.format != 2));
     let history = match file.read()? {
         Some(saved) => joined(saved, &journal, &mut trace)?,
         None => None,
@@ -190,6 +215,7 @@ fn position_in(found: &Committed) -> Position {
         seq: found.seq,
         used: found.length,
         digest: String::new(),
+        leaves: None,
     }
 }
 
@@ -204,9 +230,16 @@ fn is_of_this_store(noted: &Position, journal: &Journal, trace: &mut Trace) -> R
     if noted.half != found.half {
         // Nothing but a snapshot came after it, such as one of a server that was killed before it noted that.
         let may_be = noted.seq == found.seq && noted.used <= found.capacity;
-        return Ok(may_be && Some(&noted.digest) == trace.of_other_half(noted)?.as_ref());
+        let is_shown = may_be && Some(&noted.digest) == trace.of_other_half(noted)?.as_ref();
+        return Ok(is_shown || (may_be && is_left(noted, found)));
     }
     Ok(noted.seq <= found.seq && noted.used <= found.length && noted.digest == trace.after(&[], noted)?)
+}
+
+/// Whether the snapshot in force is the one that was about to be made, after which nobody else has opened the store.
+fn is_left(noted: &Position, found: &Committed) -> bool {
+    let identity: String = found.identity.iter().map(|byte| format!("{byte:02x}")).collect();
+    noted.leaves.as_ref() == Some(&identity) && noted.opens + 1 == found.opens
 }
 
 /// The one of the noted positions that is of this store, if there is one.
@@ -231,7 +264,7 @@ fn joined(saved: Saved, journal: &Journal, trace: &mut Trace) -> Result<Option<H
         Some(frames) if frames.iter().map(Frame::size).sum::<usize>() <= MOST_BYTES => frames,
         _ => return Ok(None),
     };
-    changes.extend(changes_in(journal, &frames)?);
+    changes.extend(journal.changes(&frames)?);
     let history = made(base, &changes)?;
     // Only this server's program has opened the file since, so what isn't noted was made, and may have been sent, by the
     // last one, such as before a power failure.
@@ -248,11 +281,7 @@ fn of_frames(journal: &Journal, frames: &[Frame]) -> Result<History, Error> {
         size <= MOST_BYTES
     });
     let last = &frames[frames.len() - kept.count()..];
-    made(journal.committed.seq - last.len() as u64, &changes_in(journal, last)?)
-}
-
-fn changes_in(journal: &Journal, frames: &[Frame]) -> Result<Vec<Change>, Error> {
-    Ok(journal.texts(frames)?.into_iter().map(Change::alone).collect())
+    made(journal.committed.seq - last.len() as u64, &journal.changes(last)?)
 }
 
 fn made(base: u64, changes: &[Change]) -> Result<History, Error> {
@@ -261,7 +290,8 @@ fn made(base: u64, changes: &[Change]) -> Result<History, Error> {
 
 #[cfg(test)]
 mod tests {
-    use super::{frame_of, open, Change, History, Recorder, Status, SECTOR};
+    use super::{frames_of, open, Change, History, Recorder, Status, SECTOR};
+    use crate::history::mark::Mark;
     use std::fs::{self, File};
     use std::io::Write;
     use std::os::unix::fs::MetadataExt;
@@ -271,7 +301,8 @@ mod tests {
 
     /// Writes a store of format 2 (`docs/inside/FORMAT.md`) with these changes, which was opened so often.
     fn write_store(path: &Path, texts: &[&str], opens: u64) -> Status {
-        let frames: Vec<u8> = (1..).zip(texts).flat_map(|(seq, text)| frame_of(seq, text.as_bytes())).collect();
+        let changes: Vec<Change> = texts.iter().map(|text| Change::alone(text.as_bytes().to_vec())).collect();
+        let frames = frames_of(&changes, 0, false);
         let (used, seq) = (frames.len() as u64, texts.len() as u64);
         let mut bytes = b"JPSTORE1\0\0\0\x02\0\0\0\0".to_vec();
         [used, seq, opens, SECTORS, 0].iter().for_each(|number| bytes.extend_from_slice(&number.to_be_bytes()));
@@ -310,7 +341,7 @@ mod tests {
     const TEXTS: [&str; 3] = [r#"{"cmd":"create","doc":1}"#, r#"{"cmd":"patch"}"#, r#"{"cmd":"delete"}"#];
 
     fn change(text: &str) -> Change {
-        Change { text: text.as_bytes().to_vec(), span: Some((2, 3)) }
+        Change { span: Some((2, 3)), ..Change::alone(text.as_bytes().to_vec()) }
     }
 
     /// What a server has that noted three changes, the last two as one transaction.
@@ -340,6 +371,23 @@ mod tests {
             assert!(after.has(3, &history.name()));
             assert_eq!(after.lines_after(0), history.lines_after(0));
         }
+    }
+
+    #[test]
+    fn frames_tell_their_kinds_in_format_3_alone() {
+        let mark = Mark::taken_out(&mut serde_json::json!({"mark": {"key": "k", "value": "v"}}));
+        let noted = Change { mark: mark.clone(), ..Change::alone(b"1".to_vec()) };
+        let last = Change { mark, ..change("3") };
+        let firsts = |changes: &[Change], has_kinds: bool| -> Vec<(u8, u8)> {
+            frames_of(changes, 1, has_kinds).chunks(13).map(|frame| (frame[0], frame[11])).collect()
+        };
+        assert_eq!(firsts(&[change("2"), change("3")], true), [(1, 2), (0, 3)]);
+        assert_eq!(firsts(&[change("2"), change("3")], false), [(0, 2), (0, 3)]);
+        let entry = br#"{"cmd":"create","doc":"v","name":"k","schema":true}"#;
+        let note = |seq: u8| [&[3, 0, 0, 51, 0, 0, 0, 0, 0, 0, 0, seq], &entry[..]].concat();
+        assert_eq!(frames_of(&[noted], 1, true), [&[1, 0, 0, 1, 0, 0, 0, 0, 0, 0, 0, 2, b'1'][..], &note(2)].concat());
+        let two = frames_of(&[change("2"), last], 1, true);
+        assert_eq!((two[0], two[13], &two[26..]), (1, 1, &note(3)[..]));
     }
 
     #[test]

@@ -30,11 +30,16 @@ pub struct Position {
     pub used: u64,
     /// The digest of these bytes.
     pub digest: String,
+    /// The identity of the store, in hexadecimal, if a snapshot is about to take its place.
+    pub leaves: Option<String>,
 }
 
 impl Position {
     fn text(&self) -> Vec<u8> {
-        let told = json!({"half": self.half, "inode": self.inode, "opens": self.opens, "seq": self.seq, "used": self.used, "digest": self.digest});
+        let mut told = json!({"half": self.half, "inode": self.inode, "opens": self.opens, "seq": self.seq, "used": self.used, "digest": self.digest});
+        if let Some(identity) = &self.leaves {
+            told["leaves"] = identity.as_str().into();
+        }
         told.to_string().into_bytes()
     }
 
@@ -48,6 +53,7 @@ impl Position {
             seq: number("seq")?,
             used: number("used")?,
             digest: value.get("digest")?.as_str()?.to_owned(),
+            leaves: value.get("leaves").and_then(Value::as_str).map(str::to_owned),
         })
     }
 }
@@ -210,7 +216,7 @@ fn change_in(line: &[u8]) -> Option<(u64, Change)> {
         Some((text, (first, last)))
     });
     let (text, span) = span.map_or((inner, None), |(text, span)| (text, Some(span)));
-    Some((seq, Change { text: text.to_vec(), span }))
+    Some((seq, Change { span, ..Change::alone(text.to_vec()) }))
 }
 
 fn saved_in<'t>(texts: &mut impl Iterator<Item = &'t [u8]>) -> Option<Saved> {
@@ -282,14 +288,22 @@ mod tests {
         assert_eq!(texts_in(b"00000000 x\n").count(), 0);
         let inner = Change::alone(b"{\"seq\":1}".to_vec());
         assert_eq!(change_in(b"{\"change\":{\"seq\":1},\"seq\":12}"), Some((12, inner)));
-        let spanned = Change { text: b"{\"a\":{\"last\":1}}".to_vec(), span: Some((3, 12)) };
+        let spanned = Change { span: Some((3, 12)), ..Change::alone(b"{\"a\":{\"last\":1}}".to_vec()) };
         let line = b"{\"change\":{\"a\":{\"last\":1}},\"first\":3,\"last\":12,\"seq\":7}";
         assert_eq!(change_in(line), Some((7, spanned)));
     }
 
     #[test]
+    fn a_position_tells_whether_a_snapshot_is_about_to_be_made() {
+        for leaves in [None, Some("0a".to_owned())] {
+            let position = Position { half: 1, inode: 2, opens: 3, seq: 4, used: 5, digest: "d".to_owned(), leaves };
+            assert_eq!(Position::of(&position.text()), Some(position));
+        }
+    }
+
+    #[test]
     fn two_positions_are_those_of_one_change_in_two_files() {
-        let at = |seq, inode| Position { half: 0, inode, opens: 1, seq, used: 9, digest: "d".to_owned() };
+        let at = |seq, inode| Position { half: 0, inode, opens: 1, seq, used: 9, digest: "d".to_owned(), leaves: None };
         let mut positions = Vec::new();
         for (position, count) in [(at(3, 1), 1), (at(4, 1), 1), (at(4, 2), 2), (at(5, 2), 1)] {
             add_position(&mut positions, position);
