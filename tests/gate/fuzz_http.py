@@ -4,8 +4,9 @@
     fuzz_http.py PROGRAM [--requests N] [--damaged SHARE] [--seed S] [--formats 2 3]
 
 Eight clients send requests whose answers are known exactly, over names of their own: with any framing, chunks, many at once, percent-
-encoding, escapes, members that are there twice, conditions, patches, merge patches, transactions, and what is no JSON. Others send
-requests that were damaged: bytes changed, cut out, doubled, or the connection ended or reset meanwhile. One follows the changes.
+encoding, escapes, members that are there twice, conditions, patches, merge patches, transactions, and what is no JSON; in format 3 also
+with keys, by which they are sent again. Others send requests that were damaged: bytes changed, cut out, doubled, or the connection ended
+or reset meanwhile. One follows the changes.
 
 In the end each change that was answered has been sent under its number, as the model made it, and no other of these names. What was sent
 makes the documents that are stored, with their schemas and revisions. Of what damaged requests were answered, each number is that of a
@@ -218,9 +219,9 @@ def shown(content):
     return content[:1500].decode("utf-8", "backslashreplace") + ("..." if len(content) > 1500 else "")
 
 
-async def ask_exactly(run, choose, prefix):
+async def ask_exactly(run, choose, prefix, has_keys):
     """Sends requests, up to eight at once, and judges each answer."""
-    requests, connection = Requests(choose, prefix), Connection(run.port)
+    requests, connection = Requests(choose, prefix, has_keys), Connection(run.port)
     while run.goes_on():
         some = [requests.next() for _ in range(choose.choice([1, 1, 1, 1, 2, 3, 8]))]
         ends = choose.random() < 0.03
@@ -374,11 +375,11 @@ def gateway(program, folder, number, over_hub, log):
         yield int(re.search(r":(\d+)/$", stack.enter_context(started(words, log)))[1])
 
 
-async def tried(port, count, share, seed):
+async def tried(port, count, share, seed, has_keys):
     """Sends this many requests, this share of them damaged, and judges what is there then; answers what was counted and found."""
     run, changes = Run(port, count, share), []
     following = asyncio.ensure_future(follow(port, changes))
-    exact = [ask_exactly(run, random.Random(f"{seed} {index}"), f"{EXACT_NAMES}{index}-") for index in range(EXACT_CLIENTS)]
+    exact = [ask_exactly(run, random.Random(f"{seed} {index}"), f"{EXACT_NAMES}{index}-", has_keys) for index in range(EXACT_CLIENTS)]
     others = [ask_damaged(run, random.Random(f"{seed} damaged {index}"), f"{DAMAGED_NAMES}{index}") for index in range(DAMAGING_CLIENTS)]
     clients = (await asyncio.gather(*exact, *others))[:EXACT_CLIENTS]
     if run.faults:
@@ -407,7 +408,7 @@ def part(program, number, over_hub, words, seed):
     with tempfile.TemporaryDirectory(prefix="jpstore-") as folder, open(os.path.join(folder, "log"), "w+b") as log:
         try:
             with gateway(program, folder, number, over_hub, log) as port:
-                run, changes = asyncio.run(tried(port, words.requests, words.damaged, seed))
+                run, changes = asyncio.run(tried(port, words.requests, words.damaged, seed, number > 2))
             faults = run.faults
         except Exception:  # Whatever is raised, the other parts go on.
             print(traceback.format_exc())

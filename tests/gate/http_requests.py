@@ -1,4 +1,5 @@
 """Random requests for tests/gate/fuzz_http.py, each with the answer that docs/use/HTTP.md promises over the model of the store."""
+import collections
 import json
 import pathlib
 import re
@@ -27,6 +28,9 @@ WRONG_OPERATIONS = [
 WRONG_CONDITIONS = ["5", '"5', '"1" "2"', ",", "*, *", "w/\"5\""]
 NEVER = 10 ** 17
 
+# Each client asks again with its last keys: the store keeps 1,024 of all clients.
+MOST_KEYS = 12
+
 
 class Difference(Exception):
     """An answer that isn't what it should be."""
@@ -52,7 +56,7 @@ class Asked:
 
     def __init__(self, method, target, body=None, fields=(), changes=()):
         self.method, self.target, self.body, self.fields, self.changes = method, target, body, list(fields), list(changes)
-        self.expects = None
+        self.expects = self.answer = None
 
     def wanting(self, expects):
         """The same with what its answer must be: what `expects` raises is a difference."""
@@ -128,6 +132,11 @@ def read(text, revision, name, status=200):
         if status == 200:
             expect(int(answer.fields["content-length"]) == len(text), "the length is wrong")
     return expects
+
+
+def of_change(answer):
+    """What an answer says of a change, by which it is the same as another one."""
+    return answer.status, answer.content, [answer.fields.get(name) for name in ("etag", "location", "link", "content-type")]
 
 
 # ---- texts
@@ -261,9 +270,10 @@ def tags_text(tags):
 class Requests:
     """Random requests for the documents of one client, whose names begin with its prefix, and the model of them."""
 
-    def __init__(self, choose, prefix):
+    def __init__(self, choose, prefix, has_keys=False):
         self.store, self.last = Store(), 0
         self._choose, self._prefix = choose, prefix
+        self._has_keys, self._keys, self._keyed = has_keys, 0, collections.deque(maxlen=MOST_KEYS)
         self._names = [f"{prefix}{name}" for name in ("a", "b", "c", "D", "e.e", "f_f", "0", "-")]
         # What may be asked for, each with how often.
         self._kinds = {
@@ -274,8 +284,35 @@ class Requests:
 
     def next(self):
         """A further request. The model goes on as if it were answered as it expects."""
+        if self._keyed and self._choose.random() < 0.05:
+            return self._again()
         kind, = self._choose.choices(list(self._kinds), self._kinds.values())
-        return kind()
+        asked = kind()
+        if self._has_keys and asked.changes and self._choose.random() < 0.2:
+            self._give_key(asked)
+        return asked
+
+    def _give_key(self, asked):
+        """Gives an `Idempotency-Key` to a request that changes something, and keeps what it is answered."""
+        self._keys += 1
+        asked.fields.append(("Idempotency-Key", f'"{self._prefix}{self._keys}"'))
+        judge = asked.expects
+
+        def expects(answer):
+            asked.answer = of_change(answer)
+            return judge(answer)
+        self._keyed.append(asked.wanting(expects))
+
+    def _again(self):
+        """A request that was made once more, which is answered as it was then; or another one that has its key."""
+        first = self._choose.choice(self._keyed)
+        if self._choose.random() < 0.3:
+            fields = [first.fields[-1], ("If-Match", f'"{NEVER}"')]
+            return Asked("DELETE", self._path(self._name()), fields=fields).wanting(problem(422, "idempotency-key-reused"))
+
+        def expects(answer):
+            expect(of_change(answer) == first.answer, f"it is not answered as before: {first.answer}")
+        return Asked(first.method, first.target, first.body, first.fields).wanting(expects)
 
     def _name(self, only_there=False):
         there = list(self.store.documents)

@@ -609,6 +609,113 @@ def stays_in_format_3(jpstore, schema, refusal):
     jpstore.shows("upgrade", jpstore.file, "--format", "2", output=upgraded(2, 3))
 
 
+# A change of d, and questions of the mark of k.
+PATCH = '{"cmd":"patch","name":"d","ops":[]}\n'
+MARK_OF_K = '{"cmd":"mark","key":"k"}\n'
+NO_MARK = '{"mark":null,"ok":true}\n'
+NO_COMMAND, NO_NAME = '{"error":"command","number":14,"ok":false}\n', '{"error":"name","number":15,"ok":false}\n'
+
+
+def with_mark(line, value, key="k", **asked):
+    """The line of changes with a mark, and with what it asks of the mark before."""
+    return compact({**json.loads(line), "mark": {"key": key, "value": value}, **asked}) + "\n"
+
+
+def done(seq):
+    return f'{{"ok":true,"seq":{seq}}}\n'
+
+
+def mark(value, seq):
+    return f'{{"mark":"{value}","ok":true,"seq":{seq}}}\n'
+
+
+def other_mark(value, seq):
+    return f'{{"error":"mark","mark":"{value}","number":25,"ok":false,"seq":{seq}}}\n'
+
+
+# What a store of format 3 answers to changes with marks, from its beginning.
+MARKED = [
+    (MARK_OF_K, NO_MARK),
+    # Another mark is asked for, and then none.
+    (with_mark(CREATE, "a", if_mark="b"), '{"error":"mark","mark":null,"number":25,"ok":false}\n'),
+    (with_mark(CREATE, "a", if_mark=None), done(1)),
+    (MARK_OF_K, mark("a", 1)),
+    (with_mark(PATCH, "b", if_mark=None), other_mark("a", 1)),
+    (with_mark(PATCH, "b", if_mark="b"), other_mark("a", 1)),
+    # The change is refused, and so the mark stays.
+    (with_mark('{"cmd":"delete","name":"e"}', "b", if_mark="a"), '{"error":"no-document","number":21,"ok":false}\n'),
+    (MARK_OF_K, mark("a", 1)),
+    # The mark of a transaction has the number of its last change.
+    (with_mark('{"changes":[{"cmd":"create","doc":1,"name":"e","schema":true},{"cmd":"delete","name":"e"}],"cmd":"transaction"}', "b", if_mark="a"), done(3)),
+    (with_mark('{"changes":[{"cmd":"delete","name":"d"},{"cmd":"delete","name":"e"}],"cmd":"transaction"}', "c"),
+     '{"change":1,"error":"no-document","number":21,"ok":false}\n'),
+    (MARK_OF_K, mark("b", 3)),
+    (with_mark('{"cmd":"patch","if_rev":1,"name":"d","ops":[]}', "", key="l"), done(4)),
+    (with_mark('{"cmd":"schema","name":"d","schema":true}', "\t\"", if_mark="b"), done(5)),
+    (MARK_OF_K, '{"mark":"\\t\\"","ok":true,"seq":5}\n'),
+    ('{"cmd":"mark","key":"l"}\n', mark("", 4)),
+    # Its key, then its length, then the mark before, and then the row.
+    (with_mark('{"cmd":"delete","name":"e"}', "x" * 129, key="k k", if_mark="a"), NO_NAME),
+    (with_mark('{"cmd":"delete","name":"e"}', "x" * 129, if_mark="a"), NO_COMMAND),
+    (with_mark('{"cmd":"delete","name":"e"}', "x" * 128, if_mark="a"), '{"error":"mark","mark":"\\t\\"","number":25,"ok":false,"seq":5}\n'),
+    (with_mark(PATCH, "x" * 128), done(6)),
+    ('{"cmd":"mark","key":"k k"}\n', NO_NAME),
+    # Lines of other forms.
+    (PATCH.replace("}", ',"if_mark":"a"}'), NO_COMMAND),
+    (PATCH.replace("}", ',"mark":"a"}'), NO_COMMAND),
+    (PATCH.replace("}", ',"mark":{"key":"k"}}'), NO_COMMAND),
+    (PATCH.replace("}", ',"mark":{"key":"k","value":1}}'), NO_COMMAND),
+    (PATCH.replace("}", ',"mark":{"key":"k","seq":1,"value":"a"}}'), NO_COMMAND),
+    (with_mark(PATCH, "a", if_mark=1), NO_COMMAND),
+    (with_mark('{"cmd":"list"}', "a"), NO_COMMAND),
+    ('{"changes":[' + with_mark(PATCH, "a").strip() + '],"cmd":"transaction"}\n', NO_COMMAND),
+    ('{"cmd":"mark"}\n', NO_COMMAND),
+    ('{"cmd":"mark","key":"k","name":"d"}\n', NO_COMMAND),
+]
+
+
+def a_mark_is_set_with_its_changes_or_not_at_all(jpstore):
+    lines, replies = "".join(line for line, _ in MARKED), "".join(reply for _, reply in MARKED)
+    jpstore.run("format", jpstore.file, *BOTH, "--format", "3")
+    jpstore.shows("serve", jpstore.file, given=lines, output=replies)
+
+
+def a_mark_stays_in_format_3(jpstore):
+    new = os.path.join(jpstore.folder, "new")
+    jpstore.run("format", jpstore.file, *BOTH, "--format", "3")
+    jpstore.serves_until_killed(with_mark(CREATE, "a"), done(1))
+    # The document takes 67 bytes, and the mark 63.
+    jpstore.shows("serve", jpstore.file, given=MARK_OF_K + '{"cmd":"snapshot"}\n' + MARK_OF_K, output=mark("a", 1) + '{"ok":true,"used":130}\n' + mark("a", 1))
+    jpstore.shows("serve", jpstore.file, given=MARK_OF_K + with_mark(PATCH, "b", if_mark="a"), output=mark("a", 1) + done(2))
+    # By a copied snapshot too.
+    pump = '{"cmd":"pump","max":1000000}\n'
+    ended = jpstore.run("serve", jpstore.file, given=pump)
+    if '"switched"' not in ended.stdout:
+        raise Wrong(f"no snapshot was copied: {ended.stdout}")
+    jpstore.shows("serve", jpstore.file, given=MARK_OF_K, output=mark("b", 2))
+    for version, answer in (("3", mark("b", 2)), ("2", NO_MARK)):
+        jpstore.run("copy", jpstore.file, new, *BOTH, "--format", version)
+        jpstore.shows("serve", new, given=MARK_OF_K, output=answer)
+        os.unlink(new)
+    for version, answer in (("3", mark("b", 2)), ("2", NO_MARK), ("3", NO_MARK)):
+        jpstore.run("upgrade", jpstore.file, "--format", version)
+        jpstore.shows("serve", jpstore.file, given=MARK_OF_K, output=answer)
+
+
+def format_2_has_no_marks(jpstore):
+    jpstore.run("format", jpstore.file, *BOTH)
+    given = with_mark(CREATE, "a", key="k k", if_mark="b") + CREATE + with_mark(PATCH, "a") + MARK_OF_K + '{"cmd":"mark","key":"k k"}\n'
+    jpstore.shows("serve", jpstore.file, given=given, output=NO_COMMAND + DONE + NO_COMMAND + NO_MARK + NO_NAME)
+
+
+def a_refused_mark_has_that_which_its_batch_left(jpstore):
+    given = with_mark(CREATE, "a") + with_mark(PATCH, "b", if_mark="x") + with_mark(PATCH, "c", if_mark="a") + MARK_OF_K
+    for words, told in (([], other_mark("a", 1)), (["--batch", "8"], other_mark("c", 2))):
+        jpstore.run("format", jpstore.file, *BOTH, "--format", "3")
+        jpstore.shows("serve", jpstore.file, *words, given=given, output=DONE + told + done(2) + mark("c", 2))
+        os.unlink(jpstore.file)
+
+
 def upgrades_that_fail(jpstore):
     jpstore.fails("upgrade", jpstore.file, errors="jpstore: file\n")
     jpstore.run("format", jpstore.file, *BOTH)
@@ -859,6 +966,10 @@ TESTS = [
     formats_1_and_2_have_no_slots,
     formats_read_their_keywords,
     a_schema_of_profile_3_stays_in_format_3,
+    a_mark_is_set_with_its_changes_or_not_at_all,
+    a_mark_stays_in_format_3,
+    format_2_has_no_marks,
+    a_refused_mark_has_that_which_its_batch_left,
     upgrades_that_fail,
     one_patch_keeps_no_more_than_three_documents,
     output_that_cannot_be_written,

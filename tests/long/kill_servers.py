@@ -6,8 +6,9 @@
 In each format N kills, 150 if not said, as kill_hubs.py makes them. Meanwhile:
 
   - three clients over HTTP count a document of their own each by `If-Match`, one of them a process that is killed too;
-  - two count the one of all over HTTP, by the notes of docs/use/MODELLING.md;
+  - two count the one of all over HTTP, by `Idempotency-Key`;
   - three at the socket count a document of their own and the one of all by `once`, one of them a process that is killed too;
+    in format 2, whose stores have no marks, these five count a document of their own by its revision instead;
   - three readers over HTTP and one at the socket never read a count below one that was acknowledged before;
   - three follow the changes: over HTTP a thread, and a process that is killed and goes on after what it has written, and a
     watcher at the socket.
@@ -15,10 +16,11 @@ In each format N kills, 150 if not said, as kill_hubs.py makes them. Meanwhile:
 In the end each count is the number of increments, each follower has each change once, in order, and what they were sent makes the
 documents that are stored.
 
-It needs pytest, jsonpatch and requests, and makes its stores in the folder that TMPDIR names. The last line is `N passed, M failed`.
+It needs pytest and jsonpatch, and makes its stores in the folder that TMPDIR names. The last line is `N passed, M failed`.
 """
 import argparse
 import contextlib
+import functools
 import http.client
 import json
 import os
@@ -34,21 +36,19 @@ import traceback
 
 HERE = os.path.dirname(os.path.abspath(__file__))
 CLIENTS = os.path.join(HERE, "..", "..", "clients", "python")
-sys.path[:0] = [HERE, CLIENTS, *(os.path.join(CLIENTS, "tests", name) for name in ("", "gateway")), os.path.join(HERE, "..", "..", "tools")]
+sys.path[:0] = [HERE, CLIENTS, os.path.join(CLIENTS, "tests"), os.path.join(HERE, "..", "..", "tools")]
 sys.dont_write_bytecode = True
 
 import jsonpatch  # noqa: E402
-import requests  # noqa: E402
-from jpstore import JpstoreError, Store, create  # noqa: E402
+from jpstore import Ended, JpstoreError, Outdated, Store, create  # noqa: E402
 from jpstore.watch import Watch  # noqa: E402
 from kill_hubs import Counter, CountingProcess, formatted, logged, one_life, until  # noqa: E402
 from server import use_server  # noqa: E402
 from support import PATIENCE, Place  # noqa: E402
-from test_http_safety import _counted_once, _recipe  # noqa: E402
 
 SECTORS = 2048
 PAUSE = 0.02
-BY_TAG, BY_NOTES, BY_ONCE = ["h0", "h1", "h2"], ["k0", "k1"], ["c0", "c1", "c2"]
+BY_TAG, BY_KEY, BY_ONCE = ["h0", "h1", "h2"], ["k0", "k1"], ["c0", "c1", "c2"]
 HTTP_READERS = 3
 
 # A client that counts by `If-Match`, in a process of its own: it goes on after what it has written down.
@@ -127,6 +127,38 @@ def count_by_tag(door, name, number):
         assert status in (0, 412, 502, 503, 504), f"{name}: a change is answered {status} {content}"
 
 
+def count_by_key(door, name, number):
+    """Counts up the one of all, once for this number: after a lost answer the same is sent again, or what is right by now."""
+    asked = None
+    while True:
+        if asked is None or random.random() < 0.3:
+            status, tag, content = door.ask("GET", "/documents/all")
+            if status != 200:
+                assert status in (0, 503), f"all: a question is answered {status} {content}"
+                continue
+            asked = str(json.loads(content) + 1), tag
+        status, _, content = door.ask("PUT", "/documents/all", asked[0], If_Match=asked[1], Idempotency_Key=f'"{name}-{number}"')
+        if status == 200:
+            return
+        if status == 422:
+            # What was sent before has been made.
+            assert json.loads(content)["name"] == "idempotency-key-reused", content
+            return
+        assert status in (0, 412, 502, 503, 504), f"all: a change is answered {status} {content}"
+        asked = None if status == 412 else asked
+
+
+def count_by_rev(store, name, number):
+    """Counts up a document of its own to this number at the socket, as `count_by_tag` does over HTTP."""
+    while True:
+        with contextlib.suppress(Outdated, Ended):
+            rev, found = store.rev(name), store.get(name)
+            assert found in (number - 1, number), f"{name}: {found} is stored, and {number - 1} was counted"
+            if found != number:
+                store.patch(name, [{"op": "replace", "path": "", "value": number}], if_rev=rev)
+            return
+
+
 def follow(port, last=None):
     """The changes over HTTP, from the first one or after an event on, over all ends of the server."""
     while True:
@@ -178,15 +210,16 @@ def by_tag(port):
     return lambda task: count_by_tag(door, task.name, task.count)
 
 
-def by_notes(port):
-    """A step that counts by the notes that the page shows."""
-    url = f"http://127.0.0.1:{port}"
-    once = _recipe(url)
+def by_key(port):
+    """A step that counts by `Idempotency-Key`."""
+    door = Door(port)
+    return lambda task: count_by_key(door, task.name, task.count)
 
-    def step(task):
-        while not _counted_once(requests, once, url, task.name, task.count):
-            time.sleep(PAUSE)
-    return step
+
+def by_rev(path):
+    """A step that counts by revisions at the socket."""
+    opened = functools.lru_cache(None)(lambda: Store.connect(path, wait=600))
+    return lambda task: count_by_rev(opened(), task.name, task.count)
 
 
 def reading(tasks, ask):
@@ -259,41 +292,43 @@ def start_server(place, port):
 def tried(place, rounds, number):
     formatted(place, SECTORS, number)
     with place.store() as store:
-        store.transaction([create(name, 0) for name in ["all", *BY_TAG, *BY_ONCE]])
-    port, path, stop, log = free_port(), place.path("socket"), threading.Event(), place.path("log")
+        store.transaction([create(name, 0) for name in ["all", *BY_TAG, *BY_KEY, *BY_ONCE]])
+    port, path, stop, log, has_marks = free_port(), place.path("socket"), threading.Event(), place.path("log"), number > 2
     told = [], []
     with contextlib.ExitStack() as block:
-        tasks = [Task(name, stop, by_tag(port)) for name in BY_TAG[1:]] + [Task(name, stop, by_notes(port)) for name in BY_NOTES]
-        tagged = Process(place, TAG_COUNTER, str(port), BY_TAG[0], place.path("log-h0"), place.path("stop"))
+        own = [Task(name, stop, by_tag(port)) for name in BY_TAG[1:]]
+        processes = {BY_TAG[0]: Process(place, TAG_COUNTER, str(port), BY_TAG[0], place.path("log-h0"), place.path("stop"))}
         follower = Process(place, FOLLOWER, str(port), log)
-        counting = CountingProcess(place, BY_ONCE[0], place.path("stop"))
-        counters = [Counter(path, name, stop) for name in BY_ONCE[1:]]
-        own = tasks[:len(BY_TAG) - 1]
+        if has_marks:
+            counters = [*(Task(name, stop, by_key(port)) for name in BY_KEY), *(Counter(path, name, stop) for name in BY_ONCE[1:])]
+            processes[BY_ONCE[0]] = CountingProcess(place, BY_ONCE[0], place.path("stop"))
+        else:
+            counters = [*(Task(name, stop, by_tag(port)) for name in BY_KEY), *(Task(name, stop, by_rev(path)) for name in BY_ONCE)]
         readers = [Task("", stop, reading(own, over_http(port))) for _ in range(HTTP_READERS)]
         readers.append(Task("", stop, reading(own, at_socket(path))))
-        for process in (tagged, follower, counting):
+        for process in (follower, *processes.values()):
             block.callback(process.end)
         following(told, port, path)
         ends = []
         while len(ends) - ends.count("term") < rounds:
             ends.append(one_life(place, lambda: start_server(place, port)))
             if random.random() < 0.3:
-                random.choice([tagged, follower, counting]).kill()
-            failed = [each.failed for each in [*tasks, *counters, *readers] if each.failed]
+                random.choice([follower, *processes.values()]).kill()
+            failed = [each.failed for each in [*own, *counters, *readers] if each.failed]
             assert not failed, failed
         server = start_server(place, port)
         block.callback(server.kill)
         assert b"is served" in server.stdout.readline()
         stop.set()
         place.text("stop", "")
-        for client in [*tasks, *counters, *readers, tagged, counting]:
+        for client in [*own, *counters, *readers, *processes.values()]:
             client.join()
-        counts = {each.name: each.count for each in [*tasks, *counters]}
-        counts.update({name: counted_in(place.path(f"log-{name}")) for name in (BY_TAG[0], BY_ONCE[0])})
-        judge(path, counts, [*told, lambda: logged(log)])
+        counts = {each.name: each.count for each in [*own, *counters]}
+        counts.update({name: counted_in(place.path(f"log-{name}")) for name in processes})
+        judge(path, counts, has_marks, [*told, lambda: logged(log)])
         server.send_signal(signal.SIGTERM)
         assert server.wait(PATIENCE) == 0
-    killed = sum(each.kills for each in (tagged, follower, counting))
+    killed = sum(each.kills for each in (follower, *processes.values()))
     print(f"{rounds} kills ({ends.count('hub')} of the server, {ends.count('start')} while it started, {ends.count('program')} of its "
           f"program), {ends.count('term')} ends by SIGTERM, {killed} kills of clients: {sum(counts.values())} increments, each counted "
           f"once; {sum(each.count for each in readers)} reads, none below what was acknowledged; three followers with each change")
@@ -315,13 +350,14 @@ def following(told, port, path):
     threading.Thread(target=watch, daemon=True).start()
 
 
-def judge(path, counts, followers):
+def judge(path, counts, has_marks, followers):
     """Each count is the number of increments, and each follower has each change once, in order, which make what is stored."""
     with Store.connect(path) as store:
         seq, stored = store.status().seq, {name: store.get(name) for name in store.names()}
-    wrong = {name: (count, stored[name]) for name, count in counts.items() if name not in BY_NOTES and stored[name] != count}
+    shared = BY_KEY if has_marks else []
+    wrong = {name: (count, stored[name]) for name, count in counts.items() if name not in shared and stored[name] != count}
     assert not wrong, f"counted, and stored: {wrong}"
-    total = sum(counts[name] for name in BY_NOTES + BY_ONCE)
+    total = sum(counts[name] for name in BY_KEY + BY_ONCE) if has_marks else 0
     assert stored["all"] == total, f"all: {stored['all']} is stored, and {total} were counted"
     for follower in followers:
         taken = follower if callable(follower) else lambda follower=follower: follower
