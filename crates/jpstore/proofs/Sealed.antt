@@ -10,7 +10,7 @@ use Rattle.doc_store.specs.Promise.{KeepsPromise}
 use Rattle.doc_store.proofs.Promised.{promise_goes_on}
 use Rattle.serve_lines.specs.Serve.{IsSession}
 use Rattle.serve_lines.specs.declared.options.Options.{Options}
-use Rattle.jpstore.specs.Files.{RanSomeEvents}
+use Rattle.file_programs.specs.Files.{RanSomeEvents}
 use Rattle.jpstore.specs.Seals.{IsSealedAtEnd}
 
 module _ {D : Type 0} (disk : D → Disk) (old mid new : StoreView D) (sealed : IsSealedAtEnd disk old mid new) where

@@ -4,11 +4,12 @@ use Rattle.std.specs.declared.snapshot.Snapshot.{Snapshot}
 use Rattle.sector_device.specs.declared.history.Held.{Held}
 use Rattle.refusals.specs.declared.numbers.TheConstants.{DEVICE}
 use Rattle.jpstore.specs.Calls.{IsRefused, IsServing}
-use Rattle.jpstore.specs.Files.{IsClosedIn, IsNoticedIn, IsServedIn, IsUnopenedBy, WentToTheEnd, fault_of}
+use Rattle.file_programs.specs.Files.{IsClosedIn, IsNoticedIn, IsUnopenedBy, WentToTheEnd, fault_of}
+use Rattle.jpstore.specs.Files.{IsServedIn}
 use Rattle.jpstore.specs.Kept.{IsKeptIn}
-use Rattle.jpstore.specs.Notices.{strictness_of}
-use Rattle.jpstore.specs.declared.opening.Closed.{Closed}
-use Rattle.jpstore.specs.declared.opening.Unopened.{Unopened}
+use Rattle.file_programs.specs.Notices.{strictness_of}
+use Rattle.file_programs.specs.declared.opening.Closed.{Closed}
+use Rattle.file_programs.specs.declared.opening.Unopened.{Unopened}
 
 pub serving : (held : Snapshot Held) (batch pump : ℕ) (strict : Bool) (r : Result Closed Unopened) (left left_new before after : Option (List ℕ))
     → IfOk r (λ closed. WentToTheEnd closed.ended → IsServedIn held batch pump left left_new before after closed.store)

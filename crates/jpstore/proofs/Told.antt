@@ -3,12 +3,12 @@ use Rattle.std.proofs.Common.{◌≡◌, ◌∙◌, inl, inr, Result, Ok, Err, I
 use Rattle.std.specs.Prelude.{IsErrOf, IsOk}
 use Rattle.refusals.specs.declared.numbers.TheConstants.{DEVICE}
 use Rattle.serve_lines.specs.declared.serving.Served.{Served}
-use Rattle.serve_lines.specs.declared.serving.ServeFault.{ServeFault}
-use Rattle.serve_lines.specs.declared.serving.ServeFault.TheVariants.{Reader, Writer, Turns, Memory}
+use Rattle.protocol.specs.declared.serve_fault.ServeFault.{ServeFault}
+use Rattle.protocol.specs.declared.serve_fault.ServeFault.TheVariants.{Reader, Writer, Turns, Memory}
 use Rattle.jpstore.specs.Faults.{told_of}
-use Rattle.jpstore.specs.Files.{WentToTheEnd, fault_of}
-use Rattle.jpstore.specs.declared.fault.Fault.{Fault}
-use Rattle.jpstore.specs.declared.fault.Fault.TheVariants.{Session}
+use Rattle.file_programs.specs.Files.{WentToTheEnd, fault_of}
+use Rattle.file_programs.specs.declared.fault.Fault.{Fault}
+use Rattle.file_programs.specs.declared.fault.Fault.TheVariants.{Session}
 
 -- how a program ended
 abbrev End : Type 0

@@ -1,37 +1,29 @@
 -- The work of a program for a call, by what it kept.
-use Rattle.std.specs.Prelude.{◌≡◌, ℕ, List, [], Bool, Option, Result, Ok, Err, IfOk, MatchResult, false, pos, true, codes, nat_eq}
+use Rattle.std.specs.Prelude.{◌≡◌, ℕ, List, [], Bool, Option, Result, Ok, Err, IfOk, MatchResult, false, true, nat_eq}
 use Rattle.std.specs.declared.snapshot.Snapshot.{Snapshot}
 use Rattle.command_line.specs.Call.{Asked, format, serve, check, repair, copy, upgrade, mem, deep, salvage, dump}
 use Rattle.store_journal.specs.Layout.{capacity_of}
 use Rattle.doc_store.specs.declared.opening.Strictness.{Strictness}
 use Rattle.doc_store.specs.declared.opening.Strictness.TheVariants.{AnyState}
-use Rattle.doc_tree.specs.Doc.{Doc, boolean, int, object, member, no_members}
-use Rattle.store_commits.specs.Account.{StoreView}
-use Rattle.doc_store.specs.Formats.{format_of, number_of, status_of}
-use Rattle.file_device.specs.declared.file.FileDevice.{FileDevice}
 use Rattle.sector_device.specs.declared.history.Held.{Held}
 use Rattle.refusals.specs.declared.numbers.TheConstants.{DEVICE}
 use Rattle.protocol.specs.Reply.{line_of}
-use Rattle.serve_lines.specs.Session.{status_reply}
-use Rattle.jpstore.specs.Copies.{IsCopiedFile, ShowsCopy}
-use Rattle.jpstore.specs.Faults.{told_of_file, told_of_unopened}
-use Rattle.jpstore.specs.Files.{IsClosedIn, IsFormattedFile, IsOpenedIn, IsNoticedIn, IsServedIn, IsUnopenedBy, WentToTheEnd, fault_of}
+use Rattle.file_programs.specs.Calls.{format_reply, IsShown, IsUpgrading}
+use Rattle.file_programs.specs.Copies.{IsCopiedFile, ShowsCopy}
+use Rattle.file_programs.specs.Faults.{told_of_file, told_of_unopened}
+use Rattle.file_programs.specs.Files.{IsClosedIn, IsFormattedFile, IsOpenedIn, IsNoticedIn, IsUnopenedBy, WentToTheEnd, fault_of}
+use Rattle.jpstore.specs.Files.{IsServedIn}
 use Rattle.jpstore.specs.Kept.{IsKeptIn}
 use Rattle.jpstore.specs.Memory.{IsServedInMemory}
-use Rattle.jpstore.specs.Notices.{checked_line, note_of, strictness_of}
-use Rattle.jpstore.specs.Reads.{IsDumpedIn, IsExaminedIn, IsSalvagedIn, IsUnlookedIn, end_of_left, end_of_shown, end_of_told}
-use Rattle.jpstore.specs.Shown.{Shows}
-use Rattle.jpstore.specs.Upgrades.{IsUpgraded, WentTo, format_numbered, upgrade_reply}
-use Rattle.jpstore.specs.declared.fault.Fault.{Fault}
+use Rattle.file_programs.specs.Notices.{note_of, strictness_of}
+use Rattle.file_programs.specs.Reads.{IsDumpedIn, IsExaminedIn, IsSalvagedIn, IsUnlookedIn, end_of_left, end_of_shown, end_of_told}
+use Rattle.file_programs.specs.Shown.{Shows}
+use Rattle.file_programs.specs.Upgrades.{format_numbered}
+use Rattle.file_programs.specs.declared.fault.Fault.{Fault}
 use Rattle.jpstore.specs.declared.kept.Kept.{Kept}
 use Rattle.jpstore.specs.declared.kept.Kept.TheVariants.{Formatted, Served, Checked, Repaired, Copied, Upgraded, InMemory, Examined, Salvaged, Dumped}
-use Rattle.jpstore.specs.declared.opening.Closed.{Closed}
-use Rattle.jpstore.specs.declared.opening.Unopened.{Unopened}
-
--- the reply of a file that was made: `sectors` sectors, a half of which holds `capacity` bytes
-abbrev pub format_reply : ℕ → ℕ → Doc
-format_reply capacity sectors =
-    object (member (codes "capacity") (int (pos capacity)) (member (codes "ok") (boolean true) (member (codes "sectors") (int (pos sectors)) no_members)))
+use Rattle.file_programs.specs.declared.opening.Closed.{Closed}
+use Rattle.file_programs.specs.declared.opening.Unopened.{Unopened}
 
 -- how a program ended that made something, or opened a store
 abbrev pub end_of_made : {T : Type 0} → Result T Fault → Result (Unit {0}) Fault
@@ -78,19 +70,6 @@ pub record IsServing (held : Snapshot Held) (batch pump : ℕ) (strict : Bool) (
   pub closed_in : IsClosedIn held closed.store
   pub kept : IsKeptIn held closed.ended left left_new before after closed.store
   pub noticed : IsNoticedIn (strictness_of strict) held closed.store closed.notice
-
--- The store in a file that held this was opened, and its status shown, and what its slots say in format 3.
-pub record IsShown (strictness : Strictness) (held : Snapshot Held) (closed : Closed) (before after : Option (List ℕ)) : Type 0 where
-  pub opened : IsOpenedIn held closed.store
-  pub noticed : IsNoticedIn strictness held closed.store closed.notice
-  pub shown : Shows closed.ended (checked_line closed.store.account closed.notice) before after
-
--- the store in a file that held this was brought to a format, or as far as its device let it
-pub record IsUpgrading (held : Snapshot Held) (version : ℕ) (asked : Option ℕ) (closed : Closed) (before after : Option (List ℕ)) : Type 0 where
-  pub opened : StoreView FileDevice
-  pub went : WentTo held (format_numbered version) asked opened closed.store
-  pub upgraded : closed.ended ≡ Ok tt → IsUpgraded (format_numbered version) asked opened closed.store
-  pub shown : Shows closed.ended (line_of (upgrade_reply (number_of (format_numbered version)) (number_of (format_of opened.account)))) before after
 
 -- no store was opened in a file that held this, and nothing was written
 abbrev pub IsRefused : Strictness → Snapshot Held → Unopened → Option (List ℕ) → Option (List ℕ) → Type 0

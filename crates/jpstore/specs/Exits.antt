@@ -6,10 +6,10 @@ use Rattle.command_line.specs.Call.{Asked, InRange, IsRowOf}
 use Rattle.command_line.specs.Options.{IsNoCall}
 use Rattle.sector_device.specs.declared.history.Held.{Held}
 use Rattle.jpstore.specs.Calls.{Does, end_of, note_in}
-use Rattle.jpstore.specs.Faults.{line_of_fault}
+use Rattle.file_programs.specs.Faults.{line_of_fault}
 use Rattle.jpstore.specs.Reasons.{reason_of}
-use Rattle.jpstore.specs.declared.fault.Fault.{Fault}
-use Rattle.jpstore.specs.declared.fault.Fault.TheVariants.{Memory}
+use Rattle.file_programs.specs.declared.fault.Fault.{Fault}
+use Rattle.file_programs.specs.declared.fault.Fault.TheVariants.{Memory}
 use Rattle.jpstore.specs.declared.kept.Exit.{Exit}
 use Rattle.jpstore.specs.declared.kept.Performed.{Performed}
 

@@ -14,10 +14,10 @@ use Rattle.doc_store.specs.Opening.{OldOrStands}
 use Rattle.doc_store.specs.Promise.{IsLeftOf}
 use Rattle.protocol.specs.Reply.{reply_lines}
 use Rattle.serve_lines.specs.Kept.{IsKept}
-use Rattle.serve_lines.specs.declared.serving.ServeFault.TheVariants.{Writer}
-use Rattle.jpstore.specs.declared.fault.Fault.{Fault}
-use Rattle.jpstore.specs.declared.fault.Fault.TheVariants.{Session}
-use Rattle.jpstore.specs.Files.{IsOpenedIn, WentToTheEnd}
+use Rattle.protocol.specs.declared.serve_fault.ServeFault.TheVariants.{Writer}
+use Rattle.file_programs.specs.declared.fault.Fault.{Fault}
+use Rattle.file_programs.specs.declared.fault.Fault.TheVariants.{Session}
+use Rattle.file_programs.specs.Files.{IsOpenedIn, WentToTheEnd}
 
 -- A store that was opened in a file that held this was served so, however that ended.
 pub record IsKeptIn (held : Snapshot Held) (ended : Result (Unit {0}) Fault) (left left_new before after : Option (List ℕ)) (closed : StoreView FileDevice) : Type 0 where

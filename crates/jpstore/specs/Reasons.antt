@@ -5,8 +5,8 @@ use Rattle.doc_tree.specs.Doc.{Doc, int, text, object, member, no_members}
 use Rattle.file_device.specs.Fault.{word_of}
 use Rattle.file_device.specs.declared.fault.SystemFault.{SystemFault}
 use Rattle.protocol.specs.Reply.{line_of}
-use Rattle.jpstore.specs.declared.fault.Fault.{Fault}
-use Rattle.jpstore.specs.declared.fault.Fault.TheVariants as told
+use Rattle.file_programs.specs.declared.fault.Fault.{Fault}
+use Rattle.file_programs.specs.declared.fault.Fault.TheVariants as told
 
 -- FILE of a call
 abbrev pub file_of : Asked → Option (List ℕ)

@@ -2,13 +2,12 @@
 
 ghost use Rattle.std.specs.Prelude.{◌≡◌};
 ghost use Rattle.jpstore.specs.Calls.{end_of, end_of_made, end_of_opened, is_noted};
-ghost use Rattle.jpstore.specs.Reads.{end_of_condition, end_of_framed, end_of_left, end_of_salvaged, end_of_shown, end_of_told};
+ghost use Rattle.file_programs.specs.Reads.{end_of_condition, end_of_framed, end_of_left, end_of_salvaged, end_of_shown, end_of_told};
 
-use crate::fault::Fault;
-use crate::opening::{Closed, Unopened};
-use crate::programs::{ClosedInMemory, Dumped, Ended, Examined, Left, SalvagedFile};
+use crate::programs::ClosedInMemory;
 use damaged_files::{Condition, Salvaged, ShowFault, Told};
 use file_device::{FileDevice, FileFault};
+use file_programs::{Closed, Dumped, Ended, Examined, Fault, Left, SalvagedFile, Unopened};
 use refusals::numbers::NOT_A_STORE;
 use store_parts::Findings;
 

@@ -4,14 +4,8 @@
 //! say and answers the exit status. What a session writes is the contract of `serve_lines::serve`.
 #![tactic(auto)]
 
-mod fault;
-mod identity;
 mod kept;
-mod laws;
-mod lines;
-mod notices;
 mod onlooker;
-mod opening;
 mod perform;
 mod programs;
 mod progress_line;
@@ -19,7 +13,7 @@ mod reasons;
 mod sealing;
 mod serving;
 
-use fault::{Fault, complain};
+use file_programs::{Fault, complain};
 use onlooker::Watch;
 use perform::perform;
 use progress_line::ProgressLine;

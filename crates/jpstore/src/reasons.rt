@@ -7,10 +7,9 @@ ghost use Rattle.doc_tree.specs.Text.{data_of};
 ghost use Rattle.jpstore.specs.Reasons.{file_of, new_of, reason_line, reason_of, reason_reply};
 ghost use Rattle.serde_json.specs.Events.{SendsValue};
 
-use crate::fault::Fault;
-use crate::lines::show_line;
 use command_line::{Call, Order};
 use file_device::SystemFault;
+use file_programs::{Fault, show_line};
 use protocol::shown_line;
 use serde::{Described, Serialize, Serializer};
 use std::alloc::{AllocError, Global};

@@ -7,8 +7,8 @@ ghost use Rattle.protocol.specs.Lines.{answered, ended, lines_of};
 ghost use Rattle.protocol.specs.Reply.{reply_lines};
 ghost use Rattle.serve_lines.specs.Kept.{IsKept};
 ghost use Rattle.serve_lines.specs.Serve.{BreaksOff, Pauses, Serves};
-ghost use Rattle.serve_lines.specs.declared.serving.ServeFault.TheVariants.{Reader, Writer, Turns, Memory};
-ghost use Rattle.jpstore.specs.Files.{RanSomeEvents};
+ghost use Rattle.protocol.specs.declared.serve_fault.ServeFault.TheVariants.{Reader, Writer, Turns, Memory};
+ghost use Rattle.file_programs.specs.Files.{RanSomeEvents};
 ghost use Rattle.jpstore.specs.Seals.{IsSealedAtEnd};
 
 use doc_store::laws::runs_join;

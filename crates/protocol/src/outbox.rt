@@ -6,9 +6,9 @@ ghost use Rattle.protocol.specs.Written.{number_text, opening};
 ghost use Rattle.protocol.specs.declared.outbox.TheConstants.{ROOM};
 
 use doc_machine::Refusal;
-use doc_store::{CopyState, Pump};
 use itoa::Buffer;
 use std::alloc::{AllocError, Global};
+use store_commits::{CopyState, Pump};
 
 /// Bytes for which an outbox has room.
 const ROOM: usize = 16_384;

@@ -1,7 +1,7 @@
 //! The replies to lines.
 
 use doc_machine::Refusal;
-use doc_store::Pump;
+use store_commits::Pump;
 
 /// The reply to a line. That of a change, a snapshot, a step of a copy, a seal, a revision or a refusal takes
 /// no memory.

@@ -30,7 +30,8 @@ use Rattle.protocol.specs.declared.limits.TheConstants.{REPLY_BYTES}
 use Rattle.protocol.specs.Request.{Request, Asks, IsAskedBy, IsInRange, change, get, get_schema, rev, mark, query, list, status, snapshot, pump, seal, object_of}
 use Rattle.protocol.specs.Reply.{change_reply, mark_reply, names_reply, node_object, nodes_reply, other_mark_reply, refusal_reply, revision_reply, texts, told_by, value_or_null, value_reply, with_number}
 use Rattle.serve_lines.specs.Kept.{AsksFor, Has, HaveOwnNames, IsRefusal, LineTells, Refuses, Shows, Tells}
-use Rattle.serve_lines.specs.Session.{AnswersOther, Finds, Replies, Selects, found_reply, id_of, reply_to_mark, reply_to_rev, selected_reply}
+use Rattle.serve_lines.specs.Session.{AnswersOther, Finds, Replies, Selects, found_reply, reply_to_mark, reply_to_rev, selected_reply}
+use Rattle.status_lines.specs.Status.{id_of}
 use Rattle.serve_lines.proofs.Statuses.{tells_seq}
 
 true_false : true ≡ false → ⊥

@@ -1,22 +1,9 @@
--- A status with or without `id`.
-use Rattle.std.proofs.Common.{◌≡◌, ℕ, List, [], ◌∷◌, Option, None, Some, refl, subst, codes, if◌then◌else◌, is_some, option_map, pos}
-use Rattle.serde.specs.Event.{Log}
-use Rattle.serde_json.specs.Events.{SendsMembers, members_len}
-use Rattle.doc_tree.specs.Doc.{Members, int, object}
-use Rattle.doc_tree.specs.Text.{members_of}
+-- What a status tells.
+use Rattle.std.proofs.Common.{◌≡◌, ℕ, List, [], ◌∷◌, Option, None, Some, refl, codes, pos}
+use Rattle.doc_tree.specs.Doc.{int, object}
 use Rattle.doc_pointer.specs.Place.{resolve}
 use Rattle.doc_store.specs.declared.status.Status.{Status}
-use Rattle.serve_lines.specs.Session.{SendsId, status_members, with_id}
-
--- the members after it
-pub sends_with : (id : Option (List ℕ)) (ms : Members) (old mid new : Log) → SendsId id old mid → SendsMembers (members_of ms) mid new → SendsMembers (members_of (with_id id ms)) old new
-sends_with None ms old mid new same rest = subst (λ (l : Log). SendsMembers (members_of ms) l new) same rest
-sends_with (Some id) ms old mid new sent rest = (sent.named, mid, sent.key, sent.value, rest)
-
--- how many members there are
-pub members_are : (s : Status) (identity : Option ℕ) (id : List ℕ) → (if is_some identity then 10 else 9) ≡ members_len (members_of (status_members s (option_map (λ (n : ℕ). id) identity)))
-members_are s None id = refl
-members_are s (Some n) id = refl
+use Rattle.status_lines.specs.Status.{status_members}
 
 -- it tells the number of changes
 pub tells_seq : (s : Status) (id : Option (List ℕ)) → resolve (codes "seq" ∷ []) (object (status_members s id)) ≡ Some (int (pos s.seq))

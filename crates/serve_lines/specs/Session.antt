@@ -1,9 +1,7 @@
 -- Sessions: the replies to the lines that were read, one to each, in order.
-use Rattle.std.specs.Prelude.{◌≡◌, ◌⊎◌, ◌<◌, ◌≤◌, ◌*◌, ℕ, Bool, List, [], ◌∷◌, ◌++◌, map, max, length, chars, nat_eq, nat_le, if◌then◌else◌, is_some, option_map, true, false, Option, Some, None, Result, Ok, Err, ⊤, pos, codes}
+use Rattle.std.specs.Prelude.{◌≡◌, ◌⊎◌, ◌<◌, ◌≤◌, ◌*◌, ℕ, Bool, List, [], ◌∷◌, ◌++◌, map, max, length, chars, nat_eq, nat_le, if◌then◌else◌, is_some, true, false, Option, Some, None, Result, Ok, Err, ⊤}
 use Rattle.std.specs.List.{list_any}
-use Rattle.std.specs.Int.{w128, to_be_bytes}
-use Rattle.hex.specs.Hex.{encode_lower}
-use Rattle.doc_tree.specs.Doc.{Doc, Members, boolean, int, text, object, member, no_members}
+use Rattle.doc_tree.specs.Doc.{Doc, text}
 use Rattle.doc_tree.specs.Text.{text_of}
 use Rattle.doc_machine.specs.Transaction.{Transaction, marked}
 use Rattle.doc_pointer.specs.Text.{pointer_text}
@@ -33,66 +31,8 @@ use Rattle.store_commits.specs.declared.pump.Pump.{Pump}
 use Rattle.protocol.specs.declared.limits.TheConstants.{REPLY_BYTES}
 use Rattle.protocol.specs.Request.{Request, change, get, get_schema, rev, mark, query, list, status, snapshot, pump, seal, Asks}
 use Rattle.protocol.specs.Reply.{change_reply, snapshot_reply, pump_reply, sealed_reply, value_reply, revision_reply, mark_reply, other_mark_reply, nodes_reply, names_reply, refusal_reply}
+use Rattle.status_lines.specs.Status.{status_reply}
 use Rattle.serve_lines.specs.declared.options.Options.{Options}
-use Rattle.serde.specs.Event.{Log, Logs, field_key, unsigned}
-use Rattle.serde.specs.Event as event
-use Rattle.serde.specs.declared.name.Case.TheVariants.{AsIs}
-use Rattle.doc_store.specs.declared.status.Status.{Status}
-
--- an identity in text: its 16 bytes by 32 hexadecimal digits
-abbrev pub identity_text : ℕ → List ℕ
-identity_text identity = encode_lower (to_be_bytes w128 identity)
-
--- these members, and before them this text as `id`, if there is one
-abbrev pub with_id : Option (List ℕ) → Members → Members
-with_id None members = members
-with_id (Some id) members = member (codes "id") (text id) members
-
--- the members of a status after `id`
-abbrev pub members_after : Status → Members
-members_after s =
-    member (codes "ok") (boolean true)
-    (member (codes "opens") (int (pos s.opens))
-    (member (codes "sectors") (int (pos s.sectors))
-    (member (codes "seq") (int (pos s.seq))
-    (member (codes "used") (int (pos s.used)) no_members))))
-
--- all of them, with this text as `id`
-abbrev pub status_members : Status → Option (List ℕ) → Members
-status_members s id =
-    member (codes "broken") (boolean s.broken)
-    (member (codes "capacity") (int (pos s.capacity))
-    (member (codes "documents") (int (pos s.documents))
-    (member (codes "half") (int (pos s.half)) (with_id id (members_after s)))))
-
--- the text of a status's `id`: in format 3 the identity
-abbrev pub id_of : Status → Option (List ℕ)
-id_of s = option_map identity_text s.identity
-
--- a text as `id`, if the status has one
-abbrev pub shown_id : Status → List ℕ → Option (List ℕ)
-shown_id s id = option_map (λ identity. id) s.identity
-
--- the document of a store's status
-abbrev pub status_reply : Status → Doc
-status_reply s = object (status_members s (id_of s))
-
--- the events of a member whose value is a number
-pub record SendsNumber (name : List ℕ) (number : ℕ) (old new : Log) : Type 0 where
-  pub named : Log
-  pub key : Logs old named (field_key name AsIs)
-  pub value : Logs named new (unsigned number)
-
--- the events of a member whose value is a text
-pub record SendsText (name told : List ℕ) (old new : Log) : Type 0 where
-  pub named : Log
-  pub key : Logs old named (field_key name AsIs)
-  pub value : Logs named new (event.text told)
-
--- the events of a member `id`, if there is one
-abbrev pub SendsId : Option (List ℕ) → Log → Log → Type 0
-SendsId None old new = new ≡ old
-SendsId (Some id) old new = SendsText (codes "id") id old new
 
 -- the reply line to what the store replied
 abbrev pub shown_reply : Reply → Doc

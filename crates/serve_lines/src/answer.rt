@@ -13,7 +13,6 @@ ghost use Rattle.doc_machine.specs.Queries.{nodes_at};
 ghost use Rattle.serve_lines.specs.Session.{selected_reply};
 
 use crate::options::Options;
-use crate::status::status_line;
 use doc_machine::{Documents, Nodelist, Refusal};
 use doc_pointer::Pointer;
 use doc_store::Store;
@@ -22,6 +21,7 @@ use path_parse::Query;
 use protocol::{Reply, Request, mark_line, names_line, nodes_line, value_line};
 use refusals::numbers::MEMORY;
 use sector_device::SectorDevice;
+use status_lines::status_line;
 use std::alloc::{AllocError, Global};
 
 /// The answer to a line, by what it was read as: what it asks for, which is no change, or why it asks for nothing.

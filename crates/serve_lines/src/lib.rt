@@ -20,11 +20,10 @@ mod progress;
 mod replies;
 mod serving;
 mod session;
-mod status;
 mod writing;
 
 pub use options::Options;
-pub use protocol::{Reply, ReplyRoom};
-pub use serving::{ServeFault, Served, serve};
+pub use protocol::{Reply, ReplyRoom, ServeFault};
+pub use serving::{Served, serve};
 pub use session::Session;
-pub use status::{identity_text, send_id, status_line};
+pub use status_lines::{identity_text, send_id, status_line};

@@ -12,17 +12,17 @@ ghost use Rattle.protocol.specs.Lines.{answered, ended, lines_of};
 ghost use Rattle.protocol.specs.Reply.{reply_lines};
 ghost use Rattle.serve_lines.specs.Kept.{IsKept};
 ghost use Rattle.serve_lines.specs.Serve.{BreaksOff, IsSession, Pauses, Serves};
-ghost use Rattle.serve_lines.specs.declared.serving.ServeFault.TheVariants.{Reader, Writer, Turns, Memory};
+ghost use Rattle.protocol.specs.declared.serve_fault.ServeFault.TheVariants.{Reader, Writer, Turns, Memory};
 
 use crate::options::Options;
 use crate::progress::Progress;
 use crate::writing::Unwritten;
 use doc_store::Store;
 use doc_store::laws::runs_keep_the_promise;
+use protocol::ServeFault;
 use sector_device::SectorDevice;
 use std::alloc::Global;
 use std::io::{Read, Write};
-use thiserror::Error;
 
 /// Bytes that a call of the reader is asked for.
 const PIECE: usize = 65_536;
@@ -34,23 +34,6 @@ pub struct Served {
     pub lines: u64,
     /// Whether the store is broken at the end: its device failed, in this session or before.
     pub broken: bool,
-}
-
-/// Why a session ended before its input did.
-#[derive(Clone, Copy, Debug, PartialEq, Eq, Error)]
-pub enum ServeFault {
-    /// The reader failed.
-    #[error("reader")]
-    Reader,
-    /// The writer failed.
-    #[error("writer")]
-    Writer,
-    /// There were as many calls of the reader as there may be, and no end of the input.
-    #[error("turns")]
-    Turns,
-    /// Memory for the session's own buffers was refused, before the first read.
-    #[error("memory")]
-    Memory,
 }
 
 /// Reads lines to the end of the input, and writes one reply line to each that isn't blank, and

@@ -3,10 +3,10 @@
 ghost use Rattle.std.specs.Prelude.{◌≡◌, IfOk, OnErr, Ok};
 ghost use Rattle.jpstore.specs.Memory.{IsServedInMemory, new_account};
 
-use crate::fault::Fault;
 use crate::serving::{options_of, serve_store};
 use doc_store::Store;
 use doc_store::laws::one_state_stands;
+use file_programs::Fault;
 use sector_device::MemDisk;
 use std::alloc::Global;
 use std::io::{Read, Write};

@@ -3,7 +3,7 @@ use Rattle.doc_store.specs.declared.opening.Strictness.{Strictness}
 use Rattle.command_line.specs.Call.{asked_of}
 use Rattle.command_line.specs.declared.call.Call.{Call}
 use Rattle.jpstore.specs.Calls.{Does}
-use Rattle.jpstore.specs.Files.{IsNoticedIn, IsUnopenedBy}
+use Rattle.file_programs.specs.Files.{IsNoticedIn, IsUnopenedBy}
 use Rattle.jpstore.specs.declared.kept.Kept.TheVariants.{Served}
 use Rattle.jpstore.proofs.Served.{on_err, serving}
 use Rattle.jpstore.proofs.perform.perform_call.Goals as goal

@@ -2,7 +2,7 @@ use Rattle.std.proofs.Common.{◌≡◌, ◌∙◌, Bool, Result, [], ap, subst,
 use Rattle.command_line.specs.Call.{Asked, asked_of}
 use Rattle.jpstore.specs.Calls.{Does, end_of, note_in}
 use Rattle.jpstore.specs.Exits.{Exits}
-use Rattle.jpstore.specs.declared.fault.Fault.{Fault}
+use Rattle.file_programs.specs.declared.fault.Fault.{Fault}
 use Rattle.jpstore.specs.declared.kept.Kept.{Kept}
 use Rattle.jpstore.proofs.Fine.{not_none}
 use Rattle.jpstore.proofs.Noting.{exits_after}

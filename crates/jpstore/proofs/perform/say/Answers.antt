@@ -1,6 +1,6 @@
 use Rattle.std.proofs.Common.{ap}
 use Rattle.command_line.specs.Call.{asked_of}
-use Rattle.jpstore.specs.Faults.{line_of_fault}
+use Rattle.file_programs.specs.Faults.{line_of_fault}
 use Rattle.jpstore.specs.Reasons.{reason_of}
 use Rattle.jpstore.proofs.Saying.{said_both}
 use Rattle.jpstore.proofs.perform.say.Goals as goal

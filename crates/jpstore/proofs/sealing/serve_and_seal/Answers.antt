@@ -2,7 +2,7 @@ use Rattle.std.proofs.Common.{Result, ap, refl, subst, sym}
 use Rattle.std.specs.Prelude.{IsOk}
 use Rattle.doc_store.specs.declared.status.Status.{Status}
 use Rattle.serve_lines.specs.declared.serving.Served.{Served}
-use Rattle.serve_lines.specs.declared.serving.ServeFault.{ServeFault}
+use Rattle.protocol.specs.declared.serve_fault.ServeFault.{ServeFault}
 use Rattle.jpstore.proofs.Fine.{if_ok}
 use Rattle.jpstore.proofs.Going.{each_end, went_nowhere, went_of}
 use Rattle.jpstore.proofs.Sealed.{promise_on, went_on}

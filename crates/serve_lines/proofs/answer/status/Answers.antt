@@ -1,6 +1,6 @@
 use Rattle.std.proofs.Common.{ap, refl}
 use Rattle.protocol.specs.Request as asked
-use Rattle.serve_lines.specs.Session.{status_reply}
+use Rattle.status_lines.specs.Status.{status_reply}
 use Rattle.serve_lines.proofs.Shown.{shows}
 use Rattle.serve_lines.proofs.answer.status.Goals as goal
 

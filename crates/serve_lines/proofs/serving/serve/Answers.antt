@@ -6,9 +6,9 @@ use Rattle.store_commits.specs.Account.{StoreView}
 use Rattle.doc_store.specs.Promise.{KeepsPromise}
 use Rattle.protocol.specs.Lines.{lines_of}
 use Rattle.serve_lines.specs.Kept.{no_line}
-use Rattle.serve_lines.specs.declared.serving.ServeFault.{ServeFault}
+use Rattle.protocol.specs.declared.serve_fault.ServeFault.{ServeFault}
 use Rattle.serve_lines.specs.declared.serving.Served.{Served}
-use Rattle.serve_lines.specs.declared.serving.ServeFault.TheVariants.{Reader, Writer, Turns, Memory}
+use Rattle.protocol.specs.declared.serve_fault.ServeFault.TheVariants.{Reader, Writer, Turns, Memory}
 use Rattle.serve_lines.proofs.Keeping.{kept_broken_off, kept_paused, kept_so}
 use Rattle.serve_lines.proofs.Reading.{consumes_none}
 use Rattle.serve_lines.proofs.Telling.{appends_none}

@@ -1,0 +1,9 @@
+mod Chosen
+mod Copying
+mod Fine
+mod Lives
+mod Modelled
+mod Noting
+mod Reading
+mod NotOpened
+mod Upgrading

@@ -1,0 +1,25 @@
+use Rattle.std.proofs.Common.{ℕ, subst}
+use Rattle.std.proofs.lemmas.Result.{err_from_is_err_and}
+use Rattle.file_programs.specs.Reads.{IsUnlookedOn, refused_by}
+use Rattle.file_programs.proofs.Reading.{found_on, told_of, unlooked_in}
+use Rattle.file_programs.proofs.programs.deep.check_deep.Goals as goal
+
+pub returns-clause-examined : goal.returns-clause-examined
+returns-clause-examined g c =
+    let first = c.in_ok-device.device in
+    let device = c.in_ok-device-2.device in
+    let found = c.in_ok-device-2.found in
+    let is = c.in_ok-device-2.ensures.found c.args.held c.in_ok-device.ensures.history in
+    let told = c.tell_damages-told.ensures in
+    record {
+      found = (first.sectors, found_on c.args.held first.sectors device c.tell_damages-told.new.device found told.same is);
+      told = told_of c.tell_damages-told.result _ _ c.refused_by.result (refused_by found) _ _ told.same.size c.refused_by.ensures told.examined told.condition told.shown;
+    }
+
+pub returns-in_err-device-2-clause-refused : goal.returns-in_err-device-2-clause-refused
+returns-in_err-device-2-clause-refused g c =
+    let p = err_from_is_err_and c.from_residual-in_err-device-2.result c.from_residual-in_err-device-2.ensures.1 in
+    let fault = c.in_err-device-2.field-0.0 in
+    let first = c.in_ok-device.device in
+    let refused = c.in_err-device-2.ensures.refused c.args.held c.in_ok-device.ensures.history in
+    rw (p.1, p.2) (unlooked_in c.args.held first.sectors fault (subst (λ (n : ℕ). IsUnlookedOn c.args.held first.sectors n fault) c.in_ok-device.ensures.failures refused))

@@ -1,0 +1,10 @@
+pub mod Calls
+pub mod Copies
+pub mod Faults
+pub mod Files
+pub mod FileLives
+pub mod Identity
+pub mod Notices
+pub mod Reads
+pub mod Shown
+pub mod Upgrades

@@ -1,0 +1,6 @@
+//! The line that shows the status of a store, and the text of its identity.
+#![tactic(auto)]
+
+mod status;
+
+pub use status::{identity_text, send_id, status_line};
