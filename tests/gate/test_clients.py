@@ -22,9 +22,11 @@ TOOLS = {
     "aiohttp": "python3-aiohttp", "argcomplete": "python3-argcomplete", "flake8": "flake8",
     "jsonpatch": "python3-jsonpatch", "jsonschema": "python3-jsonschema", "mypy": "mypy", "pip": "python3-pip",
     "pytest": "python3-pytest", "requests": "python3-requests", "setuptools": "python3-setuptools",
-    "venv": "python3-venv", "wheel": "python3-wheel",
+    "venv": "python3-venv", "wheel": "python3-wheel", "xdist": "python3-pytest-xdist",
 }
 DEBIAN_PYTHON = "/usr/bin/python3"
+# The number of files of tests that run side by side: they mostly wait.
+AT_ONCE = 2
 # What `Schema.adapt` makes is judged by these tests too.
 SUITE, SUITE_PACKAGE = "/usr/share/json-schema-test-suite", "json-schema-test-suite"
 
@@ -53,7 +55,7 @@ def judged(words):
 
 def tested(python, program, options):
     """Runs pytest, shows what it says, and returns how many tests passed and failed."""
-    words = [python, "-m", "pytest", CLIENTS, "-q", "-rs", "--program", program, *options]
+    words = [python, "-m", "pytest", CLIENTS, "-q", "-rs", "-n", str(AT_ONCE), "--dist", "loadfile", "--program", program, *options]
     last = ""
     with subprocess.Popen(words, stdout=subprocess.PIPE, stderr=subprocess.STDOUT, text=True, errors="replace") as tests:
         for line in tests.stdout:

@@ -12,7 +12,7 @@ PACKAGE = os.path.dirname(os.path.dirname(os.path.abspath(__file__)))
 GROUPING = os.path.join(PACKAGE, "tests", "grouping.py")
 
 # The longest that anything is waited for, in seconds.
-PATIENCE = 60
+PATIENCE = 150
 
 # The timeout of a client that is to give up, in seconds. What does answer does so before, also on a busy machine.
 SILENCE = 2.0
