@@ -76,6 +76,22 @@ impl Kept {
         }
     }
 
+    /// Lets the files go. Each kind has a function for that, since a function that drops many stores takes minutes to prove.
+    pub fn let_go(self) {
+        match self {
+            Kept::Formatted(made) => let_made_go(made),
+            Kept::Served(opened)
+            | Kept::Checked(opened)
+            | Kept::Repaired(opened)
+            | Kept::Upgraded(opened) => let_opened_go(opened),
+            Kept::Copied(copied) => let_copied_go(copied),
+            Kept::InMemory(memory) => let_memory_go(memory),
+            Kept::Examined(examined) => let_examined_go(examined),
+            Kept::Salvaged(salvaged) => let_salvaged_go(salvaged),
+            Kept::Dumped(dumped) => let_dumped_go(dumped),
+        }
+    }
+
     /// Whether all was written that is said of the slots at an opening.
     pub fn is_noted(&self) -> bool
         ensures { result ≡ is_noted self.now }
@@ -86,6 +102,20 @@ impl Kept {
         }
     }
 }
+
+fn let_made_go(_made: Result<FileDevice, Fault>) {}
+
+fn let_opened_go(_opened: Result<Closed, Unopened>) {}
+
+fn let_copied_go(_copied: Result<Ended, Unopened>) {}
+
+fn let_memory_go(_memory: Result<ClosedInMemory, Fault>) {}
+
+fn let_examined_go(_examined: Result<Examined, Unopened>) {}
+
+fn let_salvaged_go(_salvaged: Result<SalvagedFile, FileFault>) {}
+
+fn let_dumped_go(_dumped: Result<Dumped, Unopened>) {}
 
 // How a program ended that makes a file.
 fn end_of_made(made: &Result<FileDevice, Fault>) -> Result<(), Fault>

@@ -1,6 +1,6 @@
 //! An onlooker of a call.
 
-ghost use Rattle.std.specs.Prelude.{◌≡◌, Option, Some, None};
+ghost use Rattle.std.specs.Prelude.{◌≡◌, Option, Some, None, option_map};
 ghost use Rattle.jpstore.specs.declared.kept.Performed.{Performed};
 ghost use Rattle.sector_device.specs.declared.history.Held.{Held};
 ghost use Rattle.std.specs.declared.snapshot.Snapshot.{Snapshot};
@@ -33,7 +33,7 @@ pub struct Watch<P> {
     alloc: Global,
     progress: P,
     held: Snapshot<Held>,
-    performed: Option<Performed>,
+    performed: Option<Snapshot<Performed>>,
 }
 
 impl<P: Progress> Watch<P> {
@@ -55,17 +55,21 @@ impl<P: Progress> Progress for Watch<P> {
 }
 
 impl<P: Progress> Onlooker for Watch<P> {
-    ghost use Rattle.std.specs.Prelude.{◌≡◌, Some};
+    ghost use Rattle.std.specs.Prelude.{◌≡◌, Some, option_map};
 
     ghost holds = { λ watch. watch.held };
 
-    ghost seen = { λ watch. watch.performed };
+    ghost seen = { λ watch. option_map (λ performed. performed.value) watch.performed };
 
     fn held(&mut self) -> Snapshot<Held> {
         mem::replace(&mut self.held, Held::any(self.alloc))
     }
 
+    // The program itself lets it go, and knows it for its contract alone.
     fn see(&mut self, performed: Performed) {
-        self.performed = Some(performed);
+        self.performed = Some(Snapshot::of(&performed));
+        if let Some(kept) = performed.kept {
+            kept.let_go();
+        }
     }
 }
