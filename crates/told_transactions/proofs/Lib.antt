@@ -1,0 +1,4 @@
+pub mod Cutting
+pub mod Records
+pub mod Transactions
+pub mod Filling
