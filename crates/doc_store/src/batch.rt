@@ -6,6 +6,7 @@ ghost use Rattle.refusals.specs.declared.numbers.TheConstants.{MEMORY};
 ghost use Rattle.doc_changes.specs.Refusals.{plain};
 ghost use Rattle.doc_changes.specs.State.{Good};
 ghost use Rattle.store_commits.specs.Account.{IsStanding};
+ghost use Rattle.store_commits.specs.Given.{GivesBack};
 ghost use Rattle.store_commits.specs.Run.{Batched};
 
 use crate::alone::singles;
@@ -14,7 +15,7 @@ use doc_machine::{Refusal, Transaction};
 use record_text::Command;
 use sector_device::SectorDevice;
 use std::alloc::AllocError;
-use store_commits::{Reply, commit_batch};
+use store_commits::{Committed, Reply, commit_batch};
 
 impl<D: SectorDevice> Store<D> {
     /// Makes transactions by as few commits as their room allows, and answers one reply to each, as `transact` answers
@@ -32,12 +33,25 @@ impl<D: SectorDevice> Store<D> {
         ensures standing { IsStanding (D.disk self.new.device) self.new.account }
         ensures good { Good self.new.account.state }
     {
+        Ok(self.make(transactions)?.replies)
+    }
+
+    /// Makes transactions, as `transact_batch` does, and gives back the frames of each that was done, whole and in order.
+    /// In format 3 they have the kinds that those of a log have, and end with that of its mark.
+    pub fn commit(&mut self, transactions: Vec<Transaction>) -> Result<Committed, Refusal>
+        ensures batched { IfOk result (λ committed. Batched D.disk self.old self.new (map transaction_of transactions.items) committed.replies.items) }
+        ensures frames { IfOk result (GivesBack self.old.account (map transaction_of transactions.items)) }
+        ensures memory { IfErr result (λ refusal. (refusal ≡ plain MEMORY) × (self.new ≡ self.old)) }
+        ensures standing { IsStanding (D.disk self.new.device) self.new.account }
+        ensures good { Good self.new.account.state }
+    {
         Ok(self.make(transactions)?)
     }
 
     // Makes transactions.
-    fn make(&mut self, transactions: Vec<Transaction>) -> Result<Vec<Reply>, AllocError>
-        ensures batched { IfOk result (λ replies. Batched D.disk self.old self.new (map transaction_of transactions.items) replies.items) }
+    fn make(&mut self, transactions: Vec<Transaction>) -> Result<Committed, AllocError>
+        ensures batched { IfOk result (λ committed. Batched D.disk self.old self.new (map transaction_of transactions.items) committed.replies.items) }
+        ensures frames { IfOk result (GivesBack self.old.account (map transaction_of transactions.items)) }
         ensures memory { OnErr result (self.new ≡ self.old) }
         ensures standing { IsStanding (D.disk self.new.device) self.new.account }
         ensures good { Good self.new.account.state }

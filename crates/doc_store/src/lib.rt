@@ -48,6 +48,6 @@ pub use looking::{Looked, look};
 pub use opening::Strictness;
 pub use status::Status;
 pub use store::Store;
-pub use store_commits::{CopyState, Event, Pump, Reply};
+pub use store_commits::{Committed, CopyState, Event, Pump, Reply};
 pub use store_journal::{Notice, OpenFault};
 pub use whole::LivesFault;

@@ -7,7 +7,7 @@ ghost use Rattle.doc_changes.specs.State.{Good, State};
 ghost use Rattle.refusals.specs.declared.numbers.TheConstants.{DEVICE};
 ghost use Rattle.store_commits.specs.Account.{IsStanding};
 ghost use Rattle.store_commits.specs.Images.{Stands};
-ghost use Rattle.doc_store.specs.Opening.{IsOfFormat, OldOrStands, Opened};
+ghost use Rattle.doc_store.specs.Opening.{IsOfFormat, OldOrStands, Opened, WasRead};
 ghost use Rattle.doc_store.specs.Strict.{IsRefusedBy, IsSaidOf, IsTaken, NotTaken};
 
 use crate::finding::find;
@@ -42,7 +42,8 @@ impl Strictness {
 impl<D: SectorDevice> Store<D> {
     /// Opens what a device holds, as `open` does, and says what its slots say in format 3 beside the commit that counts.
     /// After `CutOff` the documents are those of an earlier commit, if both copies of the last one were damaged; else
-    /// nothing is missing that was answered. In formats 1 and 2 it is `Whole`, whatever was damaged.
+    /// nothing is missing that was answered. In formats 1 and 2 it is `Whole`, whatever was damaged. The bytes are those
+    /// that it read of the half that counts, from which it made the documents: in format 3 a log.
     ///
     /// Refused as by `open`; and as `CUT_OFF` before `NO_ROOM`, if so it was asked and the notice is `CutOff`: then
     /// nothing was written, and the opening isn't counted.
@@ -50,12 +51,13 @@ impl<D: SectorDevice> Store<D> {
         alloc: Global,
         device: D,
         strictness: Strictness,
-    ) -> Result<(Store<D>, Notice), OpenFault<D>>
+    ) -> Result<(Store<D>, Notice, Vec<u8>), OpenFault<D>>
         ensures opened { IfOk result (λ opened. Opened (D.disk device) (D.disk opened.0.device) opened.0.account) }
         ensures notice { IfOk result (λ opened. (D.disk opened.0.device).honest → IsSaidOf (D.disk device).seen opened.1) }
         ensures taken { IfOk result (λ opened. IsTaken strictness opened.1) }
         ensures standing { IfOk result (λ opened. IsStanding (D.disk opened.0.device) opened.0.account) }
         ensures good { IfOk result (λ opened. Good opened.0.account.state) }
+        ensures read { IfOk result (λ opened. WasRead (D.disk device) (D.disk opened.0.device) opened.0.account opened.2.items) }
         ensures refused { IfErr result (λ fault. NotTaken strictness (D.disk device) (D.disk fault.device) fault.number) }
         ensures exact { (state : State) → Stands state (D.disk device).seen
             → MatchResult result (λ opened. (D.disk opened.0.device).honest → opened.0.account.state ≡ state)
@@ -92,6 +94,6 @@ impl<D: SectorDevice> Store<D> {
             machine,
             copy: None,
         };
-        Ok((store, notice))
+        Ok((store, notice, bytes))
     }
 }

@@ -32,8 +32,8 @@ use Rattle.store_commits.proofs.Logs.{entries_2, entries_3, of_2, spelled_2, spe
 use Rattle.store_commits.proofs.More.{Makes, makes_all, makes_more}
 use Rattle.store_commits.proofs.Notes.{entries_of_marks, marks_append, noted_append, noted_later, notes_framed}
 use Rattle.store_commits.specs.Batch.{frame_sizes, size_of, sizes_of}
-use Rattle.store_commits.specs.Folds.{after_each, all_changes, entries_from, frames_for, frames_of, frames_together, frames_with, mark_after}
-use Rattle.store_commits.specs.Inside.{AreFramedEach, AreGoodEach, befores_each, frames_before, kind_of}
+use Rattle.store_commits.specs.Folds.{AreFramedEach, after_each, all_changes, entries_from, frames_each, frames_for, frames_of, frames_together, frames_with, mark_after}
+use Rattle.store_commits.specs.Inside.{AreGoodEach, befores_each, frames_before, kind_of}
 
 -- ---- changes one after another
 
@@ -129,6 +129,15 @@ frames_append rides seq (t ∷ ts) us =
     ap (λ (l : List ℕ). frames_of rides seq t ++ l)
     (frames_append rides (seq + length (changes_of t)) ts us ∙ ap (λ (n : ℕ). frames_for rides (seq + length (changes_of t)) ts ++ frames_for rides n us) sum)
     ∙ sym (append_assoc (frames_of rides seq t) (frames_for rides (seq + length (changes_of t)) ts) (frames_for rides (seq + length (all_changes (t ∷ ts))) us))
+
+-- those of each by themselves
+pub each_append : (rides : Bool) (seq : ℕ) (ts us : List Transaction) → frames_each rides seq (ts ++ us) ≡ frames_each rides seq ts ++ frames_each rides (seq + length (all_changes ts)) us
+each_append rides seq [] us = let none : seq ≡ seq + 0 = omega arith in ap (λ (n : ℕ). frames_each rides n us) none
+each_append rides seq (t ∷ ts) us =
+    let count = length-append (changes_of t) (all_changes ts) in
+    let sum : (seq + length (changes_of t)) + length (all_changes ts) ≡ seq + length (all_changes (t ∷ ts)) = omega (arith, count) in
+    ap (λ (ls : List (List ℕ)). frames_of rides seq t ∷ ls)
+    (each_append rides (seq + length (changes_of t)) ts us ∙ ap (λ (n : ℕ). frames_each rides (seq + length (changes_of t)) ts ++ frames_each rides n us) sum)
 
 -- of one transaction
 pub frames_one : (rides : Bool) (seq : ℕ) (t : Transaction) → frames_for rides seq (t ∷ []) ≡ frames_of rides seq t
@@ -410,6 +419,12 @@ framed_push seq [] t are more mark = let none : seq + 0 ≡ seq = omega arith in
 framed_push seq (u ∷ ts) t are more mark =
     let sum : seq + length (all_changes (u ∷ ts)) ≡ (seq + length (changes_of u)) + length (all_changes ts) = omega (arith, length-append (changes_of u) (all_changes ts)) in
     (are.0, are.1, framed_push (seq + length (changes_of u)) ts t are.2 more (subst (λ (n : ℕ). IsNoted (mark_after n t)) sum mark))
+
+pub framed_append : (seq : ℕ) (ts us : List Transaction) → AreFramedEach seq ts → AreFramedEach (seq + length (all_changes ts)) us → AreFramedEach seq (ts ++ us)
+framed_append seq [] us are more = let none : seq + 0 ≡ seq = omega arith in subst (λ (n : ℕ). AreFramedEach n us) none more
+framed_append seq (t ∷ ts) us are more =
+    let sum : seq + length (all_changes (t ∷ ts)) ≡ (seq + length (changes_of t)) + length (all_changes ts) = omega (arith, length-append (changes_of t) (all_changes ts)) in
+    (are.0, are.1, framed_append (seq + length (changes_of t)) ts us are.2 (subst (λ (n : ℕ). AreFramedEach n us) sum more))
 
 -- the frames of accepted transactions behind the bytes that hold the state
 pub holds_each : (rides : Bool) (bytes : List ℕ) (s : State) (ts : List Transaction) → profile_in rides ≡ s.profile → Holds s.profile (version_of_frames rides 2) s.seq bytes s.documents s.marks

@@ -10,14 +10,15 @@ use Rattle.doc_changes.specs.Refusals.{plain}
 use Rattle.doc_changes.specs.State.{State}
 use Rattle.doc_machine.specs.Trial.{TrialView, state_at}
 use Rattle.store_commits.specs.Account.{Account, StoreView, IsStanding, with_copy}
-use Rattle.store_commits.specs.Batch.{Slot, asked, waiting}
+use Rattle.store_commits.specs.Batch.{Slot, asked, changes, waiting}
 use Rattle.store_commits.specs.Copying.{Target, copy_of}
-use Rattle.store_commits.specs.Folds.{after_each, all_changes}
+use Rattle.store_commits.specs.Folds.{AreFramedEach, after_each, all_changes, frames_each}
 use Rattle.store_commits.specs.Inside.{IsStored, account_of, store_view, ArePlanned, HasCome, HasCommitted, IsPart, IsReady, AnswersPart, RanPrefix, none_planned, one_planned, tried_from}
-use Rattle.store_commits.specs.Run.{Batched, Refused, Reply}
+use Rattle.store_commits.specs.Run.{Batched, Refused, Reply, dones_of}
 use Rattle.store_commits.specs.declared.segment.Segment.{Segment}
 use Rattle.store_commits.proofs.Batches.{all_broken, batched, went_both, went_nowhere}
 use Rattle.store_commits.proofs.Changes.{HaveSome, after_append, seq_counts, some_behind, state_before}
+use Rattle.store_commits.proofs.Given.{framed_both, given_both}
 use Rattle.store_commits.proofs.Slots.{asked_append, both_committed, waiting_append}
 use Rattle.store_commits.proofs.Standing.{standing}
 use Rattle.store_commits.proofs.Modelled.{AreCoherent}
@@ -25,7 +26,7 @@ use Rattle.store_commits.proofs.Modelled.{AreCoherent}
 module _ {D : Type 0} (disk : D → Disk) (coherent : AreCoherent disk) where
   -- nothing is committed yet
   pub come_nowhere : (start : JournalView D) (s : State) (copy : Option Target) (slots : List Slot) (end : Account) (segments : List Segment) → IsStored (disk start.device) start s copy
-      → ArePlanned (with_copy (account_of start s) (copy_of copy)) segments slots end → HasCome disk start s copy slots end start copy segments []
+      → ArePlanned (with_copy (account_of start s) (copy_of copy)) segments slots end → HasCome disk start s copy slots end start copy segments [] []
   come_nowhere start s copy slots end segments stored planned = record {
     first = [];
     left = slots;
@@ -38,6 +39,8 @@ module _ {D : Type 0} (disk : D → Disk) (coherent : AreCoherent disk) where
       account = λ _. refl;
       went = went_nowhere disk coherent (store_view start s copy) (asked slots) (standing (disk start.device) start s stored.held);
     };
+    given = refl;
+    framed = tt;
   }
 
   -- these and those
@@ -65,15 +68,17 @@ module _ {D : Type 0} (disk : D → Disk) (coherent : AreCoherent disk) where
       }
 
   -- what a segment that is committed next makes of it
-  abbrev pub Goes : JournalView D → Option Target → Segment → JournalView D → Option Target → List Reply → List Reply → Type 0
-  Goes now copied segment new more_copied said more_said = (t : State) (a : Account) (left : List Transaction) (slots : List Slot) (b : Account) → IsStored (disk now.device) now t copied
+  abbrev pub Goes : JournalView D → Option Target → Segment → JournalView D → Option Target → List Reply → List Reply → List (List ℕ) → List (List ℕ) → Type 0
+  Goes now copied segment new more_copied said more_said frames more_frames = (t : State) (a : Account) (left : List Transaction) (slots : List Slot) (b : Account) → IsStored (disk now.device) now t copied
       → (now.broken ≡ false → with_copy (account_of now t) (copy_of copied) ≡ a) → IsPart a left segment slots b
-      → (more : List Reply) × (more_said ≡ said ++ more) × AnswersPart disk now t copied slots left b new more_copied more
+      → (more : List Reply) × (more_said ≡ said ++ more) × (more_frames ≡ frames ++ frames_each now.rides t.seq (dones_of (changes (asked slots)) more)) × AreFramedEach t.seq (dones_of (changes (asked slots)) more)
+      × AnswersPart disk now t copied slots left b new more_copied more
 
-  module _ (start now new : JournalView D) (s : State) (copy copied more_copied : Option Target) (slots : List Slot) (end : Account) (said more_said : List Reply) (segment : Segment) (goes : Goes now copied segment new more_copied said more_said) where
+  module _ (start now new : JournalView D) (s : State) (copy copied more_copied : Option Target) (slots : List Slot) (end : Account) (said more_said : List Reply) (frames more_frames : List (List ℕ)) (segment : Segment) (goes : Goes now copied segment new more_copied said more_said frames more_frames) where
     come_by : (first left : List Slot) (mid : Account) (rest : List Segment) → first ++ left ≡ slots → ArePlanned mid (segment ∷ rest) left end
-        → AnswersPart disk start s copy first (asked left) mid now copied said → HasCome disk start s copy slots end new more_copied rest more_said
-    come_by first _ _ rest parts (one_planned mid b _ _ _ these others part planned) was =
+        → AnswersPart disk start s copy first (asked left) mid now copied said → frames ≡ frames_each start.rides s.seq (dones_of (changes (asked first)) said) → AreFramedEach s.seq (dones_of (changes (asked first)) said)
+        → HasCome disk start s copy slots end new more_copied rest more_said more_frames
+    come_by first _ _ rest parts (one_planned mid b _ _ _ these others part planned) was given framed =
         let one = goes (after_each s (waiting was.told.first)) mid (asked others) these b was.stored was.account part in
         record {
           first = first ++ these;
@@ -82,27 +87,45 @@ module _ {D : Type 0} (disk : D → Disk) (coherent : AreCoherent disk) where
           mid = b;
           planned = planned;
           was = subst (AnswersPart disk start s copy (first ++ these) (asked others) b new more_copied) (sym one.1)
-              (answered_both start now new s copy copied more_copied first these (asked (these ++ others)) (asked others) (asked_append these others) mid b said one.0 was one.2);
+              (answered_both start now new s copy copied more_copied first these (asked (these ++ others)) (asked others) (asked_append these others) mid b said one.0 was one.4);
+          given = one.2 ∙ given_both disk start now s copy copied first these (asked (these ++ others)) mid said one.0 was frames given
+              ∙ ap (λ (rs : List Reply). frames_each start.rides s.seq (dones_of (changes (asked (first ++ these))) rs)) (sym one.1);
+          framed = subst (λ (rs : List Reply). AreFramedEach s.seq (dones_of (changes (asked (first ++ these))) rs)) (sym one.1)
+              (framed_both disk start now s copy copied first these (asked (these ++ others)) mid said one.0 was framed one.3);
         }
 
-    pub come_further : (rest : List Segment) → HasCome disk start s copy slots end now copied (segment ∷ rest) said → HasCome disk start s copy slots end new more_copied rest more_said
-    come_further rest come = come_by come.first come.left come.mid rest come.parts come.planned come.was
+    pub come_further : (rest : List Segment) → HasCome disk start s copy slots end now copied (segment ∷ rest) said frames → HasCome disk start s copy slots end new more_copied rest more_said more_frames
+    come_further rest come = come_by come.first come.left come.mid rest come.parts come.planned come.was come.given come.framed
 
-  module _ (start now : JournalView D) (s : State) (copy copied : Option Target) (slots : List Slot) (end : Account) (replies : List Reply) where
+  module _ (start now : JournalView D) (s : State) (copy copied : Option Target) (slots : List Slot) (end : Account) (replies : List Reply) (frames : List (List ℕ)) where
     -- the next segment is ready
     ready_by : (t : State) (left : List Slot) (mid : Account) (segment : Segment) (rest : List Segment) → IsStored (disk now.device) now t copied → with_copy (account_of now t) (copy_of copied) ≡ mid → ArePlanned mid (segment ∷ rest) left end
         → IsReady disk now copied segment
     ready_by t _ _ segment rest stored same (one_planned mid b _ _ _ these others part planned) = (t, asked others, these, b, stored, subst (λ (x : Account). IsPart x (asked others) segment these b) (sym same) part)
 
-    pub next_ready : (segment : Segment) (rest : List Segment) → HasCome disk start s copy slots end now copied (segment ∷ rest) replies → now.broken ≡ false → IsReady disk now copied segment
+    pub next_ready : (segment : Segment) (rest : List Segment) → HasCome disk start s copy slots end now copied (segment ∷ rest) replies frames → now.broken ≡ false → IsReady disk now copied segment
     next_ready segment rest come works = ready_by (after_each s (waiting come.was.told.first)) come.left come.mid segment rest come.was.stored (come.was.account works) come.planned
 
     -- all are committed
     all_by : (first left : List Slot) (mid : Account) → first ++ left ≡ slots → ArePlanned mid [] left end → AnswersPart disk start s copy first (asked left) mid now copied replies → AnswersPart disk start s copy slots [] end now copied replies
     all_by first _ _ parts (none_planned mid) was = subst (λ (l : List Slot). AnswersPart disk start s copy l [] mid now copied replies) (sym (append-nil first) ∙ parts) was
 
-    pub all_come : (rest : List Segment) → rest ≡ [] → HasCome disk start s copy slots end now copied rest replies → AnswersPart disk start s copy slots [] end now copied replies
+    first_all : (first left : List Slot) (mid : Account) → first ++ left ≡ slots → ArePlanned mid [] left end → first ≡ slots
+    first_all first _ _ parts (none_planned mid) = sym (append-nil first) ∙ parts
+
+    pub all_come : (rest : List Segment) → rest ≡ [] → HasCome disk start s copy slots end now copied rest replies frames → AnswersPart disk start s copy slots [] end now copied replies
     all_come rest none come = all_by come.first come.left come.mid come.parts (subst (λ (l : List Segment). ArePlanned come.mid l come.left end) none come.planned) come.was
+
+    -- and their frames given back
+    module _ (rest : List Segment) (none : rest ≡ []) (come : HasCome disk start s copy slots end now copied rest replies frames) where
+      those : come.first ≡ slots
+      those = first_all come.first come.left come.mid come.parts (subst (λ (l : List Segment). ArePlanned come.mid l come.left end) none come.planned)
+
+      pub all_given : frames ≡ frames_each start.rides s.seq (dones_of (changes (asked slots)) replies)
+      all_given = come.given ∙ ap (λ (l : List Slot). frames_each start.rides s.seq (dones_of (changes (asked l)) replies)) those
+
+      pub all_framed : AreFramedEach s.seq (dones_of (changes (asked slots)) replies)
+      all_framed = subst (λ (l : List Slot). AreFramedEach s.seq (dones_of (changes (asked l)) replies)) those come.framed
 
   -- ---- the whole batch
 

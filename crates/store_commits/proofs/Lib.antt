@@ -10,6 +10,7 @@ pub mod More
 pub mod Batches
 pub mod Changes
 pub mod Extents
+pub mod Given
 mod Instead
 pub mod Joining
 pub mod Parts

@@ -17,8 +17,8 @@ use Rattle.doc_changes.specs.State.{State}
 use Rattle.store_commits.specs.Account.{Account, account_broken, with_copy, extent_of}
 use Rattle.store_commits.specs.Batch.{GoesBehind, IsBatch, behind_in_doubt, failed, is_full, passed, room_in_doubt, room_made, to_append, to_snapshot, Slot, AreCommitted, AreInDoubt, AreJudged, waits, said, asked, waiting, size_of, sizes_of, account_committed, replies_done, replies_in_doubt}
 use Rattle.store_commits.specs.Copying.{Target, copy_of, target_with}
-use Rattle.store_commits.specs.Folds.{all_changes, frames_for, StandsAfter}
-use Rattle.store_commits.specs.Inside.{AreFramedEach, AreGoodEach, IsStored, LeavesNumbers, account_of, store_view, ArePlanned, IsAppended, IsAppendedBehind, IsPart, IsReplaced, IsSegment, IsTried, AnswersPart, answered, behind, bytes_in, fate_of, full, instead, none_planned, one_planned, replies_in, together}
+use Rattle.store_commits.specs.Folds.{AreFramedEach, all_changes, frames_for, StandsAfter}
+use Rattle.store_commits.specs.Inside.{AreGoodEach, IsStored, LeavesNumbers, account_of, store_view, ArePlanned, IsAppended, IsAppendedBehind, IsPart, IsReplaced, IsSegment, IsTried, AnswersPart, answered, behind, bytes_in, fate_of, full, instead, none_planned, one_planned, replies_in, together}
 use Rattle.store_commits.specs.Snapshot.{NeedsSnapshot, RemakesAll, snapshot_bytes, account_with_snapshot}
 use Rattle.store_commits.specs.Run.{Refused}
 use Rattle.store_commits.specs.declared.event.Reply.{Reply}
@@ -51,7 +51,7 @@ all_in_doubt seq [] = refl
 all_in_doubt seq (waits c ∷ slots) = ap (λ (l : List Reply). Refused (plain DEVICE) ∷ l) (all_in_doubt (seq + length (changes_of c)) slots)
 all_in_doubt seq (said c q ∷ slots) = ap (λ (l : List Reply). Refused q ∷ l) (all_in_doubt seq slots)
 
-all_not_begun : (rs : List Reply) (cs : List Transaction) → length rs ≡ length cs → map (answered NotBegun) rs ≡ map (λ _. Refused (plain BROKEN)) cs
+pub all_not_begun : (rs : List Reply) (cs : List Transaction) → length rs ≡ length cs → map (answered NotBegun) rs ≡ map (λ _. Refused (plain BROKEN)) cs
 all_not_begun [] [] same = refl
 all_not_begun [] (c ∷ cs) same = absurd (omega (arith, same))
 all_not_begun (r ∷ rs) [] same = absurd (omega (arith, same))

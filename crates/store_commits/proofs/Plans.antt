@@ -12,7 +12,8 @@ use Rattle.doc_machine.specs.Trial.{TrialView, first_or, state_at}
 use Rattle.doc_changes.specs.declared.refusal.Refusal.{Refusal}
 use Rattle.store_commits.specs.Account.{Account}
 use Rattle.store_commits.specs.Batch.{IsForced, Slot, waits, said, asked, waiting, account_committed, replies_done, size_of, sizes_of}
-use Rattle.store_commits.specs.Folds.{after_each, all_changes, frames_for, frames_of, mark_after}
+use Rattle.store_commits.specs.Folds.{after_each, all_changes, frames_each, frames_for, frames_of, mark_after}
+use Rattle.store_commits.specs.Given.{bytes_each}
 use Rattle.store_commits.specs.Replacing.{IsOverAfter, account_after}
 use Rattle.store_commits.specs.Snapshot.{FitNowhere, IsOver, snapshot_bytes, account_with_snapshot}
 use Rattle.store_commits.specs.Run.{Done, Refused}
@@ -22,7 +23,7 @@ use Rattle.store_commits.specs.declared.plan.Planning.{Planning}
 use Rattle.store_commits.specs.declared.segment.Base.{Base}
 use Rattle.store_commits.specs.declared.segment.Base.TheVariants.{After, Before, Used}
 use Rattle.store_commits.specs.declared.segment.Segment.{Segment}
-use Rattle.store_commits.proofs.Changes.{after_push, all_push, befores_push, framed_push, frames_append, frames_one, good_first, good_push, seq_after, seq_counts, sizes_append, some_accepted}
+use Rattle.store_commits.proofs.Changes.{after_push, all_push, befores_push, each_append, framed_push, frames_append, frames_one, good_first, good_push, seq_after, seq_counts, sizes_append, some_accepted}
 use Rattle.store_commits.proofs.Slots.{judged_append, replies_append, waiting_append}
 use Rattle.store_commits.proofs.Waiting.{committed_is}
 
@@ -114,7 +115,7 @@ module _ (a : Account) (slots : List Slot) (p : Planning) (t : TrialView) (is : 
         goes = is.goes;
         judged = judged_append mid since (said c r ∷ []) is.judged (subst (λ (s : State). refusal_in s c ≡ Some r) (sym state_then) refuses, tt);
         has = subst (λ (ts : List Transaction). HasFrames mid.rides mid.state ts (record p.last { replies = replies })) (sym (waiting_said since r))
-            (record { framed = is.has.framed; good = is.has.good; frames = is.has.frames; adds = is.has.adds });
+            (record { framed = is.has.framed; good = is.has.good; frames = is.has.frames; each = is.has.each; adds = is.has.adds });
         base = is.base;
         replies = replies_are ∙ ap (λ (l : List Reply). l ++ Refused r ∷ []) is.replies ∙ sym (replies_append mid.state.seq since (said c r ∷ []));
         room = ap (λ (ts : List Transaction). mid.used + sizes_of ts + p.left) (waiting_said since r) ∙ is.room;
@@ -146,10 +147,11 @@ module _ (a : Account) (slots : List Slot) (p : Planning) (t : TrialView) (is : 
         bytes_made bytes bytes_are = let was = is.bytes in let sum = ap sizes_of (waiting_waits slots) ∙ sizes_append (waiting slots) (c ∷ []) in omega (arith, bytes_are, was, sum)
 
         -- and it waits
-        pub further_waits : Good u.state → (frames : Vec ℕ Global) → frames.items ≡ p.last.frames.items ++ its_frames → (replies : Vec Reply Global) → replies.items ≡ p.last.replies.items ++ Done u.state.seq ∷ []
+        pub further_waits : Good u.state → (frames : Vec ℕ Global) → frames.items ≡ p.last.frames.items ++ its_frames
+            → (each : Vec (Vec ℕ Global) Global) → bytes_each each.items ≡ bytes_each p.last.each.items ++ its_frames ∷ [] → (replies : Vec Reply Global) → replies.items ≡ p.last.replies.items ++ Done u.state.seq ∷ []
             → (left bytes adds : ℕ) → left + size_of c ≡ p.left → bytes ≡ p.bytes + size_of c → adds ≡ p.last.adds + length (changes_of c)
-            → PlansOneMore a slots c (record p { left = left; bytes = bytes; last = record p.last { frames = frames; adds = adds; replies = replies } }) u
-        further_waits good_made frames frames_are replies replies_are left bytes adds left_is bytes_are adds_are =
+            → PlansOneMore a slots c (record p { left = left; bytes = bytes; last = record p.last { frames = frames; each = each; adds = adds; replies = replies } }) u
+        further_waits good_made frames frames_are each each_are replies replies_are left bytes adds left_is bytes_are adds_are =
             let ts = waiting since in
             let good_after : Good (after_in t.state c) = subst Good made.state good_made in
             let before : t.state.seq ≡ mid.state.seq + length (all_changes ts) = ap (λ (s : State). s.seq) is.state ∙ seq_counts mid.state ts in
@@ -157,6 +159,8 @@ module _ (a : Account) (slots : List Slot) (p : Planning) (t : TrialView) (is : 
             let push : front ++ its_frames ≡ frames_for mid.rides mid.state.seq (ts ++ c ∷ []) =
             (λ i. front ++ frames_of (is.rides i) (before i) c)
             ∙ sym (frames_append mid.rides mid.state.seq ts (c ∷ []) ∙ ap (λ (l : List ℕ). front ++ l) (frames_one mid.rides (mid.state.seq + length (all_changes ts)) c)) in
+            let push_each : frames_each mid.rides mid.state.seq ts ++ its_frames ∷ [] ≡ frames_each mid.rides mid.state.seq (ts ++ c ∷ []) =
+            (λ i. frames_each mid.rides mid.state.seq ts ++ frames_of (is.rides i) (before i) c ∷ []) ∙ sym (each_append mid.rides mid.state.seq ts (c ∷ [])) in
             let number : u.state.seq ≡ mid.state.seq + length (all_changes ts) + length (changes_of c) = ap (λ (s : State). s.seq) made.state ∙ seq_after t.state c ∙ ap (λ (n : ℕ). n + length (changes_of c)) before in
             let count = ap length (all_push ts c) ∙ length-append (all_changes ts) (changes_of c) in
             let sum = ap sizes_of (waiting_waits since) ∙ sizes_append ts (c ∷ []) in
@@ -173,11 +177,12 @@ module _ (a : Account) (slots : List Slot) (p : Planning) (t : TrialView) (is : 
                 parts = parts_more (waits c);
                 goes = is.goes;
                 judged = judged_append mid since (waits c ∷ []) is.judged (accepted_then, omega (arith, left_is, room, used, sectors), tt);
-                has = subst (λ (l : List Transaction). HasFrames mid.rides mid.state l (record p.last { frames = frames; adds = adds; replies = replies })) (sym (waiting_waits since))
+                has = subst (λ (l : List Transaction). HasFrames mid.rides mid.state l (record p.last { frames = frames; each = each; adds = adds; replies = replies })) (sym (waiting_waits since))
                     (record {
                       framed = framed_push mid.state.seq ts c is.has.framed made.framed (subst (λ (n : ℕ). IsNoted (mark_after n c)) before made.noted);
                       good = good_push mid.state ts c is.has.good (subst (λ (s : State). AreGood s (changes_of c)) is.state made.good) (subst (λ (s : State). Good (after_in s c)) is.state good_after);
                       frames = frames_are ∙ ap (λ (l : List ℕ). l ++ its_frames) is.has.frames ∙ push;
+                      each = each_are ∙ ap (λ (ls : List (List ℕ)). ls ++ its_frames ∷ []) is.has.each ∙ push_each;
                       adds = omega (arith, adds_are, was, count);
                     });
                 base = is.base;
@@ -219,7 +224,7 @@ module _ (a : Account) (slots : List Slot) (p : Planning) (t : TrialView) (is : 
               (is.goes (p.last ∷ other ∷ more) (since ++ (slot ∷ xs)) end
               (one_planned mid b end p.last (other ∷ more) since (slot ∷ xs) (last_part (asked (slot ∷ xs)) (comes xs)) (one_planned b e end other more (slot ∷ []) xs (part xs) rest))));
           judged = tt;
-          has = record { framed = tt; good = good; frames = closed.last.frames; adds = closed.last.adds };
+          has = record { framed = tt; good = good; frames = closed.last.frames; each = ap bytes_each closed.last.each; adds = closed.last.adds };
           base = closed.last.base;
           replies = closed.last.replies;
           room = omega (arith, room);
@@ -240,9 +245,9 @@ module _ (a : Account) (slots : List Slot) (p : Planning) (t : TrialView) (is : 
 
         -- nor does that of those after it fit
         pub further_full : (snapshot : List ℕ) → snapshot ≡ snapshot_bytes p.rides t.state.documents t.state.marks → p.capacity < length snapshot + size_of c → (p.rides ≡ true → p.capacity < length (snapshot_bytes p.rides (after_in t.state c).documents (after_in t.state c).marks))
-            → other.base ≡ Used → other.frames.items ≡ [] → other.adds ≡ 0 → other.replies.items ≡ Refused (plain FULL) ∷ [] → q.left ≡ p.left → q.bytes ≡ p.bytes
+            → other.base ≡ Used → other.frames.items ≡ [] → other.each.items ≡ [] → other.adds ≡ 0 → other.replies.items ≡ Refused (plain FULL) ∷ [] → q.left ≡ p.left → q.bytes ≡ p.bytes
             → (u : TrialView) → u ≡ t → PlansOneMore a slots c q u
-        further_full snapshot snapshot_is wide over_after base no_frames no_adds says left_is bytes_are u same =
+        further_full snapshot snapshot_is wide over_after base no_frames none_each no_adds says left_is bytes_are u same =
             let used = used_then in
             let sectors = capacity_then in
             let room = is.room in
@@ -257,7 +262,7 @@ module _ (a : Account) (slots : List Slot) (p : Planning) (t : TrialView) (is : 
               forced slot b (λ xs. (accepted_then, is_over))
                   (λ xs. record {
                     is = subst (λ (o : Base). IsSegment b (asked xs) o (slot ∷ []) b) (sym base) (full c accepted_then (nowhere snapshot snapshot_is wide, then));
-                    has = record { framed = tt; good = good_first b.state (changes_of c) good_here; frames = no_frames; adds = no_adds };
+                    has = record { framed = tt; good = good_first b.state (changes_of c) good_here; frames = no_frames; each = ap bytes_each none_each; adds = no_adds };
                     replies = says;
                   })
                   (good_first b.state (changes_of c) good_here) u (ap (λ (v : TrialView). v.state) same ∙ sym state_then) (same ∙ is.tried ∙ ap (tried_from a.state) (sym (waiting_said slots (plain FULL))))
@@ -266,9 +271,13 @@ module _ (a : Account) (slots : List Slot) (p : Planning) (t : TrialView) (is : 
 
         -- it goes on by itself
 
-        module _ (u : TrialView) (made : IsMadeWhole t c u) (frames : other.frames.items ≡ its_frames) (adds : other.adds ≡ length (changes_of c)) (says : other.replies.items ≡ Done u.state.seq ∷ []) (bytes_are : q.bytes ≡ p.bytes + size_of c) where
+        module _ (u : TrialView) (made : IsMadeWhole t c u) (frames : other.frames.items ≡ its_frames) (each : bytes_each other.each.items ≡ its_frames ∷ []) (adds : other.adds ≡ length (changes_of c)) (says : other.replies.items ≡ Done u.state.seq ∷ []) (bytes_are : q.bytes ≡ p.bytes + size_of c) where
           then : u.state ≡ after_in b.state c
           then = made.state ∙ ap (λ (s : State). after_in s c) (sym state_then)
+
+          -- those frames, by the account
+          frames_here : its_frames ≡ frames_of b.rides b.state.seq c
+          frames_here = ap (λ (r : Bool). frames_of r t.state.seq c) rides_here ∙ ap (λ (s : State). frames_of b.rides s.seq c) (sym state_then)
 
           has_frames : HasFrames b.rides b.state (c ∷ []) other
           has_frames =
@@ -276,7 +285,8 @@ module _ (a : Account) (slots : List Slot) (p : Planning) (t : TrialView) (is : 
               record {
                 framed = (made.framed, subst (λ (s : State). IsNoted (mark_after s.seq c)) (sym state_then) made.noted, tt);
                 good = (good_here, good_then);
-                frames = frames ∙ ap (λ (r : Bool). frames_of r t.state.seq c) rides_here ∙ ap (λ (s : State). frames_of b.rides s.seq c) (sym state_then) ∙ sym (frames_one b.rides b.state.seq c);
+                frames = frames ∙ frames_here ∙ sym (frames_one b.rides b.state.seq c);
+                each = each ∙ ap (λ (l : List ℕ). l ∷ []) frames_here;
                 adds = adds ∙ ap length (sym one);
               }
 
@@ -335,7 +345,7 @@ planning_begins a t p good state past none room capacity rides bytes empty = rec
   parts = refl;
   goes = λ more xs end rest. subst (λ (l : List Segment). ArePlanned a (l ++ more) xs end) (sym none) rest;
   judged = tt;
-  has = record { framed = tt; good = subst Good state good; frames = empty.frames; adds = empty.adds };
+  has = record { framed = tt; good = subst Good state good; frames = empty.frames; each = ap bytes_each empty.each; adds = empty.adds };
   base = empty.base;
   replies = empty.replies;
   room = omega (arith, room);

@@ -15,8 +15,8 @@ use Rattle.doc_changes.specs.State.{State, Good}
 use Rattle.store_commits.specs.Account.{Account, Copy, account_broken, with_copy, EndsWith, Extent, extent_of}
 use Rattle.store_commits.specs.Batch.{Commit, IsBatch, IsForced, commit_for, commit_in_doubt, commit_made, failed, passed, to_append, Slot, waits, said, asked, waiting, copy_with, size_of, sizes_of, account_behind, account_committed, AreJudged, AreCommitted, AreInDoubt, calls_for, replies_done, replies_in_doubt}
 use Rattle.store_commits.specs.Copying.{IsCopied, Target, copy_of, target_with}
-use Rattle.store_commits.specs.Folds.{after_each, all_changes, frames_for, StandsAfter}
-use Rattle.store_commits.specs.Inside.{AreFramedEach, AreGoodEach, IsHeld, IsStored, LeavesNumbers, account_of, IsAppended, AnswersPart}
+use Rattle.store_commits.specs.Folds.{AreFramedEach, after_each, all_changes, frames_for, StandsAfter}
+use Rattle.store_commits.specs.Inside.{AreGoodEach, IsHeld, IsStored, LeavesNumbers, account_of, IsAppended, AnswersPart}
 use Rattle.store_commits.specs.Images.{Holds, profile_in, version_of_frames}
 use Rattle.store_commits.proofs.Changes.{AcceptedEach, HaveSome, good_end, holds_each, profile_each, seq_counts, sizes_are, some_accepted}
 use Rattle.store_commits.proofs.Extents.{broken_as, either_as, ending_as}

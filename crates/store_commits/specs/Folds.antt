@@ -1,12 +1,12 @@
 -- Transactions one after another, what a journal keeps of their changes and their marks, and the state that an image holds while they are made.
-use Rattle.std.specs.Prelude.{ℕ, ◌+◌, Bool, true, false, List, [], ◌∷◌, ◌++◌, ◌≡◌, length, Option, None, Some}
+use Rattle.std.specs.Prelude.{ℕ, ◌+◌, Bool, true, false, List, [], ◌∷◌, ◌++◌, ◌≡◌, length, Option, None, Some, ⊤}
 use Rattle.record_text.specs.Change.{Change}
 use Rattle.record_text.specs.Frame.{Entry, entry, frames_in}
 use Rattle.log_frames.specs.Kinds.{frames_as}
 use Rattle.log_frames.specs.Log.{logged_together, logged_with}
 use Rattle.doc_changes.specs.Marks.{Mark}
 use Rattle.doc_changes.specs.State.{State}
-use Rattle.doc_machine.specs.Transaction.{Transaction, after_in, changes_of, mark_with}
+use Rattle.doc_machine.specs.Transaction.{AreFramed, IsNoted, Transaction, after_in, changes_of, mark_with}
 use Rattle.sector_device.specs.Disk.{Image}
 use Rattle.store_commits.specs.Images.{Stands}
 use Rattle.store_commits.specs.Notes.{noted_entry}
@@ -48,6 +48,16 @@ frames_of rides seq t = frames_with rides seq (changes_of t) (mark_after seq t)
 abbrev pub frames_for : Bool → ℕ → List Transaction → List ℕ
 frames_for rides seq [] = []
 frames_for rides seq (t ∷ ts) = frames_of rides seq t ++ frames_for rides (seq + length (changes_of t)) ts
+
+-- the same, those of each transaction by themselves
+abbrev pub frames_each : Bool → ℕ → List Transaction → List (List ℕ)
+frames_each rides seq [] = []
+frames_each rides seq (t ∷ ts) = frames_of rides seq t ∷ frames_each rides (seq + length (changes_of t)) ts
+
+-- a journal can hold each change and each mark of transactions that are accepted from this seq on
+abbrev pub AreFramedEach : ℕ → List Transaction → Type 0
+AreFramedEach seq [] = ⊤
+AreFramedEach seq (t ∷ ts) = AreFramed (changes_of t) × IsNoted (mark_after seq t) × AreFramedEach (seq + length (changes_of t)) ts
 
 -- it holds the state after some of the transactions, whole, the first of them first
 pub record StandsAfter (state : State) (transactions : List Transaction) (image : Image) : Type 0 where

@@ -22,9 +22,10 @@ use Rattle.slot_commits.specs.Loads.{number_end}
 use Rattle.doc_changes.specs.Refusals.{plain}
 use Rattle.doc_machine.specs.Trial.{TrialView}
 use Rattle.refusals.specs.declared.numbers.TheConstants.{BROKEN, DEVICE, FULL}
-use Rattle.doc_machine.specs.Transaction.{AreFramed, AreGood, IsNoted, Transaction, after_in, befores, changes_of, refusal_in}
+use Rattle.doc_machine.specs.Transaction.{AreGood, Transaction, after_in, befores, changes_of, refusal_in}
 use Rattle.store_commits.specs.Batch.{AreMade, Commit, HasNoRoom, IsBatch, IsForced, Slot, AreJudged, account_committed, asked, changes, replies_done, said, size_of, sizes_of, waiting, waits}
-use Rattle.store_commits.specs.Folds.{after_each, all_changes, frames_for, mark_after}
+use Rattle.store_commits.specs.Folds.{AreFramedEach, after_each, all_changes, frames_each, frames_for}
+use Rattle.store_commits.specs.Given.{bytes_each}
 use Rattle.store_commits.specs.Replacing.{FitsAfter, account_after}
 use Rattle.store_commits.specs.Snapshot.{FitNowhere, NeedsSnapshot, snapshot_bytes, account_with_snapshot}
 use Rattle.store_commits.specs.Run.{Batched, Lasts, Reply, Done, Refused, dones_of, hits_of}
@@ -90,10 +91,10 @@ answered InDoubt (Done seq) = Refused (plain DEVICE)
 answered InDoubt r = r
 answered NotBegun r = Refused (plain BROKEN)
 
--- a journal can hold each change and each mark of transactions that are accepted from this seq on
-abbrev pub AreFramedEach : ℕ → List Transaction → Type 0
-AreFramedEach seq [] = ⊤
-AreFramedEach seq (t ∷ ts) = AreFramed (changes_of t) × IsNoted (mark_after seq t) × AreFramedEach (seq + length (changes_of t)) ts
+-- what is given back of these: all, once they are committed
+abbrev pub given : {A : Type 0} → Fate → List A → List A
+given Committed xs = xs
+given _ xs = []
 
 -- the state is good, and so is the one after each of their changes, and after each mark
 abbrev pub AreGoodEach : State → List Transaction → Type 0
@@ -105,12 +106,14 @@ pub record HasFrames (rides : Bool) (s : State) (ts : List Transaction) (segment
   pub framed : AreFramedEach s.seq ts
   pub good : AreGoodEach s ts
   pub frames : segment.frames.items ≡ frames_for rides s.seq ts
+  pub each : bytes_each segment.each.items ≡ frames_each rides s.seq ts
   pub adds : segment.adds ≡ length (all_changes ts)
 
 -- nothing waits, and nothing is answered
 pub record IsEmpty (segment : Segment) : Type 0 where
   pub base : segment.base ≡ Used
   pub frames : segment.frames.items ≡ []
+  pub each : segment.each.items ≡ []
   pub adds : segment.adds ≡ 0
   pub replies : segment.replies.items ≡ []
 
@@ -145,6 +148,11 @@ bytes_in (segment ∷ segments) = length segment.frames.items + bytes_in segment
 abbrev pub replies_in : List Segment → ℕ
 replies_in [] = 0
 replies_in (segment ∷ segments) = length segment.replies.items + replies_in segments
+
+-- of how many transactions they have frames
+abbrev pub each_in : List Segment → ℕ
+each_in [] = 0
+each_in (segment ∷ segments) = length segment.each.items + each_in segments
 
 -- Some part of a batch is answered by the segment, of a store that holds the state.
 abbrev pub IsReady : {D : Type 0} → (D → Disk) → JournalView D → Option Target → Segment → Type 0
@@ -211,14 +219,16 @@ pub record AnswersPart {D : Type 0} (disk : D → Disk) (old : JournalView D) (s
   pub account : new.broken ≡ false → with_copy (account_of new (after_each s (waiting told.first))) (copy_of copied) ≡ b
   pub went : RanPrefix disk (store_view old s copy) (store_view new (after_each s (waiting told.first)) copied) (asked slots) replies left
 
--- Segments were committed, or the device failed in one of them; whatever replies were given already, the others are planned from there.
-pub record HasCome {D : Type 0} (disk : D → Disk) (start : JournalView D) (s : State) (copy : Option Target) (slots : List Slot) (end : Account) (now : JournalView D) (copied : Option Target) (rest : List Segment) (replies : List Reply) : Type 0 where
+-- Segments were committed, or the device failed in one of them; whatever replies were given already, and frames given back, the others are planned from there.
+pub record HasCome {D : Type 0} (disk : D → Disk) (start : JournalView D) (s : State) (copy : Option Target) (slots : List Slot) (end : Account) (now : JournalView D) (copied : Option Target) (rest : List Segment) (replies : List Reply) (frames : List (List ℕ)) : Type 0 where
   pub first : List Slot
   pub left : List Slot
   pub parts : first ++ left ≡ slots
   pub mid : Account
   pub planned : ArePlanned mid rest left end
   pub was : AnswersPart disk start s copy first (asked left) mid now copied replies
+  pub given : frames ≡ frames_each start.rides s.seq (dones_of (changes (asked first)) replies)
+  pub framed : AreFramedEach s.seq (dones_of (changes (asked first)) replies)
 
 -- the journal, the machine and the copy after a batch that was given these replies
 pub record HasCommitted {D : Type 0} (disk : D → Disk) (old : StoreView D) (cs : List Transaction) (replies : List Reply) (now : JournalView D) (machine : State) (copied : Option Target) : Type 0 where
@@ -268,6 +278,7 @@ pub record IsAlone (old : Planning) (base : Base) (used : ℕ) (frames : Vec ℕ
   pub closed : IsClosed old other new
   pub base_is : other.base ≡ base
   pub frames_are : other.frames.items ≡ frames.items
+  pub each_are : bytes_each other.each.items ≡ frames.items ∷ []
   pub adds_is : other.adds ≡ adds
   pub replies : other.replies.items ≡ Done seq ∷ []
   pub left : new.left + used ≡ old.capacity
@@ -284,6 +295,7 @@ pub record IsFull (old new : Planning) : Type 0 where
   pub closed : IsClosed old other new
   pub base_is : other.base ≡ Used
   pub frames_are : other.frames.items ≡ []
+  pub each_are : other.each.items ≡ []
   pub adds_is : other.adds ≡ 0
   pub replies : other.replies.items ≡ Refused (plain FULL) ∷ []
   pub left : new.left ≡ old.left

@@ -7,6 +7,7 @@ pub mod Batch
 pub mod Copying
 pub mod Events
 pub mod Folds
+pub mod Given
 pub mod Inside
 pub mod Replacing
 pub mod Sealing

@@ -1,10 +1,11 @@
-//! Transactions that are judged and committed together.
+//! Transactions that are judged and committed together, and what is answered then.
 ghost use Rattle.std.specs.Prelude.{◌≡◌, ◌+◌, ◌≤◌, ◌++◌, IfOk, OnErr, length, map};
 ghost use Rattle.std.specs.Vec.{vec_capacity, vec_len};
 ghost use Rattle.doc_machine.specs.Transaction.{transaction_of};
 ghost use Rattle.doc_changes.specs.Refusals.{plain};
 ghost use Rattle.refusals.specs.declared.numbers.TheConstants.{BROKEN};
 ghost use Rattle.store_commits.specs.Copying.{target_of};
+ghost use Rattle.store_commits.specs.Given.{GivesBack};
 ghost use Rattle.store_commits.specs.Inside.{IsStored, store_view};
 ghost use Rattle.store_commits.specs.Run.{Batched};
 ghost use Rattle.store_commits.specs.declared.event.Reply.TheVariants.{Refused};
@@ -20,25 +21,39 @@ use std::alloc::{AllocError, Global};
 use std::mem;
 use store_journal::Journal;
 
+/// What became of transactions.
+#[derive(Drop)]
+pub struct Committed {
+    /// One reply to each, in order.
+    pub replies: Vec<Reply>,
+    /// Of each that was done the frames of its changes and of its mark, back to back, in order; also if a snapshot of the
+    /// documents after it was committed in their place.
+    pub frames: Vec<Vec<u8>>,
+}
+
 /// Makes transactions of a machine that the journal holds, by as few commits as their room allows. Answers one reply to
-/// each. An `Err` means that memory ran out, or the numbers of commits, before the device is called.
+/// each, and gives back the frames of those that were done. An `Err` means that memory ran out, or the numbers of
+/// commits, before the device is called.
 pub fn commit_batch<D: SectorDevice>(
     alloc: Global,
     journal: &mut Journal<D>,
     machine: &mut Machine,
     copy: &mut Option<Copying>,
     transactions: Vec<Transaction>,
-) -> Result<Vec<Reply>, AllocError>
+) -> Result<Committed, AllocError>
     requires { IsStored (D.disk journal.old.device) journal.old machine.old (target_of copy.old) }
     ensures stored { IsStored (D.disk journal.new.device) journal.new machine.new (target_of copy.new) }
-    ensures batched { IfOk result (λ replies. Batched D.disk (store_view journal.old machine.old (target_of copy.old))
-        (store_view journal.new machine.new (target_of copy.new)) (map transaction_of transactions.items) replies.items) }
+    ensures batched { IfOk result (λ committed. Batched D.disk (store_view journal.old machine.old (target_of copy.old))
+        (store_view journal.new machine.new (target_of copy.new)) (map transaction_of transactions.items) committed.replies.items) }
+    ensures frames { IfOk result (GivesBack (store_view journal.old machine.old (target_of copy.old)).account (map transaction_of transactions.items)) }
     ensures memory { OnErr result (store_view journal.new machine.new (target_of copy.new) ≡ store_view journal.old machine.old (target_of copy.old)) }
 {
-    let mut said = Vec::with_capacity(alloc, transactions.len())?;
+    let replies = Vec::with_capacity(alloc, transactions.len())?;
+    let frames = Vec::with_capacity(alloc, transactions.len())?;
+    let mut committed = Committed { replies, frames };
     if journal.is_broken() {
-        say_broken(&mut said, transactions);
-        return Ok(said);
+        say_broken(&mut committed.replies, transactions);
+        return Ok(committed);
     }
     let mut trial = Trial::begin(mem::replace(machine, Machine::new(alloc)));
     match prepare(alloc, journal, copy, &mut trial, transactions) {
@@ -48,8 +63,8 @@ pub fn commit_batch<D: SectorDevice>(
             Err(refused)
         }
         Ok(segments) => {
-            *machine = commit_all(journal, copy, trial, segments, &mut said);
-            Ok(said)
+            *machine = commit_all(journal, copy, trial, segments, &mut committed);
+            Ok(committed)
         }
     }
 }

@@ -29,7 +29,7 @@ mod segment;
 mod snapshot;
 mod snapshot_commit;
 
-pub use batch::commit_batch;
+pub use batch::{Committed, commit_batch};
 pub use event::{Event, Reply};
 pub use pump::{CopyState, Pump};
 pub use replaying::{ReplayFault, replay, version_of_frames};

@@ -1,6 +1,6 @@
 //! The plan of a batch: how its transactions are put together to commits. All memory of a batch is taken here, before
 //! the device is called.
-ghost use Rattle.std.specs.Prelude.{◌≡◌, ◌+◌, ◌-◌, ◌*◌, ◌^◌, ◌≤◌, ◌<◌, List, [], length, map, min, OnOk, IfOk};
+ghost use Rattle.std.specs.Prelude.{◌≡◌, ◌+◌, ◌-◌, ◌*◌, ◌^◌, ◌≤◌, ◌<◌, List, [], ◌∷◌, length, map, min, OnOk, IfOk};
 ghost use Rattle.store_journal.specs.Layout.{capacity_of};
 ghost use Rattle.doc_machine.specs.Transaction.{RefusesTransaction, transaction_of};
 ghost use Rattle.doc_machine.specs.Transaction.{Transaction as Asked};
@@ -9,6 +9,7 @@ ghost use Rattle.store_commits.specs.Account.{Account, with_copy};
 ghost use Rattle.store_commits.specs.Batch.{Slot, asked};
 ghost use Rattle.store_commits.specs.Copying.{HasSpare, copy_of, target_of};
 ghost use Rattle.store_commits.specs.Folds.{frames_of};
+ghost use Rattle.store_commits.specs.Given.{bytes_each};
 ghost use Rattle.store_commits.specs.Inside.{account_of, ArePrepared, IsAlone, IsFull, IsInstead, LeavesNumbers, PlansOneMore, IsPlanning, bytes_in};
 
 use crate::copying::{Copying, reserve};
@@ -89,6 +90,17 @@ fn most_commits(segments: usize) -> u64
     (segments as u64).saturating_mul(2).saturating_add(1)
 }
 
+// A copy of these bytes, alone.
+fn only(alloc: Global, bytes: &[u8]) -> Result<Vec<Vec<u8>>, AllocError>
+    ensures { IfOk result (λ each. bytes_each each.items ≡ bytes.now ∷ []) }
+{
+    let mut copy = Vec::new(alloc);
+    copy.extend_from_slice(bytes)?;
+    let mut each = Vec::new(alloc);
+    each.push(copy)?;
+    Ok(each)
+}
+
 impl Segment {
     ghost use Rattle.store_commits.specs.Inside.{IsEmpty};
 
@@ -99,6 +111,7 @@ impl Segment {
         Segment {
             base: Base::Used,
             frames: Vec::new(alloc),
+            each: Vec::new(alloc),
             adds: 0,
             replies: Vec::new(alloc),
         }
@@ -137,7 +150,7 @@ impl Planning {
             return self.judge(trial, transaction);
         };
         if frames.len() as u64 <= self.left {
-            self.wait(trial, transaction, &frames)
+            self.wait(trial, transaction, frames)
         } else {
             self.force(alloc, trial, transaction, frames)
         }
@@ -174,10 +187,10 @@ impl Planning {
         &mut self,
         trial: &mut Trial,
         transaction: Transaction,
-        frames: &[u8],
+        frames: Vec<u8>,
     ) -> Result<(), AllocError>
-        requires frames { frames.now ≡ frames_of self.old.rides trial.old.state.seq (transaction_of transaction) }
-        requires fits { length frames.now ≤ self.old.left }
+        requires frames { frames.items ≡ frames_of self.old.rides trial.old.state.seq (transaction_of transaction) }
+        requires fits { length frames.items ≤ self.old.left }
         ensures ok { OnOk result ((a : Account) (slots : List Slot) → IsPlanning a slots self.old trial.old → PlansOneMore a slots (transaction_of transaction) self.new trial.new) }
         ensures origin { state_at 0 trial.new ≡ state_at 0 trial.old }
     {
@@ -187,17 +200,19 @@ impl Planning {
             Ok(seq) => seq,
         };
         // All bytes of a batch are in memory, so their number is one of these, and so is that of the changes.
-        let Some(bytes) = self.bytes.checked_add(frames.len()) else {
+        let size = frames.len();
+        let Some(bytes) = self.bytes.checked_add(size) else {
             return Err(AllocError);
         };
         let Some(adds) = self.last.adds.checked_add(adds) else {
             return Err(AllocError);
         };
-        self.last.frames.extend_from_slice(frames)?;
+        self.last.frames.extend_from_slice(&frames)?;
+        self.last.each.push(frames)?;
         self.last.replies.push(Reply::Done(seq))?;
         self.last.adds = adds;
         self.bytes = bytes;
-        self.left -= frames.len() as u64;
+        self.left -= size as u64;
         Ok(())
     }
 
@@ -271,9 +286,11 @@ impl Planning {
         self.segments.push(last)?;
         let mut replies = Vec::new(alloc);
         replies.push(Reply::Done(seq))?;
+        let each = only(alloc, &frames)?;
         self.segments.push(Segment {
             base,
             frames,
+            each,
             adds,
             replies,
         })?;

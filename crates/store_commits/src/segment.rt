@@ -6,11 +6,15 @@ ghost use Rattle.store_journal.specs.Layout.{capacity_of};
 ghost use Rattle.doc_machine.specs.Transaction.{Transaction};
 ghost use Rattle.doc_changes.specs.State.{State};
 ghost use Rattle.store_commits.specs.Account.{Account, with_copy};
-ghost use Rattle.store_commits.specs.Batch.{Slot};
+ghost use Rattle.store_commits.specs.Batch.{Slot, asked, changes};
 ghost use Rattle.store_commits.specs.Copying.{HasSpare, copy_of, target_with, target_of};
-ghost use Rattle.store_commits.specs.Inside.{IsStored, LeavesNumbers, account_of, store_view, ArePrepared, HasCommitted, IsAppended, IsAppendedBehind, IsReplaced, IsPart, IsReady, AnswersPart, answered, bytes_in, fate_of, replies_in};
+ghost use Rattle.store_commits.specs.Events.{dones_of};
+ghost use Rattle.store_commits.specs.Folds.{AreFramedEach, frames_each};
+ghost use Rattle.store_commits.specs.Given.{GivesBack, bytes_each};
+ghost use Rattle.store_commits.specs.Inside.{IsStored, LeavesNumbers, account_of, store_view, ArePrepared, HasCommitted, IsAppended, IsAppendedBehind, IsReplaced, IsPart, IsReady, AnswersPart, answered, bytes_in, each_in, fate_of, given, replies_in};
 ghost use Rattle.store_commits.specs.declared.event.Reply.{Reply as Said};
 
+use crate::batch::Committed;
 use crate::copying::{Copying, grow};
 use crate::event::Reply;
 use crate::replacement::commit_replacement;
@@ -25,8 +29,10 @@ use store_journal::Journal;
 pub(crate) struct Segment {
     /// What the frames come after.
     pub base: Base,
-    /// The frames of those that wait.
+    /// The frames of those that wait, back to back.
     pub frames: Vec<u8>,
+    /// The same, those of each by themselves: they are given back once they are committed.
+    pub each: Vec<Vec<u8>>,
     /// How many changes these have.
     pub adds: u64,
     /// The replies to all of them once it is committed.
@@ -55,56 +61,66 @@ pub enum Fate {
     NotBegun,
 }
 
-/// Commits the segments one after another and says all replies. Once the device failed it isn't called. What was tried
-/// and is not committed is taken back.
+/// Commits the segments one after another, says all replies, and gives back the frames of what was done. Once the device
+/// failed it isn't called. What was tried and is not committed is taken back.
 pub(crate) fn commit_all<D: SectorDevice>(
     journal: &mut Journal<D>,
     copy: &mut Option<Copying>,
     trial: Trial,
     segments: Vec<Segment>,
-    said: &mut Vec<Reply>,
+    committed: &mut Committed,
 ) -> Machine
     requires prepared { (s : State) × (cs : List Transaction) × IsStored (D.disk journal.old.device) journal.old s (target_of copy.old)
         × ArePrepared (with_copy (account_of journal.old s) (copy_of (target_of copy.old))) cs segments.items trial }
-    requires none { said.old.items ≡ [] }
+    requires none { (committed.old.replies.items ≡ []) × (committed.old.frames.items ≡ []) }
     requires numbers { LeavesNumbers journal.old (2 * length segments.items + 1) }
     requires grows { HasSpare copy.old (bytes_in segments.items) }
-    requires room { vec_len said.old + replies_in segments.items ≤ vec_capacity said.old }
-    ensures { (s : State) (cs : List Transaction) → IsStored (D.disk journal.old.device) journal.old s (target_of copy.old)
+    requires room { vec_len committed.old.replies + replies_in segments.items ≤ vec_capacity committed.old.replies }
+    requires places { vec_len committed.old.frames + each_in segments.items ≤ vec_capacity committed.old.frames }
+    ensures committed { (s : State) (cs : List Transaction) → IsStored (D.disk journal.old.device) journal.old s (target_of copy.old)
         → ArePrepared (with_copy (account_of journal.old s) (copy_of (target_of copy.old))) cs segments.items trial
-        → HasCommitted D.disk (store_view journal.old s (target_of copy.old)) cs said.new.items journal.new result (target_of copy.new) }
+        → HasCommitted D.disk (store_view journal.old s (target_of copy.old)) cs committed.new.replies.items journal.new result (target_of copy.new) }
+    ensures frames { (s : State) (cs : List Transaction) → IsStored (D.disk journal.old.device) journal.old s (target_of copy.old)
+        → ArePrepared (with_copy (account_of journal.old s) (copy_of (target_of copy.old))) cs segments.items trial
+        → GivesBack (account_of journal.old s) cs committed.new }
 {
     let before = journal.seq();
     for segment in segments {
-        commit_segment(journal, copy, segment, said);
+        commit_segment(journal, copy, segment, committed);
     }
     let mut trial = trial;
     trial.keep(journal.seq() - before);
     trial.end()
 }
 
-// Commits a segment and says its replies.
+// Commits a segment, says its replies, and gives back its frames if it was committed.
 fn commit_segment<D: SectorDevice>(
     journal: &mut Journal<D>,
     copy: &mut Option<Copying>,
     segment: Segment,
-    said: &mut Vec<Reply>,
+    committed: &mut Committed,
 )
     requires ready { journal.old.broken ≡ false → IsReady D.disk journal.old (target_of copy.old) segment }
     requires numbers { LeavesNumbers journal.old 3 }
     requires grows { HasSpare copy.old (length segment.frames.items) }
-    requires room { vec_len said.old + length segment.replies.items ≤ vec_capacity said.old }
+    requires room { vec_len committed.old.replies + length segment.replies.items ≤ vec_capacity committed.old.replies }
+    requires places { vec_len committed.old.frames + length segment.each.items ≤ vec_capacity committed.old.frames }
     ensures answered { (s : State) (a : Account) (left : List Transaction) (slots : List Slot) (b : Account) → IsStored (D.disk journal.old.device) journal.old s (target_of copy.old)
         → (journal.old.broken ≡ false → with_copy (account_of journal.old s) (copy_of (target_of copy.old)) ≡ a) → IsPart a left segment slots b
-        → (more : List Said) × (said.new.items ≡ said.old.items ++ more)
+        → (more : List Said) × (committed.new.replies.items ≡ committed.old.replies.items ++ more)
+        × (bytes_each committed.new.frames.items ≡ bytes_each committed.old.frames.items ++ frames_each journal.old.rides s.seq (dones_of (changes (asked slots)) more))
+        × AreFramedEach s.seq (dones_of (changes (asked slots)) more)
         × AnswersPart D.disk journal.old s (target_of copy.old) slots left b journal.new (target_of copy.new) more }
     ensures numbers { journal.new.next ≤ journal.old.next + 2 }
     ensures grows { (n : ℕ) → HasSpare copy.old (length segment.frames.items + n) → HasSpare copy.new n }
-    ensures len { vec_len said.new ≡ vec_len said.old + length segment.replies.items }
-    ensures capacity { vec_capacity said.old ≤ vec_capacity said.new }
+    ensures len { vec_len committed.new.replies ≡ vec_len committed.old.replies + length segment.replies.items }
+    ensures capacity { vec_capacity committed.old.replies ≤ vec_capacity committed.new.replies }
+    ensures len_frames { vec_len committed.new.frames ≤ vec_len committed.old.frames + length segment.each.items }
+    ensures capacity_frames { vec_capacity committed.old.frames ≤ vec_capacity committed.new.frames }
 {
     let fate = commit(journal, copy, &segment);
-    say(said, segment.replies, fate);
+    say(&mut committed.replies, segment.replies, fate);
+    give(&mut committed.frames, segment.each, fate);
 }
 
 // Commits a segment. If nothing waits it makes no call of the device.
@@ -233,6 +249,21 @@ fn say(said: &mut Vec<Reply>, replies: Vec<Reply>, fate: Fate)
 {
     for reply in replies {
         said.push(answer(reply, fate)).unwrap();
+    }
+}
+
+// Gives back the frames of each that waited, if they are committed.
+#[tactic(auto, using(crate::proofs::Given::none_more))]
+fn give(frames: &mut Vec<Vec<u8>>, each: Vec<Vec<u8>>, fate: Fate)
+    requires room { vec_len frames.old + length each.items ≤ vec_capacity frames.old }
+    ensures given { frames.new.items ≡ frames.old.items ++ given fate each.items }
+    ensures len { vec_len frames.new ≤ vec_len frames.old + length each.items }
+    ensures capacity { vec_capacity frames.old ≤ vec_capacity frames.new }
+{
+    let mut each = each;
+    match fate {
+        Fate::Committed => frames.append(&mut each).unwrap(),
+        Fate::InDoubt | Fate::NotBegun => {}
     }
 }
 

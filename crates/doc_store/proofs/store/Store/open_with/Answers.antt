@@ -2,7 +2,7 @@ use Rattle.std.proofs.Common.{false}
 use Rattle.store_commits.proofs.Modelled.{both_models}
 use Rattle.store_commits.proofs.Standing.{standing}
 use Rattle.doc_store.specs.Strict.{IsTaken}
-use Rattle.doc_store.proofs.Opened.{keeps_images, keeps_size, not_settled, one_state, open_moments_as, open_moments_in, opened, opened_held, read_stands, same_rides, same_size, stands_opens}
+use Rattle.doc_store.proofs.Opened.{keeps_images, keeps_size, not_settled, one_state, open_moments_as, open_moments_in, opened, opened_held, read_stands, same_rides, same_size, stands_opens, was_read}
 use Rattle.doc_store.proofs.Strict.{not_taken, not_true, only_old, refused_by, strictly, strictly_exact}
 use Rattle.doc_store.proofs.store.Store.open_with.Goals as goal
 
@@ -68,6 +68,7 @@ returns-in-Err-settle g c =
       taken = tt;
       standing = tt;
       good = tt;
+      read = tt;
       refused = not_taken c.args.strictness (disk c.args.device) (disk now.device) c.in-Err-settle.refusal.number refused;
       exact = λ state stands honest. refused_by c.args.strictness (disk c.args.device).seen c.in-Err-settle.refusal.number (stands_opens (disk c.args.device) (disk now.device) c.in-Err-settle.refusal.number state (g.met.D.SectorDevice.coherent c.args.device) back honest stands refused);
       any_moment = tt;
@@ -90,6 +91,12 @@ returns-clause-opened g c =
     let coherent = both_models g.D.SectorDevice.disk g.met.D.SectorDevice.coherent g.met.D.SectorDevice.torn_coherent in
     let done = c.in_default.ensures in
     opened coherent c.in-Ok.ensures.found done.honest done.kept (rw c.deref.ensures.value at done.settled)
+
+pub returns-clause-read : goal.returns-clause-read
+returns-clause-read g c =
+    let coherent = both_models g.D.SectorDevice.disk g.met.D.SectorDevice.coherent g.met.D.SectorDevice.torn_coherent in
+    let done = c.in_default.ensures in
+    was_read coherent c.in-Ok.ensures.found done.honest done.kept (rw c.deref.ensures.value at done.settled)
 
 pub returns-clause-standing : goal.returns-clause-standing
 returns-clause-standing g c =

@@ -1,4 +1,4 @@
-use Rattle.std.proofs.Common.{rules, ◌≡◌, ◌+◌, ◌++◌, ◌∷◌, [], List, ap, subst, sym, ◌∙◌, refl, arith}
+use Rattle.std.proofs.Common.{rules, ◌≡◌, ◌+◌, ◌++◌, ◌∷◌, [], ℕ, List, ap, subst, sym, ◌∙◌, refl, arith}
 use Rattle.store_commits.specs.Inside.{IsEmpty}
 use Rattle.store_commits.specs.Run.{Done, Reply}
 use Rattle.store_commits.specs.declared.segment.Segment.{Segment}
@@ -11,7 +11,7 @@ returns c =
     let len = c.len.ensures in
     let ok = c.args.frames.ok in
     let fits = c.requires.fits in
-    let other : Segment = record { base = c.args.base; frames = c.args.frames; adds = c.args.adds; replies = c.push-2.new.self } in
+    let other : Segment = record { base = c.args.base; frames = c.args.frames; each = c.in_ok-each.each; adds = c.args.adds; replies = c.push-2.new.self } in
     record {
       other = other;
       closed = record {
@@ -22,6 +22,7 @@ returns c =
       };
       base_is = refl;
       frames_are = refl;
+      each_are = c.in_ok-each.ensures ∙ ap (λ (l : List ℕ). l ∷ []) c.deref.ensures.value;
       adds_is = refl;
       replies = c.in_ok-push-2.ensures.items ∙ ap (λ (l : List Reply). l ++ Done c.args.seq ∷ []) c.new-replies.ensures.items;
       left = omega (arith, fits);

@@ -1,4 +1,4 @@
-use Rattle.std.proofs.Common.{◌≡◌, ◌<◌, ◌∷◌, [], ℕ, length, ap, subst, ◌∙◌, arith, true}
+use Rattle.std.proofs.Common.{◌≡◌, ◌<◌, ◌∷◌, [], ℕ, List, length, ap, subst, ◌∙◌, arith, true}
 use Rattle.std.proofs.lemmas.Result.{on_ok_weaker}
 use Rattle.doc_changes.specs.State.{Good, State}
 use Rattle.doc_machine.specs.Transaction.{transaction_of}
@@ -27,7 +27,7 @@ returns-then-used-self-clause-ok c = on_ok_weaker c.alone.result (λ alone a slo
     let left = alone.left in
     let bytes = alone.bytes in
     further_behind a slots p t is asked tried.accepted (omega (arith, over, size)) tried.made.good (subst Good tried.made.state c.transact.ensures.good) c.alone.new.self alone.other alone.closed c.transact.new.self tried.made
-    (alone.frames_are ∙ c.requires.frames) (alone.adds_is ∙ c.len-adds.ensures) (alone.replies ∙ ap (λ (n : ℕ). Done n ∷ []) tried.seq_is) (omega (arith, bytes, size))
+    (alone.frames_are ∙ c.requires.frames) (alone.each_are ∙ ap (λ (l : List ℕ). l ∷ []) c.requires.frames) (alone.adds_is ∙ c.len-adds.ensures) (alone.replies ∙ ap (λ (n : ℕ). Done n ∷ []) tried.seq_is) (omega (arith, bytes, size))
     c.in_ok-snapshot.snapshot (c.in_ok-snapshot.ensures.frames ∙ ap (λ (s : State). snapshot_bytes p.rides s.documents s.marks) c.look.ensures.same) (omega (arith, small, len, len_frames, ok, ok_frames, size)) alone.base_is (omega (arith, left, len, len_frames, ok, ok_frames, size)))
     c.alone.ensures
 
@@ -51,7 +51,7 @@ returns-in-Some-clause-ok c = on_ok_weaker c.alone-in-Some.result (λ alone a sl
     let left = alone.left in
     let bytes = alone.bytes in
     further_instead a slots p t is asked tried.accepted (omega (arith, over, size)) tried.made.good (subst Good tried.made.state c.transact.ensures.good) c.alone-in-Some.new.self alone.other alone.closed c.transact.new.self tried.made
-    (alone.frames_are ∙ c.requires.frames) (alone.adds_is ∙ c.len-adds.ensures) (alone.replies ∙ ap (λ (n : ℕ). Done n ∷ []) tried.seq_is) (omega (arith, bytes, size))
+    (alone.frames_are ∙ c.requires.frames) (alone.each_are ∙ ap (λ (l : List ℕ). l ∷ []) c.requires.frames) (alone.adds_is ∙ c.len-adds.ensures) (alone.replies ∙ ap (λ (n : ℕ). Done n ∷ []) tried.seq_is) (omega (arith, bytes, size))
     c.in-Some.after found.1 found.0 fits alone.base_is (omega (arith, left, len_after, fits))
     (nowhere a slots p t is asked tried.accepted (omega (arith, over, size)) tried.made.good (subst Good tried.made.state c.transact.ensures.good) c.alone-in-Some.new.self alone.other alone.closed
     c.in_ok-snapshot.snapshot.items (c.in_ok-snapshot.ensures.frames ∙ ap (λ (s : State). snapshot_bytes p.rides s.documents s.marks) c.look.ensures.same) (omega (arith, wide, len, len_frames, ok, ok_frames, size))))
@@ -74,7 +74,7 @@ returns-clause-ok c = on_ok_weaker c.full.result (λ full a slots is.
     let ok_frames = c.args.frames.ok in
     further_full a slots p t is asked tried.accepted (omega (arith, over, size)) tried.made.good (subst Good tried.made.state c.transact.ensures.good) c.full.new.self full.other full.closed
     c.in_ok-snapshot.snapshot.items (c.in_ok-snapshot.ensures.frames ∙ ap (λ (s : State). snapshot_bytes p.rides s.documents s.marks) c.look.ensures.same) (omega (arith, wide, len, len_frames, ok, ok_frames, size))
-    (subst (λ (s : State). p.rides ≡ true → p.capacity < length (snapshot_bytes p.rides s.documents s.marks)) tried.made.state (subst (IsInstead p c.transact.new.self.state) c.in_default.is c.in_ok-after.ensures)) full.base_is full.frames_are full.adds_is full.replies full.left full.bytes c.keep.new.self back)
+    (subst (λ (s : State). p.rides ≡ true → p.capacity < length (snapshot_bytes p.rides s.documents s.marks)) tried.made.state (subst (IsInstead p c.transact.new.self.state) c.in_default.is c.in_ok-after.ensures)) full.base_is full.frames_are full.each_are full.adds_is full.replies full.left full.bytes c.keep.new.self back)
     c.full.ensures
 
 pub returns-clause-origin : goal.returns-clause-origin

@@ -9,7 +9,7 @@ pub returns : goal.returns
 returns c =
     let p = c.args.self.now in
     let none = c.new-full.ensures in
-    let other : Segment = record { base = c.new-full.result.base; frames = c.new-full.result.frames; adds = c.new-full.result.adds; replies = c.push-2.new.self } in
+    let other : Segment = record { base = c.new-full.result.base; frames = c.new-full.result.frames; each = c.new-full.result.each; adds = c.new-full.result.adds; replies = c.push-2.new.self } in
     record {
       other = other;
       closed = record {
@@ -20,6 +20,7 @@ returns c =
       };
       base_is = none.base;
       frames_are = none.frames;
+      each_are = none.each;
       adds_is = none.adds;
       replies = c.in_ok-push-2.ensures.items ∙ ap (λ (l : List Reply). l ++ Refused c.plain.result ∷ []) none.replies ∙ ap (λ (r : Refusal). Refused r ∷ []) c.plain.ensures;
       left = refl;
