@@ -25,14 +25,14 @@ HEAD = """# Where a public contract says that there is some device, disk, store 
 """
 
 # A device or what stands on one; `D` is the device of a generic call.
-KIND = r"(?:FileDevice|MemDisk|Fuse|FailOnce|Disk|History|Held|D|(?:Snapshot|StoreView|View|Store|Journal) [^()×→]+)"
+KIND = r"(?:FileDevice|MemDisk|Fuse|FailOnce|Disk|History|Held|D|(?:Snapshot|StoreView|RecordedView|View|Store|Journal) [^()×→]+)"
 NAMES = r"\(((?:[^\s():]+ )+): "
 BOUND = re.compile(rf"{NAMES}{KIND}\) ×")
 TAKEN = re.compile(rf"{NAMES}{KIND}\)")
 FIELD = re.compile(rf"^  pub ((?:[^\s:]+ )+): {KIND}$")
 STATEMENT = re.compile(r": Type 0( where)?$")
-# Records that are no statements: a store, a journal and a run of sectors as a clause sees them.
-VALUES = {"JournalView", "StoreView", "View"}
+# Records that are no statements: a store, alone or with its history, a journal and a run of sectors as a clause sees them.
+VALUES = {"JournalView", "Known", "Recorded", "RecordedView", "StoreView", "View"}
 CLAUSE = re.compile(r"^ *ensures (\w+)? ?\{")
 
 

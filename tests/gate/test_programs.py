@@ -80,11 +80,11 @@ class Jpstore:
         self.shows(*words, errors=errors, status=1, **how)
 
     def serves_until_killed(self, given, output):
-        """The program serves the file, gives this reply to a line, and is killed."""
+        """The program serves the file, gives these replies to lines, and is killed."""
         with subprocess.Popen([self.program, "serve", self.file], stdin=subprocess.PIPE, stdout=subprocess.PIPE, text=True) as served:
             served.stdin.write(given)
             served.stdin.flush()
-            found = served.stdout.readline()
+            found = "".join(served.stdout.readline() for _ in output.splitlines())
             served.kill()
         if found != output:
             raise Wrong(f"serve: wanted {output}, found {found}")
@@ -716,6 +716,74 @@ def a_refused_mark_has_that_which_its_batch_left(jpstore):
         os.unlink(jpstore.file)
 
 
+# Transactions, and how the line `changes` tells each: a change, one with a mark, and two together.
+FOLLOWED = [
+    (CREATE, done(1), '{"changes":[{"cmd":"create","doc":{"a":1},"name":"d","schema":true}],"first":1,"last":1}'),
+    (with_mark(PATCH, "\t\""), done(2),
+     '{"changes":[{"cmd":"patch","name":"d","ops":[]}],"first":2,"last":2,"mark":{"key":"k","value":"\\t\\""}}'),
+    ('{"cmd":"transaction","changes":[{"schema":true,"doc":"\\u00e9","cmd":"create","name":"e"},{"name":"e","cmd":"delete"}]}\n', done(4),
+     '{"changes":[{"cmd":"create","doc":"\u00e9","name":"e","schema":true},{"cmd":"delete","name":"e"}],"first":3,"last":4}'),
+]
+FOLLOWED_LINES, FOLLOWED_REPLIES = "".join(line for line, _, _ in FOLLOWED), "".join(reply for _, reply, _ in FOLLOWED)
+
+
+def changes(after, most=4_194_304):
+    return f'{{"cmd":"changes","from":{after},"max":{most}}}\n'
+
+
+def told(first, last, seq, identity=IDENTITY):
+    """The reply that tells these of FOLLOWED."""
+    shown = ",".join(transaction for _, _, transaction in FOLLOWED[first:last])
+    named = f'"identity":"{identity}",' if identity else ""
+    return f'{{"changes":[{shown}],{named}"ok":true,"seq":{seq}}}\n'
+
+
+def gone(floor, seq):
+    return f'{{"from":{floor},"gone":true,"ok":true,"seq":{seq}}}\n'
+
+
+def the_changes_after_one_are_told_whole(jpstore):
+    jpstore.run("format", jpstore.file, *BOTH, "--format", "3", "--id", IDENTITY)
+    refused = '{"cmd":"delete","name":"f"}\n'
+    given = changes(0) + FOLLOWED_LINES + refused + "".join(map(changes, range(6)))
+    wanted = told(0, 0, 0) + FOLLOWED_REPLIES + '{"error":"no-document","number":21,"ok":false}\n'
+    wanted += told(0, 3, 4) + told(1, 3, 4) + told(2, 3, 4) + gone(0, 4) + told(3, 3, 4) + gone(0, 4)
+    jpstore.shows("serve", jpstore.file, given=given, output=wanted)
+    # An opening knows them again: the first has 67 bytes, and the second 113.
+    jpstore.shows("serve", jpstore.file, given=changes(0, 1) + changes(0, 179) + changes(0, 180) + changes(2, 1), output=told(0, 1, 4) * 2 + told(0, 2, 4) + told(2, 3, 4))
+    # A snapshot forgets none, but is all that the next opening knows.
+    jpstore.shows("serve", jpstore.file, given='{"cmd":"snapshot"}\n' + changes(0), output='{"ok":true,"used":133}\n' + told(0, 3, 4))
+    jpstore.shows("serve", jpstore.file, given=changes(0) + changes(4) + changes(5), output=gone(4, 4) + told(3, 3, 4) + gone(4, 4))
+
+
+def the_changes_of_a_killed_program_are_told(jpstore):
+    jpstore.run("format", jpstore.file, *BOTH, "--format", "3", "--id", IDENTITY)
+    jpstore.serves_until_killed(FOLLOWED_LINES, FOLLOWED_REPLIES)
+    jpstore.shows("serve", jpstore.file, "--batch", "8", given=changes(1), output=told(1, 3, 4))
+
+
+def a_history_has_the_bytes_that_were_asked_for(jpstore):
+    jpstore.run("format", jpstore.file, *BOTH, "--format", "3", "--id", IDENTITY)
+    jpstore.shows("serve", jpstore.file, "--history", "0", given=FOLLOWED_LINES + changes(2) + changes(4), output=FOLLOWED_REPLIES + gone(4, 4) + told(3, 3, 4))
+    jpstore.shows("serve", jpstore.file, "--history", "0", given=changes(0), output=gone(4, 4))
+    # The last transaction has 103 bytes.
+    jpstore.shows("serve", jpstore.file, "--history", "103", given=changes(0) + changes(2), output=gone(2, 4) + told(2, 3, 4))
+    jpstore.shows("serve", jpstore.file, "--history", "102", given=changes(2), output=gone(4, 4))
+    jpstore.shows("mem", "--sectors", "16", "--history", "66", given=CREATE + changes(0), output=DONE + gone(1, 1))
+    jpstore.shows("mem", "--sectors", "16", "--history", "67", given=CREATE + changes(0), output=DONE + told(0, 1, 1, None))
+
+
+def a_store_of_format_2_tells_what_it_did_since_it_was_opened(jpstore):
+    jpstore.run("format", jpstore.file, *BOTH)
+    jpstore.shows("serve", jpstore.file, given=CREATE + changes(0), output=DONE + told(0, 1, 1, None))
+    jpstore.shows("serve", jpstore.file, given=changes(0) + changes(1), output=gone(1, 1) + told(0, 0, 1, None))
+
+
+def lines_that_ask_for_no_changes(jpstore):
+    lines = [changes(0, 0), changes(0, 4_194_305), changes(-1), changes('"0"'), '{"cmd":"changes","from":0}\n', '{"cmd":"changes","max":1}\n', changes(0).replace("}", ',"name":"d"}')]
+    jpstore.shows("mem", "--sectors", "16", given="".join(lines), output=NO_COMMAND * len(lines))
+
+
 def upgrades_that_fail(jpstore):
     jpstore.fails("upgrade", jpstore.file, errors="jpstore: file\n")
     jpstore.run("format", jpstore.file, *BOTH)
@@ -903,7 +971,7 @@ def help_ends_with_0(jpstore):
         (["serve", "--help"], "      --strict "),
         (["repair", "--help"], "Usage: jpstore repair [OPTIONS] <FILE>\n"),
         (["upgrade", "--help"], "Usage: jpstore upgrade [OPTIONS] <FILE>\n"),
-        (["mem", "--help"], "Usage: jpstore mem --sectors <N>\n"),
+        (["mem", "--help"], "Usage: jpstore mem [OPTIONS] --sectors <N>\n"),
     ):
         ended = jpstore.run(*words)
         if ended.returncode or ended.stderr or text not in ended.stdout:
@@ -970,6 +1038,11 @@ TESTS = [
     a_mark_stays_in_format_3,
     format_2_has_no_marks,
     a_refused_mark_has_that_which_its_batch_left,
+    the_changes_after_one_are_told_whole,
+    the_changes_of_a_killed_program_are_told,
+    a_history_has_the_bytes_that_were_asked_for,
+    a_store_of_format_2_tells_what_it_did_since_it_was_opened,
+    lines_that_ask_for_no_changes,
     upgrades_that_fail,
     one_patch_keeps_no_more_than_three_documents,
     output_that_cannot_be_written,

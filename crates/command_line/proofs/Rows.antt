@@ -1,165 +1,21 @@
 -- What a parse makes of the words that are a call's row.
-use Rattle.std.proofs.Common.{◌≡◌, ℕ, List, [], ◌∷◌, ◌++◌, Option, Some, IfSome, codes, refl, true, false, eqb, sym, ◌≤◌, ◌<◌, ◌^◌, ap, ◌∙◌, subst, Bool, Result, Ok, Err, length, get_or, decimal, cond, arith, IfOk, IfErr, MatchResult, None, inl, inr, find, unwrap_or}
-use Rattle.std.specs.List.{list_all}
-use Rattle.std.specs.Str.Parse.{IsNumeral, digits_value, without_leading_plus}
-use Rattle.std.proofs.lemmas.Fmt.{decimal_nonempty, first_decimal, decimal_is_IsNumeral}
-use Rattle.std.proofs.lemmas.Bool.{ne_eqb}
-use Rattle.clap.specs.Simple.{argument_words, built, label_of, names_of}
-use Rattle.clap.specs.Takes.{default_passes, is_valid, level_passes, settle_passes, step_passes, turn_passes, walk_passes}
-use Rattle.clap.specs.ValueTests.{accepts}
-use Rattle.clap.specs.Walk.{Walk, answers_to, arg_by_id, arg_by_index, finished, idle, nothing_held, option, option_word, to_positional, value, walk, walk_from, walked}
-use Rattle.clap.specs.Words.{App, FailsBy, HasKind, Kinds, Row, Shape, Text, first_of, is_simple, is_simple_and_free, new_app, one_of, subcommand_of, takes, Accepts}
-use Rattle.clap.specs.declared.builder.value_parser.Reading.TheVariants.{AsWritten}
-use Rattle.clap.specs.declared.builder.value_parser.ValueParser.TheVariants.{Unsigned}
-use Rattle.clap.specs.declared.parser.matches.ValueSource.TheVariants.{CommandLine, DefaultValue}
+use Rattle.std.proofs.Common.{◌≡◌, ℕ, List, [], ◌∷◌, ◌++◌, Option, Some, IfSome, codes, refl, true, false, ◌≤◌, ◌<◌, ◌^◌, Bool, Result, Ok, Err, decimal, arith, IfOk, IfErr, MatchResult, None, inl, inr}
+use Rattle.clap.specs.Walk.{idle, nothing_held, walk_from}
+use Rattle.clap.specs.Words.{FailsBy, HasKind, Kinds, Row, Shape, Text, first_of, one_of, subcommand_of, takes}
 use Rattle.clap.specs.declared.error.Error.{Error}
 use Rattle.clap.proofs.OnLiterals.{clap_on_literals}
-use Rattle.clap.proofs.ValueTestLemmas.{Accepts-accepts}
-use Rattle.command_line.proofs.Walks.{IsPlain, Steps, Goes, gone, goes, held, standing, plain_passes, plain_stands, value_passes, value_stands}
-use Rattle.command_line.specs.declared.limits.TheConstants.{MIN_SECTORS, MAX_SECTORS, MAX_MEMORY_SECTORS, MIN_FORMAT, MAX_FORMAT, MAX_BATCH, MAX_PUMP}
-use Rattle.command_line.specs.Call.{Asked, format, serve, check, repair, copy, upgrade, mem, deep, salvage, dump, InRange, IsGiven, IsIdentityGiven, IsModeGiven, IsNoOption, IsRowOf, flag_words}
-use Rattle.command_line.specs.Options.{app, HoldsFile, HoldsFlag, HoldsIdentity, HoldsMode, HoldsNew, MayHold, Means, MeansWhy, Spells, flag_text}
-
-pub simple : is_simple app ≡ true
-simple = refl
-
-pub simple_and_free : is_simple_and_free app ≡ true
-simple_and_free = refl
-
--- what is found for an argument with one text
-abbrev given : Text → Text → Row
-given id text = record { id = id; values = text ∷ []; count = None; source = Some CommandLine; reading = AsWritten }
-
--- what is found for a flag
-abbrev flag_row : Text → Bool → Row
-flag_row id set = record { id = id; values = flag_text set ∷ []; count = None; source = Some (cond set CommandLine DefaultValue); reading = AsWritten }
-
-plain : (word : Text) → IsNoOption word → IsPlain word
-plain [] h = record { flag = refl; rest = refl }
-plain (b ∷ text) h =
-    let e : eqb b 45 ≡ false = ne_eqb b 45 h in
-    record { flag = simp e; rest = simp e }
-
--- the words are taken, as that command with those rows
-abbrev AreRead : List Text → Text → List Row → Type 0
-AreRead words name rows = (subcommand_of app words ≡ Some (name, rows)) × (takes app words ≡ true)
-
--- ---- numbers
-
--- a word that spells a number in range
-record IsNumber (n : ℕ) (least : ℕ) (most : ℕ) (word : Text) : Type 0 where
-  plain : IsPlain word
-  spells : Spells word n
-  accepted : Accepts false (Unsigned least most) word
-
-number : (n least most : ℕ) (word : Text) → 1 ≤ n → least ≤ n → n ≤ most → most < 2 ^ 64 → word ≡ decimal n → IsNumber n least most word
-number n least most [] one low high short e = absurd (let none = ap length e in let long = decimal_nonempty n (omega arith) in omega arith)
-number n least most (b ∷ text) one low high short e =
-    let first = first_decimal n (omega arith) (omega arith) in
-    let same : b ≡ get_or (decimal n) 0 0 = ap (λ t. get_or t 0 0) e in
-    let numeral = decimal_is_IsNumeral n (omega arith) in
-    let digits : IsNumeral 10 (b ∷ text) = subst (IsNumeral 10) (sym e) numeral.0 in
-    let value : digits_value 10 (b ∷ text) ≡ n = ap (digits_value 10) e ∙ numeral.1 in
-    let no_plus : eqb b 43 ≡ false = ne_eqb b 43 (λ q. omega arith) in
-    let bare : without_leading_plus (b ∷ text) ≡ b ∷ text = simp no_plus in
-    record {
-      plain = plain (b ∷ text) (λ q. omega arith);
-      spells = rw bare (digits, value);
-      accepted = rw bare (digits, omega arith, omega arith, omega arith);
-    }
-
--- ---- what a walk reads
-
-mem_read : (n : ℕ) (word : Text) → IsNumber n MIN_SECTORS MAX_MEMORY_SECTORS word
-    → AreRead (codes "mem" ∷ codes "--sectors" ∷ word ∷ []) (codes "mem") (given (codes "sectors") word ∷ [])
-unfolding clap_on_literals
-mem_read n word number =
-    let e = number.plain.flag in
-    let f = number.plain.rest in
-    let passes = Accepts-accepts false (Unsigned MIN_SECTORS MAX_MEMORY_SECTORS) word number.accepted in
-    (simp e (simp f), simp e (simp f (simp passes)))
-
--- ---- what a walk over a file and options reads
-
--- the commands as a parse has them
-abbrev built_for : Text → Shape
-built_for name = unwrap_or (find (λ s. answers_to name (label_of s)) (built app).subs) (new_app []).top
-
-abbrev serve_built : Shape
-serve_built = built_for (codes "serve")
+use Rattle.command_line.proofs.Walks.{IsPlain, gone, goes, standing}
+use Rattle.command_line.proofs.Readings.{IsChecked, Read, built_for, checked, flag_row, given, met, number, option_words, plain, plain_step, read_by, value_step}
+use Rattle.command_line.proofs.Serves.{batch_first_read, pump_first_read}
+use Rattle.command_line.specs.declared.limits.TheConstants.{MIN_SECTORS, MAX_SECTORS, MAX_MEMORY_SECTORS, MIN_FORMAT, MAX_FORMAT, MAX_BATCH, MAX_PUMP, MAX_HISTORY}
+use Rattle.command_line.specs.Call.{Asked, format, serve, check, repair, copy, upgrade, mem, deep, salvage, dump, InRange, IsGiven, IsHistoryGiven, IsIdentityGiven, IsModeGiven, IsRowOf, flag_words}
+use Rattle.command_line.specs.Options.{app, HoldsFile, HoldsFlag, HoldsHistory, HoldsIdentity, HoldsMode, HoldsNew, MayHold, Means, MeansWhy}
 
 abbrev format_built : Shape
 format_built = built_for (codes "format")
 
 abbrev upgrade_built : Shape
 upgrade_built = built_for (codes "upgrade")
-
--- a parse passes where the command that it enters does, which passes where its walk does, to an end that does
-passes_by : (a : App) (words rest : List Text) (name : Text) (s : Shape) (end : Walk) → is_simple a ≡ true
-    → (walk (built a).top.rules (names_of (built a)) nothing_held (argument_words a words)).stopped ≡ Some (name, rest)
-    → find (λ (t : Shape). answers_to name (label_of t)) (built a).subs ≡ Some s
-    → level_passes (built a).top (names_of (built a)) nothing_held (argument_words a words) true ≡ true
-    → walk s.rules [] nothing_held rest ≡ end
-    → walk_passes s [] (walk_from nothing_held) rest ≡ true
-    → settle_passes s.rules s.args_override_self end.held ≡ true
-    → list_all default_passes s.rules ≡ true
-    → is_valid s (finished s.rules end.held) false ≡ true
-    → takes a words ≡ true
-passes_by a words rest name s end plain stop found top walked passes settled defaults valid =
-    rw plain (rw stop (rw found (rw top (rw walked (rw passes (rw settled (rw defaults (rw valid refl))))))))
-
--- a parse enters the command that it meets, with what the walk over its words found
-met_by : (a : App) (words rest : List Text) (name : Text) (s : Shape) (end : Walk)
-    → (walk (built a).top.rules (names_of (built a)) nothing_held (argument_words a words)).stopped ≡ Some (name, rest)
-    → find (λ (t : Shape). answers_to name (label_of t)) (built a).subs ≡ Some s
-    → walk s.rules [] nothing_held rest ≡ end
-    → subcommand_of a words ≡ Some (s.name, finished s.rules end.held)
-met_by a words rest name s end stop found walked = rw stop (rw found (rw walked refl))
-
--- the words of a command are taken, with what the walk over them found
-read_by : (rest : List Text) (name : Text) (s : Shape) (end : Walk)
-    → (walk (built app).top.rules (names_of (built app)) nothing_held (name ∷ rest)).stopped ≡ Some (name, rest)
-    → find (λ (t : Shape). answers_to name (label_of t)) (built app).subs ≡ Some s
-    → level_passes (built app).top (names_of (built app)) nothing_held (name ∷ rest) true ≡ true
-    → Goes s (walk_from nothing_held) rest end
-    → settle_passes s.rules s.args_override_self end.held ≡ true
-    → list_all default_passes s.rules ≡ true
-    → is_valid s (finished s.rules end.held) false ≡ true
-    → (subcommand_of app (name ∷ rest) ≡ Some (s.name, finished s.rules end.held)) × (takes app (name ∷ rest) ≡ true)
-read_by rest name s end stop found top walked settled defaults valid = (
-  met_by app (name ∷ rest) rest name s end stop found walked.ends,
-  passes_by app (name ∷ rest) rest name s end simple stop found top walked.ends walked.passes settled defaults valid,
-)
-
--- an option, of which there may be none, by its words
-abbrev option_words : Text → Option Text → List Text
-option_words flag (Some text) = flag ∷ text ∷ []
-option_words flag None = []
-
--- a text that an option's number may be
-abbrev IsChecked : ℕ → ℕ → Text → Type 0
-IsChecked least most text = IsPlain text × (accepts false (Unsigned least most) text ≡ true)
-
--- a walk takes a word, to what it then is
-met : (s : Shape) (w : Walk) (word : Text) → turn_passes s [] w word ≡ true → Steps s w word (walked s.rules [] w word)
-met s w word passes = record { passes = passes; stands = refl }
-
--- the same of a word of an argument without a flag, and of the text of an option
-plain_step : (s : Shape) (pending : Option (Text × List Text)) (position : ℕ) (word : Text) → IsPlain word → step_passes s position (held [] pending) value ≡ true
-    → Steps s (standing [] pending idle position) word (to_positional s.rules (arg_by_index s.rules position) word (standing [] pending idle position) (held [] pending))
-plain_step s pending position word h passes = record { passes = plain_passes s [] pending position word h ∙ passes; stands = plain_stands s [] pending position word h }
-
-value_step : (s : Shape) (rows : List Row) (id : Text) (position : ℕ) (word : Text) → IsPlain word
-    → Steps s (standing rows (Some (id, [])) (option id) position) word
-    (record (standing rows (Some (id, [])) (option id) position) { held = (option_word (arg_by_id s.rules id) id word (held rows (Some (id, [])))).0; waiting = (option_word (arg_by_id s.rules id) id word (held rows (Some (id, [])))).1 })
-value_step s rows id position word h = record { passes = value_passes s rows (Some (id, [])) id position word h; stands = value_stands s rows (Some (id, [])) id position word h }
-
--- the words of a command are taken, with what is found for its arguments
-record Read (words : List Text) (name : Text) (Found : List Row → Type 0) : Type 0 where
-  rows : List Row
-  met : subcommand_of app words ≡ Some (name, rows)
-  taken : takes app words ≡ true
-  holds : Found rows
 
 abbrev check_built : Shape
 check_built = built_for (codes "check")
@@ -175,6 +31,26 @@ salvage_built = built_for (codes "salvage")
 
 abbrev dump_built : Shape
 dump_built = built_for (codes "dump")
+
+abbrev mem_built : Shape
+mem_built = built_for (codes "mem")
+
+-- what is found for the arguments of `mem`
+abbrev FoundMem : Text → Option Text → List Row → Type 0
+FoundMem sectors history rows =
+    (one_of (codes "sectors") rows ≡ Some sectors) × (one_of (codes "history") rows ≡ history) × (first_of (codes "history") rows ≡ history)
+
+mem_read : (sectors : Text) (history : Option Text) → IsChecked MIN_SECTORS MAX_MEMORY_SECTORS sectors → IfSome history (IsChecked 0 MAX_HISTORY)
+    → Read (codes "mem" ∷ codes "--sectors" ∷ sectors ∷ option_words (codes "--history") history) (codes "mem") (FoundMem sectors history)
+unfolding clap_on_literals
+mem_read sectors (Some history) s n =
+    let walked = goes (met mem_built (walk_from nothing_held) (codes "--sectors") refl) (goes (value_step mem_built [] (codes "sectors") 1 sectors s.0) (goes (met mem_built (standing [] (Some (codes "sectors", sectors ∷ [])) idle 1) (codes "--history") (simp s.1)) (goes (value_step mem_built (given (codes "sectors") sectors ∷ []) (codes "history") 1 history n.0) (gone mem_built (standing (given (codes "sectors") sectors ∷ []) (Some (codes "history", history ∷ [])) idle 1))))) in
+    let read = read_by (codes "--sectors" ∷ sectors ∷ codes "--history" ∷ history ∷ []) (codes "mem") mem_built (standing (given (codes "sectors") sectors ∷ []) (Some (codes "history", history ∷ [])) idle 1) refl refl refl walked (simp n.1) refl refl in
+    record { rows = _; met = read.0; taken = read.1; holds = (refl, refl, refl) }
+mem_read sectors None s n =
+    let walked = goes (met mem_built (walk_from nothing_held) (codes "--sectors") refl) (goes (value_step mem_built [] (codes "sectors") 1 sectors s.0) (gone mem_built (standing [] (Some (codes "sectors", sectors ∷ [])) idle 1))) in
+    let read = read_by (codes "--sectors" ∷ sectors ∷ []) (codes "mem") mem_built (standing [] (Some (codes "sectors", sectors ∷ [])) idle 1) refl refl refl walked (simp s.1) refl refl in
+    record { rows = _; met = read.0; taken = read.1; holds = (refl, refl, refl) }
 
 check_read : (file : Text) (strict why : Bool) → IsPlain file
     → Read (codes "check" ∷ file ∷ flag_words (codes "--strict") strict ++ flag_words (codes "--why") why) (codes "check")
@@ -467,158 +343,11 @@ format_read file sectors None None None false false h s v m d =
     let read = read_by (file ∷ codes "--sectors" ∷ sectors ∷ []) (codes "format") format_built (standing (given (codes "file") file ∷ []) (Some (codes "sectors", sectors ∷ [])) idle 2) refl refl refl walked (simp s.1) refl refl in
     record { rows = _; met = read.0; taken = read.1; holds = (refl, refl, refl, refl, refl, refl, refl, refl) }
 
--- what is found for the arguments of `serve`
-abbrev FoundServe : Text → Option Text → Option Text → Bool → Bool → List Row → Type 0
-FoundServe file batch pump strict why rows =
-    HoldsFile file rows × (one_of (codes "batch") rows ≡ batch) × (first_of (codes "batch") rows ≡ batch)
-    × (one_of (codes "pump") rows ≡ pump) × (first_of (codes "pump") rows ≡ pump) × HoldsFlag (codes "strict") strict rows × HoldsFlag (codes "why") why rows
-
-batch_first_read : (file : Text) (batch pump : Option Text) (strict why : Bool) → IsPlain file → IfSome batch (IsChecked 1 MAX_BATCH) → IfSome pump (IsChecked 1 MAX_PUMP)
-    → Read (codes "serve" ∷ file ∷ option_words (codes "--batch") batch ++ option_words (codes "--pump") pump ++ flag_words (codes "--strict") strict ++ flag_words (codes "--why") why)
-    (codes "serve") (FoundServe file batch pump strict why)
-unfolding clap_on_literals
-batch_first_read file (Some batch) (Some pump) true true h b p =
-    let walked = goes (plain_step serve_built None 1 file h refl) (goes (met serve_built (standing [] (Some (codes "file", file ∷ [])) idle 2) (codes "--batch") refl) (goes (value_step serve_built (given (codes "file") file ∷ []) (codes "batch") 2 batch b.0) (goes (met serve_built (standing (given (codes "file") file ∷ []) (Some (codes "batch", batch ∷ [])) idle 2) (codes "--pump") (simp b.1)) (goes (value_step serve_built (given (codes "file") file ∷ given (codes "batch") batch ∷ []) (codes "pump") 2 pump p.0) (goes (met serve_built (standing (given (codes "file") file ∷ given (codes "batch") batch ∷ []) (Some (codes "pump", pump ∷ [])) idle 2) (codes "--strict") (simp p.1)) (goes (met serve_built (standing (given (codes "file") file ∷ given (codes "batch") batch ∷ given (codes "pump") pump ∷ flag_row (codes "strict") true ∷ []) None idle 2) (codes "--why") refl) (gone serve_built (standing (given (codes "file") file ∷ given (codes "batch") batch ∷ given (codes "pump") pump ∷ flag_row (codes "strict") true ∷ flag_row (codes "why") true ∷ []) None idle 2)))))))) in
-    let read = read_by (file ∷ codes "--batch" ∷ batch ∷ codes "--pump" ∷ pump ∷ codes "--strict" ∷ codes "--why" ∷ []) (codes "serve") serve_built (standing (given (codes "file") file ∷ given (codes "batch") batch ∷ given (codes "pump") pump ∷ flag_row (codes "strict") true ∷ flag_row (codes "why") true ∷ []) None idle 2) refl refl refl walked refl refl refl in
-    record { rows = _; met = read.0; taken = read.1; holds = (refl, refl, refl, refl, refl, refl, refl) }
-batch_first_read file (Some batch) (Some pump) true false h b p =
-    let walked = goes (plain_step serve_built None 1 file h refl) (goes (met serve_built (standing [] (Some (codes "file", file ∷ [])) idle 2) (codes "--batch") refl) (goes (value_step serve_built (given (codes "file") file ∷ []) (codes "batch") 2 batch b.0) (goes (met serve_built (standing (given (codes "file") file ∷ []) (Some (codes "batch", batch ∷ [])) idle 2) (codes "--pump") (simp b.1)) (goes (value_step serve_built (given (codes "file") file ∷ given (codes "batch") batch ∷ []) (codes "pump") 2 pump p.0) (goes (met serve_built (standing (given (codes "file") file ∷ given (codes "batch") batch ∷ []) (Some (codes "pump", pump ∷ [])) idle 2) (codes "--strict") (simp p.1)) (gone serve_built (standing (given (codes "file") file ∷ given (codes "batch") batch ∷ given (codes "pump") pump ∷ flag_row (codes "strict") true ∷ []) None idle 2))))))) in
-    let read = read_by (file ∷ codes "--batch" ∷ batch ∷ codes "--pump" ∷ pump ∷ codes "--strict" ∷ []) (codes "serve") serve_built (standing (given (codes "file") file ∷ given (codes "batch") batch ∷ given (codes "pump") pump ∷ flag_row (codes "strict") true ∷ []) None idle 2) refl refl refl walked refl refl refl in
-    record { rows = _; met = read.0; taken = read.1; holds = (refl, refl, refl, refl, refl, refl, refl) }
-batch_first_read file (Some batch) (Some pump) false true h b p =
-    let walked = goes (plain_step serve_built None 1 file h refl) (goes (met serve_built (standing [] (Some (codes "file", file ∷ [])) idle 2) (codes "--batch") refl) (goes (value_step serve_built (given (codes "file") file ∷ []) (codes "batch") 2 batch b.0) (goes (met serve_built (standing (given (codes "file") file ∷ []) (Some (codes "batch", batch ∷ [])) idle 2) (codes "--pump") (simp b.1)) (goes (value_step serve_built (given (codes "file") file ∷ given (codes "batch") batch ∷ []) (codes "pump") 2 pump p.0) (goes (met serve_built (standing (given (codes "file") file ∷ given (codes "batch") batch ∷ []) (Some (codes "pump", pump ∷ [])) idle 2) (codes "--why") (simp p.1)) (gone serve_built (standing (given (codes "file") file ∷ given (codes "batch") batch ∷ given (codes "pump") pump ∷ flag_row (codes "why") true ∷ []) None idle 2))))))) in
-    let read = read_by (file ∷ codes "--batch" ∷ batch ∷ codes "--pump" ∷ pump ∷ codes "--why" ∷ []) (codes "serve") serve_built (standing (given (codes "file") file ∷ given (codes "batch") batch ∷ given (codes "pump") pump ∷ flag_row (codes "why") true ∷ []) None idle 2) refl refl refl walked refl refl refl in
-    record { rows = _; met = read.0; taken = read.1; holds = (refl, refl, refl, refl, refl, refl, refl) }
-batch_first_read file (Some batch) (Some pump) false false h b p =
-    let walked = goes (plain_step serve_built None 1 file h refl) (goes (met serve_built (standing [] (Some (codes "file", file ∷ [])) idle 2) (codes "--batch") refl) (goes (value_step serve_built (given (codes "file") file ∷ []) (codes "batch") 2 batch b.0) (goes (met serve_built (standing (given (codes "file") file ∷ []) (Some (codes "batch", batch ∷ [])) idle 2) (codes "--pump") (simp b.1)) (goes (value_step serve_built (given (codes "file") file ∷ given (codes "batch") batch ∷ []) (codes "pump") 2 pump p.0) (gone serve_built (standing (given (codes "file") file ∷ given (codes "batch") batch ∷ []) (Some (codes "pump", pump ∷ [])) idle 2)))))) in
-    let read = read_by (file ∷ codes "--batch" ∷ batch ∷ codes "--pump" ∷ pump ∷ []) (codes "serve") serve_built (standing (given (codes "file") file ∷ given (codes "batch") batch ∷ []) (Some (codes "pump", pump ∷ [])) idle 2) refl refl refl walked (simp p.1) refl refl in
-    record { rows = _; met = read.0; taken = read.1; holds = (refl, refl, refl, refl, refl, refl, refl) }
-batch_first_read file (Some batch) None true true h b p =
-    let walked = goes (plain_step serve_built None 1 file h refl) (goes (met serve_built (standing [] (Some (codes "file", file ∷ [])) idle 2) (codes "--batch") refl) (goes (value_step serve_built (given (codes "file") file ∷ []) (codes "batch") 2 batch b.0) (goes (met serve_built (standing (given (codes "file") file ∷ []) (Some (codes "batch", batch ∷ [])) idle 2) (codes "--strict") (simp b.1)) (goes (met serve_built (standing (given (codes "file") file ∷ given (codes "batch") batch ∷ flag_row (codes "strict") true ∷ []) None idle 2) (codes "--why") refl) (gone serve_built (standing (given (codes "file") file ∷ given (codes "batch") batch ∷ flag_row (codes "strict") true ∷ flag_row (codes "why") true ∷ []) None idle 2)))))) in
-    let read = read_by (file ∷ codes "--batch" ∷ batch ∷ codes "--strict" ∷ codes "--why" ∷ []) (codes "serve") serve_built (standing (given (codes "file") file ∷ given (codes "batch") batch ∷ flag_row (codes "strict") true ∷ flag_row (codes "why") true ∷ []) None idle 2) refl refl refl walked refl refl refl in
-    record { rows = _; met = read.0; taken = read.1; holds = (refl, refl, refl, refl, refl, refl, refl) }
-batch_first_read file (Some batch) None true false h b p =
-    let walked = goes (plain_step serve_built None 1 file h refl) (goes (met serve_built (standing [] (Some (codes "file", file ∷ [])) idle 2) (codes "--batch") refl) (goes (value_step serve_built (given (codes "file") file ∷ []) (codes "batch") 2 batch b.0) (goes (met serve_built (standing (given (codes "file") file ∷ []) (Some (codes "batch", batch ∷ [])) idle 2) (codes "--strict") (simp b.1)) (gone serve_built (standing (given (codes "file") file ∷ given (codes "batch") batch ∷ flag_row (codes "strict") true ∷ []) None idle 2))))) in
-    let read = read_by (file ∷ codes "--batch" ∷ batch ∷ codes "--strict" ∷ []) (codes "serve") serve_built (standing (given (codes "file") file ∷ given (codes "batch") batch ∷ flag_row (codes "strict") true ∷ []) None idle 2) refl refl refl walked refl refl refl in
-    record { rows = _; met = read.0; taken = read.1; holds = (refl, refl, refl, refl, refl, refl, refl) }
-batch_first_read file (Some batch) None false true h b p =
-    let walked = goes (plain_step serve_built None 1 file h refl) (goes (met serve_built (standing [] (Some (codes "file", file ∷ [])) idle 2) (codes "--batch") refl) (goes (value_step serve_built (given (codes "file") file ∷ []) (codes "batch") 2 batch b.0) (goes (met serve_built (standing (given (codes "file") file ∷ []) (Some (codes "batch", batch ∷ [])) idle 2) (codes "--why") (simp b.1)) (gone serve_built (standing (given (codes "file") file ∷ given (codes "batch") batch ∷ flag_row (codes "why") true ∷ []) None idle 2))))) in
-    let read = read_by (file ∷ codes "--batch" ∷ batch ∷ codes "--why" ∷ []) (codes "serve") serve_built (standing (given (codes "file") file ∷ given (codes "batch") batch ∷ flag_row (codes "why") true ∷ []) None idle 2) refl refl refl walked refl refl refl in
-    record { rows = _; met = read.0; taken = read.1; holds = (refl, refl, refl, refl, refl, refl, refl) }
-batch_first_read file (Some batch) None false false h b p =
-    let walked = goes (plain_step serve_built None 1 file h refl) (goes (met serve_built (standing [] (Some (codes "file", file ∷ [])) idle 2) (codes "--batch") refl) (goes (value_step serve_built (given (codes "file") file ∷ []) (codes "batch") 2 batch b.0) (gone serve_built (standing (given (codes "file") file ∷ []) (Some (codes "batch", batch ∷ [])) idle 2)))) in
-    let read = read_by (file ∷ codes "--batch" ∷ batch ∷ []) (codes "serve") serve_built (standing (given (codes "file") file ∷ []) (Some (codes "batch", batch ∷ [])) idle 2) refl refl refl walked (simp b.1) refl refl in
-    record { rows = _; met = read.0; taken = read.1; holds = (refl, refl, refl, refl, refl, refl, refl) }
-batch_first_read file None (Some pump) true true h b p =
-    let walked = goes (plain_step serve_built None 1 file h refl) (goes (met serve_built (standing [] (Some (codes "file", file ∷ [])) idle 2) (codes "--pump") refl) (goes (value_step serve_built (given (codes "file") file ∷ []) (codes "pump") 2 pump p.0) (goes (met serve_built (standing (given (codes "file") file ∷ []) (Some (codes "pump", pump ∷ [])) idle 2) (codes "--strict") (simp p.1)) (goes (met serve_built (standing (given (codes "file") file ∷ given (codes "pump") pump ∷ flag_row (codes "strict") true ∷ []) None idle 2) (codes "--why") refl) (gone serve_built (standing (given (codes "file") file ∷ given (codes "pump") pump ∷ flag_row (codes "strict") true ∷ flag_row (codes "why") true ∷ []) None idle 2)))))) in
-    let read = read_by (file ∷ codes "--pump" ∷ pump ∷ codes "--strict" ∷ codes "--why" ∷ []) (codes "serve") serve_built (standing (given (codes "file") file ∷ given (codes "pump") pump ∷ flag_row (codes "strict") true ∷ flag_row (codes "why") true ∷ []) None idle 2) refl refl refl walked refl refl refl in
-    record { rows = _; met = read.0; taken = read.1; holds = (refl, refl, refl, refl, refl, refl, refl) }
-batch_first_read file None (Some pump) true false h b p =
-    let walked = goes (plain_step serve_built None 1 file h refl) (goes (met serve_built (standing [] (Some (codes "file", file ∷ [])) idle 2) (codes "--pump") refl) (goes (value_step serve_built (given (codes "file") file ∷ []) (codes "pump") 2 pump p.0) (goes (met serve_built (standing (given (codes "file") file ∷ []) (Some (codes "pump", pump ∷ [])) idle 2) (codes "--strict") (simp p.1)) (gone serve_built (standing (given (codes "file") file ∷ given (codes "pump") pump ∷ flag_row (codes "strict") true ∷ []) None idle 2))))) in
-    let read = read_by (file ∷ codes "--pump" ∷ pump ∷ codes "--strict" ∷ []) (codes "serve") serve_built (standing (given (codes "file") file ∷ given (codes "pump") pump ∷ flag_row (codes "strict") true ∷ []) None idle 2) refl refl refl walked refl refl refl in
-    record { rows = _; met = read.0; taken = read.1; holds = (refl, refl, refl, refl, refl, refl, refl) }
-batch_first_read file None (Some pump) false true h b p =
-    let walked = goes (plain_step serve_built None 1 file h refl) (goes (met serve_built (standing [] (Some (codes "file", file ∷ [])) idle 2) (codes "--pump") refl) (goes (value_step serve_built (given (codes "file") file ∷ []) (codes "pump") 2 pump p.0) (goes (met serve_built (standing (given (codes "file") file ∷ []) (Some (codes "pump", pump ∷ [])) idle 2) (codes "--why") (simp p.1)) (gone serve_built (standing (given (codes "file") file ∷ given (codes "pump") pump ∷ flag_row (codes "why") true ∷ []) None idle 2))))) in
-    let read = read_by (file ∷ codes "--pump" ∷ pump ∷ codes "--why" ∷ []) (codes "serve") serve_built (standing (given (codes "file") file ∷ given (codes "pump") pump ∷ flag_row (codes "why") true ∷ []) None idle 2) refl refl refl walked refl refl refl in
-    record { rows = _; met = read.0; taken = read.1; holds = (refl, refl, refl, refl, refl, refl, refl) }
-batch_first_read file None (Some pump) false false h b p =
-    let walked = goes (plain_step serve_built None 1 file h refl) (goes (met serve_built (standing [] (Some (codes "file", file ∷ [])) idle 2) (codes "--pump") refl) (goes (value_step serve_built (given (codes "file") file ∷ []) (codes "pump") 2 pump p.0) (gone serve_built (standing (given (codes "file") file ∷ []) (Some (codes "pump", pump ∷ [])) idle 2)))) in
-    let read = read_by (file ∷ codes "--pump" ∷ pump ∷ []) (codes "serve") serve_built (standing (given (codes "file") file ∷ []) (Some (codes "pump", pump ∷ [])) idle 2) refl refl refl walked (simp p.1) refl refl in
-    record { rows = _; met = read.0; taken = read.1; holds = (refl, refl, refl, refl, refl, refl, refl) }
-batch_first_read file None None true true h b p =
-    let walked = goes (plain_step serve_built None 1 file h refl) (goes (met serve_built (standing [] (Some (codes "file", file ∷ [])) idle 2) (codes "--strict") refl) (goes (met serve_built (standing (given (codes "file") file ∷ flag_row (codes "strict") true ∷ []) None idle 2) (codes "--why") refl) (gone serve_built (standing (given (codes "file") file ∷ flag_row (codes "strict") true ∷ flag_row (codes "why") true ∷ []) None idle 2)))) in
-    let read = read_by (file ∷ codes "--strict" ∷ codes "--why" ∷ []) (codes "serve") serve_built (standing (given (codes "file") file ∷ flag_row (codes "strict") true ∷ flag_row (codes "why") true ∷ []) None idle 2) refl refl refl walked refl refl refl in
-    record { rows = _; met = read.0; taken = read.1; holds = (refl, refl, refl, refl, refl, refl, refl) }
-batch_first_read file None None true false h b p =
-    let walked = goes (plain_step serve_built None 1 file h refl) (goes (met serve_built (standing [] (Some (codes "file", file ∷ [])) idle 2) (codes "--strict") refl) (gone serve_built (standing (given (codes "file") file ∷ flag_row (codes "strict") true ∷ []) None idle 2))) in
-    let read = read_by (file ∷ codes "--strict" ∷ []) (codes "serve") serve_built (standing (given (codes "file") file ∷ flag_row (codes "strict") true ∷ []) None idle 2) refl refl refl walked refl refl refl in
-    record { rows = _; met = read.0; taken = read.1; holds = (refl, refl, refl, refl, refl, refl, refl) }
-batch_first_read file None None false true h b p =
-    let walked = goes (plain_step serve_built None 1 file h refl) (goes (met serve_built (standing [] (Some (codes "file", file ∷ [])) idle 2) (codes "--why") refl) (gone serve_built (standing (given (codes "file") file ∷ flag_row (codes "why") true ∷ []) None idle 2))) in
-    let read = read_by (file ∷ codes "--why" ∷ []) (codes "serve") serve_built (standing (given (codes "file") file ∷ flag_row (codes "why") true ∷ []) None idle 2) refl refl refl walked refl refl refl in
-    record { rows = _; met = read.0; taken = read.1; holds = (refl, refl, refl, refl, refl, refl, refl) }
-batch_first_read file None None false false h b p =
-    let walked = goes (plain_step serve_built None 1 file h refl) (gone serve_built (standing [] (Some (codes "file", file ∷ [])) idle 2)) in
-    let read = read_by (file ∷ []) (codes "serve") serve_built (standing [] (Some (codes "file", file ∷ [])) idle 2) refl refl refl walked refl refl refl in
-    record { rows = _; met = read.0; taken = read.1; holds = (refl, refl, refl, refl, refl, refl, refl) }
-
-pump_first_read : (file : Text) (batch pump : Option Text) (strict why : Bool) → IsPlain file → IfSome batch (IsChecked 1 MAX_BATCH) → IfSome pump (IsChecked 1 MAX_PUMP)
-    → Read (codes "serve" ∷ file ∷ option_words (codes "--pump") pump ++ option_words (codes "--batch") batch ++ flag_words (codes "--strict") strict ++ flag_words (codes "--why") why)
-    (codes "serve") (FoundServe file batch pump strict why)
-unfolding clap_on_literals
-pump_first_read file (Some batch) (Some pump) true true h b p =
-    let walked = goes (plain_step serve_built None 1 file h refl) (goes (met serve_built (standing [] (Some (codes "file", file ∷ [])) idle 2) (codes "--pump") refl) (goes (value_step serve_built (given (codes "file") file ∷ []) (codes "pump") 2 pump p.0) (goes (met serve_built (standing (given (codes "file") file ∷ []) (Some (codes "pump", pump ∷ [])) idle 2) (codes "--batch") (simp p.1)) (goes (value_step serve_built (given (codes "file") file ∷ given (codes "pump") pump ∷ []) (codes "batch") 2 batch b.0) (goes (met serve_built (standing (given (codes "file") file ∷ given (codes "pump") pump ∷ []) (Some (codes "batch", batch ∷ [])) idle 2) (codes "--strict") (simp b.1)) (goes (met serve_built (standing (given (codes "file") file ∷ given (codes "pump") pump ∷ given (codes "batch") batch ∷ flag_row (codes "strict") true ∷ []) None idle 2) (codes "--why") refl) (gone serve_built (standing (given (codes "file") file ∷ given (codes "pump") pump ∷ given (codes "batch") batch ∷ flag_row (codes "strict") true ∷ flag_row (codes "why") true ∷ []) None idle 2)))))))) in
-    let read = read_by (file ∷ codes "--pump" ∷ pump ∷ codes "--batch" ∷ batch ∷ codes "--strict" ∷ codes "--why" ∷ []) (codes "serve") serve_built (standing (given (codes "file") file ∷ given (codes "pump") pump ∷ given (codes "batch") batch ∷ flag_row (codes "strict") true ∷ flag_row (codes "why") true ∷ []) None idle 2) refl refl refl walked refl refl refl in
-    record { rows = _; met = read.0; taken = read.1; holds = (refl, refl, refl, refl, refl, refl, refl) }
-pump_first_read file (Some batch) (Some pump) true false h b p =
-    let walked = goes (plain_step serve_built None 1 file h refl) (goes (met serve_built (standing [] (Some (codes "file", file ∷ [])) idle 2) (codes "--pump") refl) (goes (value_step serve_built (given (codes "file") file ∷ []) (codes "pump") 2 pump p.0) (goes (met serve_built (standing (given (codes "file") file ∷ []) (Some (codes "pump", pump ∷ [])) idle 2) (codes "--batch") (simp p.1)) (goes (value_step serve_built (given (codes "file") file ∷ given (codes "pump") pump ∷ []) (codes "batch") 2 batch b.0) (goes (met serve_built (standing (given (codes "file") file ∷ given (codes "pump") pump ∷ []) (Some (codes "batch", batch ∷ [])) idle 2) (codes "--strict") (simp b.1)) (gone serve_built (standing (given (codes "file") file ∷ given (codes "pump") pump ∷ given (codes "batch") batch ∷ flag_row (codes "strict") true ∷ []) None idle 2))))))) in
-    let read = read_by (file ∷ codes "--pump" ∷ pump ∷ codes "--batch" ∷ batch ∷ codes "--strict" ∷ []) (codes "serve") serve_built (standing (given (codes "file") file ∷ given (codes "pump") pump ∷ given (codes "batch") batch ∷ flag_row (codes "strict") true ∷ []) None idle 2) refl refl refl walked refl refl refl in
-    record { rows = _; met = read.0; taken = read.1; holds = (refl, refl, refl, refl, refl, refl, refl) }
-pump_first_read file (Some batch) (Some pump) false true h b p =
-    let walked = goes (plain_step serve_built None 1 file h refl) (goes (met serve_built (standing [] (Some (codes "file", file ∷ [])) idle 2) (codes "--pump") refl) (goes (value_step serve_built (given (codes "file") file ∷ []) (codes "pump") 2 pump p.0) (goes (met serve_built (standing (given (codes "file") file ∷ []) (Some (codes "pump", pump ∷ [])) idle 2) (codes "--batch") (simp p.1)) (goes (value_step serve_built (given (codes "file") file ∷ given (codes "pump") pump ∷ []) (codes "batch") 2 batch b.0) (goes (met serve_built (standing (given (codes "file") file ∷ given (codes "pump") pump ∷ []) (Some (codes "batch", batch ∷ [])) idle 2) (codes "--why") (simp b.1)) (gone serve_built (standing (given (codes "file") file ∷ given (codes "pump") pump ∷ given (codes "batch") batch ∷ flag_row (codes "why") true ∷ []) None idle 2))))))) in
-    let read = read_by (file ∷ codes "--pump" ∷ pump ∷ codes "--batch" ∷ batch ∷ codes "--why" ∷ []) (codes "serve") serve_built (standing (given (codes "file") file ∷ given (codes "pump") pump ∷ given (codes "batch") batch ∷ flag_row (codes "why") true ∷ []) None idle 2) refl refl refl walked refl refl refl in
-    record { rows = _; met = read.0; taken = read.1; holds = (refl, refl, refl, refl, refl, refl, refl) }
-pump_first_read file (Some batch) (Some pump) false false h b p =
-    let walked = goes (plain_step serve_built None 1 file h refl) (goes (met serve_built (standing [] (Some (codes "file", file ∷ [])) idle 2) (codes "--pump") refl) (goes (value_step serve_built (given (codes "file") file ∷ []) (codes "pump") 2 pump p.0) (goes (met serve_built (standing (given (codes "file") file ∷ []) (Some (codes "pump", pump ∷ [])) idle 2) (codes "--batch") (simp p.1)) (goes (value_step serve_built (given (codes "file") file ∷ given (codes "pump") pump ∷ []) (codes "batch") 2 batch b.0) (gone serve_built (standing (given (codes "file") file ∷ given (codes "pump") pump ∷ []) (Some (codes "batch", batch ∷ [])) idle 2)))))) in
-    let read = read_by (file ∷ codes "--pump" ∷ pump ∷ codes "--batch" ∷ batch ∷ []) (codes "serve") serve_built (standing (given (codes "file") file ∷ given (codes "pump") pump ∷ []) (Some (codes "batch", batch ∷ [])) idle 2) refl refl refl walked (simp b.1) refl refl in
-    record { rows = _; met = read.0; taken = read.1; holds = (refl, refl, refl, refl, refl, refl, refl) }
-pump_first_read file (Some batch) None true true h b p =
-    let walked = goes (plain_step serve_built None 1 file h refl) (goes (met serve_built (standing [] (Some (codes "file", file ∷ [])) idle 2) (codes "--batch") refl) (goes (value_step serve_built (given (codes "file") file ∷ []) (codes "batch") 2 batch b.0) (goes (met serve_built (standing (given (codes "file") file ∷ []) (Some (codes "batch", batch ∷ [])) idle 2) (codes "--strict") (simp b.1)) (goes (met serve_built (standing (given (codes "file") file ∷ given (codes "batch") batch ∷ flag_row (codes "strict") true ∷ []) None idle 2) (codes "--why") refl) (gone serve_built (standing (given (codes "file") file ∷ given (codes "batch") batch ∷ flag_row (codes "strict") true ∷ flag_row (codes "why") true ∷ []) None idle 2)))))) in
-    let read = read_by (file ∷ codes "--batch" ∷ batch ∷ codes "--strict" ∷ codes "--why" ∷ []) (codes "serve") serve_built (standing (given (codes "file") file ∷ given (codes "batch") batch ∷ flag_row (codes "strict") true ∷ flag_row (codes "why") true ∷ []) None idle 2) refl refl refl walked refl refl refl in
-    record { rows = _; met = read.0; taken = read.1; holds = (refl, refl, refl, refl, refl, refl, refl) }
-pump_first_read file (Some batch) None true false h b p =
-    let walked = goes (plain_step serve_built None 1 file h refl) (goes (met serve_built (standing [] (Some (codes "file", file ∷ [])) idle 2) (codes "--batch") refl) (goes (value_step serve_built (given (codes "file") file ∷ []) (codes "batch") 2 batch b.0) (goes (met serve_built (standing (given (codes "file") file ∷ []) (Some (codes "batch", batch ∷ [])) idle 2) (codes "--strict") (simp b.1)) (gone serve_built (standing (given (codes "file") file ∷ given (codes "batch") batch ∷ flag_row (codes "strict") true ∷ []) None idle 2))))) in
-    let read = read_by (file ∷ codes "--batch" ∷ batch ∷ codes "--strict" ∷ []) (codes "serve") serve_built (standing (given (codes "file") file ∷ given (codes "batch") batch ∷ flag_row (codes "strict") true ∷ []) None idle 2) refl refl refl walked refl refl refl in
-    record { rows = _; met = read.0; taken = read.1; holds = (refl, refl, refl, refl, refl, refl, refl) }
-pump_first_read file (Some batch) None false true h b p =
-    let walked = goes (plain_step serve_built None 1 file h refl) (goes (met serve_built (standing [] (Some (codes "file", file ∷ [])) idle 2) (codes "--batch") refl) (goes (value_step serve_built (given (codes "file") file ∷ []) (codes "batch") 2 batch b.0) (goes (met serve_built (standing (given (codes "file") file ∷ []) (Some (codes "batch", batch ∷ [])) idle 2) (codes "--why") (simp b.1)) (gone serve_built (standing (given (codes "file") file ∷ given (codes "batch") batch ∷ flag_row (codes "why") true ∷ []) None idle 2))))) in
-    let read = read_by (file ∷ codes "--batch" ∷ batch ∷ codes "--why" ∷ []) (codes "serve") serve_built (standing (given (codes "file") file ∷ given (codes "batch") batch ∷ flag_row (codes "why") true ∷ []) None idle 2) refl refl refl walked refl refl refl in
-    record { rows = _; met = read.0; taken = read.1; holds = (refl, refl, refl, refl, refl, refl, refl) }
-pump_first_read file (Some batch) None false false h b p =
-    let walked = goes (plain_step serve_built None 1 file h refl) (goes (met serve_built (standing [] (Some (codes "file", file ∷ [])) idle 2) (codes "--batch") refl) (goes (value_step serve_built (given (codes "file") file ∷ []) (codes "batch") 2 batch b.0) (gone serve_built (standing (given (codes "file") file ∷ []) (Some (codes "batch", batch ∷ [])) idle 2)))) in
-    let read = read_by (file ∷ codes "--batch" ∷ batch ∷ []) (codes "serve") serve_built (standing (given (codes "file") file ∷ []) (Some (codes "batch", batch ∷ [])) idle 2) refl refl refl walked (simp b.1) refl refl in
-    record { rows = _; met = read.0; taken = read.1; holds = (refl, refl, refl, refl, refl, refl, refl) }
-pump_first_read file None (Some pump) true true h b p =
-    let walked = goes (plain_step serve_built None 1 file h refl) (goes (met serve_built (standing [] (Some (codes "file", file ∷ [])) idle 2) (codes "--pump") refl) (goes (value_step serve_built (given (codes "file") file ∷ []) (codes "pump") 2 pump p.0) (goes (met serve_built (standing (given (codes "file") file ∷ []) (Some (codes "pump", pump ∷ [])) idle 2) (codes "--strict") (simp p.1)) (goes (met serve_built (standing (given (codes "file") file ∷ given (codes "pump") pump ∷ flag_row (codes "strict") true ∷ []) None idle 2) (codes "--why") refl) (gone serve_built (standing (given (codes "file") file ∷ given (codes "pump") pump ∷ flag_row (codes "strict") true ∷ flag_row (codes "why") true ∷ []) None idle 2)))))) in
-    let read = read_by (file ∷ codes "--pump" ∷ pump ∷ codes "--strict" ∷ codes "--why" ∷ []) (codes "serve") serve_built (standing (given (codes "file") file ∷ given (codes "pump") pump ∷ flag_row (codes "strict") true ∷ flag_row (codes "why") true ∷ []) None idle 2) refl refl refl walked refl refl refl in
-    record { rows = _; met = read.0; taken = read.1; holds = (refl, refl, refl, refl, refl, refl, refl) }
-pump_first_read file None (Some pump) true false h b p =
-    let walked = goes (plain_step serve_built None 1 file h refl) (goes (met serve_built (standing [] (Some (codes "file", file ∷ [])) idle 2) (codes "--pump") refl) (goes (value_step serve_built (given (codes "file") file ∷ []) (codes "pump") 2 pump p.0) (goes (met serve_built (standing (given (codes "file") file ∷ []) (Some (codes "pump", pump ∷ [])) idle 2) (codes "--strict") (simp p.1)) (gone serve_built (standing (given (codes "file") file ∷ given (codes "pump") pump ∷ flag_row (codes "strict") true ∷ []) None idle 2))))) in
-    let read = read_by (file ∷ codes "--pump" ∷ pump ∷ codes "--strict" ∷ []) (codes "serve") serve_built (standing (given (codes "file") file ∷ given (codes "pump") pump ∷ flag_row (codes "strict") true ∷ []) None idle 2) refl refl refl walked refl refl refl in
-    record { rows = _; met = read.0; taken = read.1; holds = (refl, refl, refl, refl, refl, refl, refl) }
-pump_first_read file None (Some pump) false true h b p =
-    let walked = goes (plain_step serve_built None 1 file h refl) (goes (met serve_built (standing [] (Some (codes "file", file ∷ [])) idle 2) (codes "--pump") refl) (goes (value_step serve_built (given (codes "file") file ∷ []) (codes "pump") 2 pump p.0) (goes (met serve_built (standing (given (codes "file") file ∷ []) (Some (codes "pump", pump ∷ [])) idle 2) (codes "--why") (simp p.1)) (gone serve_built (standing (given (codes "file") file ∷ given (codes "pump") pump ∷ flag_row (codes "why") true ∷ []) None idle 2))))) in
-    let read = read_by (file ∷ codes "--pump" ∷ pump ∷ codes "--why" ∷ []) (codes "serve") serve_built (standing (given (codes "file") file ∷ given (codes "pump") pump ∷ flag_row (codes "why") true ∷ []) None idle 2) refl refl refl walked refl refl refl in
-    record { rows = _; met = read.0; taken = read.1; holds = (refl, refl, refl, refl, refl, refl, refl) }
-pump_first_read file None (Some pump) false false h b p =
-    let walked = goes (plain_step serve_built None 1 file h refl) (goes (met serve_built (standing [] (Some (codes "file", file ∷ [])) idle 2) (codes "--pump") refl) (goes (value_step serve_built (given (codes "file") file ∷ []) (codes "pump") 2 pump p.0) (gone serve_built (standing (given (codes "file") file ∷ []) (Some (codes "pump", pump ∷ [])) idle 2)))) in
-    let read = read_by (file ∷ codes "--pump" ∷ pump ∷ []) (codes "serve") serve_built (standing (given (codes "file") file ∷ []) (Some (codes "pump", pump ∷ [])) idle 2) refl refl refl walked (simp p.1) refl refl in
-    record { rows = _; met = read.0; taken = read.1; holds = (refl, refl, refl, refl, refl, refl, refl) }
-pump_first_read file None None true true h b p =
-    let walked = goes (plain_step serve_built None 1 file h refl) (goes (met serve_built (standing [] (Some (codes "file", file ∷ [])) idle 2) (codes "--strict") refl) (goes (met serve_built (standing (given (codes "file") file ∷ flag_row (codes "strict") true ∷ []) None idle 2) (codes "--why") refl) (gone serve_built (standing (given (codes "file") file ∷ flag_row (codes "strict") true ∷ flag_row (codes "why") true ∷ []) None idle 2)))) in
-    let read = read_by (file ∷ codes "--strict" ∷ codes "--why" ∷ []) (codes "serve") serve_built (standing (given (codes "file") file ∷ flag_row (codes "strict") true ∷ flag_row (codes "why") true ∷ []) None idle 2) refl refl refl walked refl refl refl in
-    record { rows = _; met = read.0; taken = read.1; holds = (refl, refl, refl, refl, refl, refl, refl) }
-pump_first_read file None None true false h b p =
-    let walked = goes (plain_step serve_built None 1 file h refl) (goes (met serve_built (standing [] (Some (codes "file", file ∷ [])) idle 2) (codes "--strict") refl) (gone serve_built (standing (given (codes "file") file ∷ flag_row (codes "strict") true ∷ []) None idle 2))) in
-    let read = read_by (file ∷ codes "--strict" ∷ []) (codes "serve") serve_built (standing (given (codes "file") file ∷ flag_row (codes "strict") true ∷ []) None idle 2) refl refl refl walked refl refl refl in
-    record { rows = _; met = read.0; taken = read.1; holds = (refl, refl, refl, refl, refl, refl, refl) }
-pump_first_read file None None false true h b p =
-    let walked = goes (plain_step serve_built None 1 file h refl) (goes (met serve_built (standing [] (Some (codes "file", file ∷ [])) idle 2) (codes "--why") refl) (gone serve_built (standing (given (codes "file") file ∷ flag_row (codes "why") true ∷ []) None idle 2))) in
-    let read = read_by (file ∷ codes "--why" ∷ []) (codes "serve") serve_built (standing (given (codes "file") file ∷ flag_row (codes "why") true ∷ []) None idle 2) refl refl refl walked refl refl refl in
-    record { rows = _; met = read.0; taken = read.1; holds = (refl, refl, refl, refl, refl, refl, refl) }
-pump_first_read file None None false false h b p =
-    let walked = goes (plain_step serve_built None 1 file h refl) (gone serve_built (standing [] (Some (codes "file", file ∷ [])) idle 2)) in
-    let read = read_by (file ∷ []) (codes "serve") serve_built (standing [] (Some (codes "file", file ∷ [])) idle 2) refl refl refl walked refl refl refl in
-    record { rows = _; met = read.0; taken = read.1; holds = (refl, refl, refl, refl, refl, refl, refl) }
-
 -- ---- all rows
 
 -- the words are taken, and mean the call, and ask why as it is said
 abbrev pub IsReadAs : List Text → Asked → Bool → Type 0
 IsReadAs words asked why = (Means (subcommand_of app words) asked × MeansWhy (subcommand_of app words) asked why) × (takes app words ≡ true)
-
-checked : (n least most : ℕ) (word : Text) → IsNumber n least most word → IsChecked least most word
-checked n least most word read = (read.plain, Accepts-accepts false (Unsigned least most) word read.accepted)
 
 -- the words of an option with a number, which may be absent, and what they make of what is found for it
 record IsOptional (flag id : Text) (default least most n : ℕ) (words : List Text) : Type 0 where
@@ -630,7 +359,7 @@ record IsOptional (flag id : Text) (default least most n : ℕ) (words : List Te
 optional : (flag id : Text) (default least most n : ℕ) (words : List Text) → (1 ≤ n → least ≤ n) → n ≤ most → most < 2 ^ 64 → IsGiven flag default n words
     → IsOptional flag id default least most n words
 optional flag id default least most n words low high short (inl some) =
-    let read = number n least most (decimal n) some.0 (low some.0) high short refl in
+    let read = number n least most (decimal n) (low some.0) high short refl in
     record {
       text = Some (decimal n);
       is = some.1;
@@ -681,25 +410,49 @@ identity_found (Some identity) words some = record {
   held = λ rows first. (some.0, first, some.2);
 }
 
-served : (file : Text) (batch pump : ℕ) (strict why : Bool) (words batches pumps : List Text) → IsPlain file → InRange (serve file batch pump strict)
+-- the words of a history, which may be absent
+record IsHistoryFound (history : ℕ) (words : List Text) : Type 0 where
+  text : Option Text
+  is : words ≡ option_words (codes "--history") text
+  fits : IfSome text (IsChecked 0 MAX_HISTORY)
+  held : (rows : List Row) → one_of (codes "history") rows ≡ text → first_of (codes "history") rows ≡ text → HoldsHistory history rows
+
+history_found : (history : ℕ) (words : List Text) → history ≤ MAX_HISTORY → IsHistoryGiven history words → IsHistoryFound history words
+history_found history words high (inl some) =
+    let read = number history 0 MAX_HISTORY (decimal history) (omega arith) high (omega arith) refl in
+    record {
+      text = Some (decimal history);
+      is = some;
+      fits = checked history 0 MAX_HISTORY (decimal history) read;
+      held = λ rows one first. inl (decimal history, one, read.spells);
+    }
+history_found history words high (inr absent) = record {
+  text = None;
+  is = absent.1;
+  fits = tt;
+  held = λ rows one first. inr (absent.0, first);
+}
+
+served : (file : Text) (batch pump history : ℕ) (strict why : Bool) (batches pumps histories : List Text) → IsPlain file
     → IsOptional (codes "--batch") (codes "batch") 1 1 MAX_BATCH batch batches → IsOptional (codes "--pump") (codes "pump") 0 1 MAX_PUMP pump pumps
-    → IsReadAs (codes "serve" ∷ file ∷ batches ++ pumps ++ flag_words (codes "--strict") strict ++ flag_words (codes "--why") why) (serve file batch pump strict) why
-    × IsReadAs (codes "serve" ∷ file ∷ pumps ++ batches ++ flag_words (codes "--strict") strict ++ flag_words (codes "--why") why) (serve file batch pump strict) why
-served file batch pump strict why words batches pumps h range b p =
-    let one = batch_first_read file b.text p.text strict why h b.fits p.fits in
-    let other = pump_first_read file b.text p.text strict why h b.fits p.fits in
+    → IsHistoryFound history histories
+    → IsReadAs (codes "serve" ∷ file ∷ batches ++ pumps ++ histories ++ flag_words (codes "--strict") strict ++ flag_words (codes "--why") why) (serve file batch pump history strict) why
+    × IsReadAs (codes "serve" ∷ file ∷ pumps ++ batches ++ histories ++ flag_words (codes "--strict") strict ++ flag_words (codes "--why") why) (serve file batch pump history strict) why
+served file batch pump history strict why batches pumps histories h b p n =
+    let one = batch_first_read file b.text p.text n.text strict why h b.fits p.fits n.fits in
+    let other = pump_first_read file b.text p.text n.text strict why h b.fits p.fits n.fits in
     let held = one.holds in
     let turned = other.holds in
-    let first : IsReadAs (codes "serve" ∷ file ∷ option_words (codes "--batch") b.text ++ option_words (codes "--pump") p.text ++ flag_words (codes "--strict") strict ++ flag_words (codes "--why") why) (serve file batch pump strict) why =
-    (((one.rows, one.met, (held.0, b.held one.rows held.1 held.2, p.held one.rows held.3 held.4, held.5)), (one.rows, one.met, held.6)), one.taken) in
-    let second : IsReadAs (codes "serve" ∷ file ∷ option_words (codes "--pump") p.text ++ option_words (codes "--batch") b.text ++ flag_words (codes "--strict") strict ++ flag_words (codes "--why") why) (serve file batch pump strict) why =
-    (((other.rows, other.met, (turned.0, b.held other.rows turned.1 turned.2, p.held other.rows turned.3 turned.4, turned.5)), (other.rows, other.met, turned.6)), other.taken) in
-    rw b.is (rw p.is (first, second))
+    let first : IsReadAs (codes "serve" ∷ file ∷ option_words (codes "--batch") b.text ++ option_words (codes "--pump") p.text ++ option_words (codes "--history") n.text ++ flag_words (codes "--strict") strict ++ flag_words (codes "--why") why) (serve file batch pump history strict) why =
+    (((one.rows, one.met, (held.0, b.held one.rows held.1 held.2, p.held one.rows held.3 held.4, n.held one.rows held.5 held.6, held.7)), (one.rows, one.met, held.8)), one.taken) in
+    let second : IsReadAs (codes "serve" ∷ file ∷ option_words (codes "--pump") p.text ++ option_words (codes "--batch") b.text ++ option_words (codes "--history") n.text ++ flag_words (codes "--strict") strict ++ flag_words (codes "--why") why) (serve file batch pump history strict) why =
+    (((other.rows, other.met, (turned.0, b.held other.rows turned.1 turned.2, p.held other.rows turned.3 turned.4, n.held other.rows turned.5 turned.6, turned.7)), (other.rows, other.met, turned.8)), other.taken) in
+    rw b.is (rw p.is (rw n.is (first, second)))
 
 -- words that are a call's row are taken and mean that call
 pub read_as_row : (asked : Asked) (why : Bool) (words : List Text) → InRange asked → IsRowOf words asked why → IsReadAs words asked why
 read_as_row (format file n version mode sparse identity) why words range (h, formats, modes, identities, v, m, d, row) =
-    let sectors = number n MIN_SECTORS MAX_SECTORS (decimal n) (omega (arith, range.0.0)) range.0.0 range.0.1 (omega arith) refl in
+    let sectors = number n MIN_SECTORS MAX_SECTORS (decimal n) range.0.0 range.0.1 (omega arith) refl in
     let chosen = optional (codes "--format") (codes "format") 2 MIN_FORMAT MAX_FORMAT version formats (λ one. range.1.0) range.1.1 (omega arith) v in
     let moded = mode_found mode modes m in
     let named = identity_found identity identities d in
@@ -708,10 +461,10 @@ read_as_row (format file n version mode sparse identity) why words range (h, for
     let meant : IsReadAs (codes "format" ∷ file ∷ codes "--sectors" ∷ decimal n ∷ option_words (codes "--format") chosen.text ++ option_words (codes "--mode") moded.text ++ option_words (codes "--id") named.text ++ flag_words (codes "--sparse") sparse ++ flag_words (codes "--why") why) (format file n version mode sparse identity) why =
     (((read.rows, read.met, (held.0, (decimal n, held.1, sectors.spells), chosen.held read.rows held.2 held.3, moded.held read.rows held.4, held.6, named.held read.rows held.5)), (read.rows, read.met, held.7)), read.taken) in
     rw row (rw chosen.is (rw moded.is (rw named.is meant)))
-read_as_row (serve file batch pump strict) why words range (h, batches, pumps, options, b, p, order, row) =
+read_as_row (serve file batch pump history strict) why words range (h, batches, pumps, options, histories, b, p, order, n, row) =
     let first = optional (codes "--batch") (codes "batch") 1 1 MAX_BATCH batch batches (λ one. one) range.0.1 (omega arith) b in
     let second = optional (codes "--pump") (codes "pump") 0 1 MAX_PUMP pump pumps (λ one. one) range.1 (omega arith) p in
-    let both = served file batch pump strict why words batches pumps (plain file h) range first second in
+    let both = served file batch pump history strict why batches pumps histories (plain file h) first second (history_found history histories range.2 n) in
     elim order [ inl same ↦ rw row (rw same both.0) | inr same ↦ rw row (rw same both.1) ]
 read_as_row (check file strict) why words range row =
     let read = check_read file strict why (plain file row.0) in
@@ -724,7 +477,7 @@ read_as_row (repair file) why words range row =
     (((read.rows, read.met, read.holds.0), (read.rows, read.met, read.holds.1)), read.taken) in
     rw row.1 meant
 read_as_row (copy file new n version identity) why words range (h, k, formats, identities, v, d, row) =
-    let sectors = number n MIN_SECTORS MAX_SECTORS (decimal n) (omega (arith, range.0.0)) range.0.0 range.0.1 (omega arith) refl in
+    let sectors = number n MIN_SECTORS MAX_SECTORS (decimal n) range.0.0 range.0.1 (omega arith) refl in
     let chosen = optional (codes "--format") (codes "format") 2 MIN_FORMAT MAX_FORMAT version formats (λ one. range.1.0) range.1.1 (omega arith) v in
     let named = identity_found identity identities d in
     let read = copy_read file new (decimal n) chosen.text named.text why (plain file h) (plain new k) (checked n MIN_SECTORS MAX_SECTORS (decimal n) sectors) chosen.fits named.fits in
@@ -740,11 +493,14 @@ read_as_row (upgrade file version identity) why words range (h, formats, identit
     let meant : IsReadAs (codes "upgrade" ∷ file ∷ option_words (codes "--format") chosen.text ++ option_words (codes "--id") named.text ++ flag_words (codes "--why") why) (upgrade file version identity) why =
     (((read.rows, read.met, (held.0, chosen.held read.rows held.1 held.2, named.held read.rows held.3)), (read.rows, read.met, held.4)), read.taken) in
     rw row (rw chosen.is (rw named.is meant))
-read_as_row (mem n) why words range row =
-    let sectors = number n MIN_SECTORS MAX_MEMORY_SECTORS (decimal n) (omega arith) range.0 range.1 (omega arith) refl in
-    let read = mem_read n (decimal n) sectors in
-    let meant : IsReadAs (codes "mem" ∷ codes "--sectors" ∷ decimal n ∷ []) (mem n) false = (((_, read.0, (decimal n, refl, sectors.spells)), (_, read.0, refl)), read.1) in
-    rw row.1 (rw row.0 meant)
+read_as_row (mem n history) why words range (histories, given, row, asks) =
+    let sectors = number n MIN_SECTORS MAX_MEMORY_SECTORS (decimal n) range.0.0 range.0.1 (omega arith) refl in
+    let found = history_found history histories range.1 given in
+    let read = mem_read (decimal n) found.text (checked n MIN_SECTORS MAX_MEMORY_SECTORS (decimal n) sectors) found.fits in
+    let held = read.holds in
+    let meant : IsReadAs (codes "mem" ∷ codes "--sectors" ∷ decimal n ∷ option_words (codes "--history") found.text) (mem n history) false =
+    (((read.rows, read.met, ((decimal n, held.0, sectors.spells), found.held read.rows held.1 held.2)), (read.rows, read.met, refl)), read.taken) in
+    rw asks (rw row (rw found.is meant))
 read_as_row (deep file) why words range row =
     let read = deep_read file why (plain file row.0) in
     let held = read.holds in

@@ -5,32 +5,32 @@ use Rattle.std.specs.Int.{w128, from_be_bytes}
 use Rattle.hex.specs.Hex.{decode_sized}
 use Rattle.command_line.specs.declared.call.Call.{Call}
 use Rattle.command_line.specs.declared.call.Call.TheVariants.{Format, Serve, Check, Repair, Copy, Upgrade, Mem, Deep, Salvage, Dump}
-use Rattle.command_line.specs.declared.limits.TheConstants.{MIN_SECTORS, MAX_SECTORS, MAX_MEMORY_SECTORS, MIN_FORMAT, MAX_FORMAT, MAX_BATCH, MAX_PUMP, MAX_MODE, OWNER_ALONE}
+use Rattle.command_line.specs.declared.limits.TheConstants.{MIN_SECTORS, MAX_SECTORS, MAX_MEMORY_SECTORS, MIN_FORMAT, MAX_FORMAT, MAX_BATCH, MAX_PUMP, MAX_HISTORY, HISTORY, MAX_MODE, OWNER_ALONE}
 
 -- A call, with the names of its files as texts. Making a file, with its sectors, its format and its mode, whether its blocks are left to be allocated as
--- they are written, and its identity if that isn't to be drawn. Serving, with the most changes of one commit, and the sectors that a step of a copy writes after a change, of which 0 are none, and whether a store whose last commit may be lost is
+-- they are written, and its identity if that isn't to be drawn. Serving, with the most changes of one commit, the sectors that a step of a copy writes after a change, of which 0 are none, the bytes of the newest transactions that are kept, of which 0 keep none, and whether a store whose last commit may be lost is
 -- refused, as checking has it too. Copying a file to a new one, with its sectors, its format and its identity. Bringing a file to a format, with an identity.
 -- Reading all of a file. Salvaging, the documents or else the frames. Dumping a file that is only read.
 pub data Asked : Type 0 where
   format : List ℕ → ℕ → ℕ → ℕ → Bool → Option ℕ → Asked
-  serve : List ℕ → ℕ → ℕ → Bool → Asked
+  serve : List ℕ → ℕ → ℕ → ℕ → Bool → Asked
   check : List ℕ → Bool → Asked
   repair : List ℕ → Asked
   copy : List ℕ → List ℕ → ℕ → ℕ → Option ℕ → Asked
   upgrade : List ℕ → ℕ → Option ℕ → Asked
-  mem : ℕ → Asked
+  mem : ℕ → ℕ → Asked
   deep : List ℕ → Asked
   salvage : List ℕ → Bool → Asked
   dump : List ℕ → Asked
 
 abbrev pub asked_of : Call → Asked
 asked_of (Format file sectors version mode sparse identity) = format file.now sectors version mode sparse identity
-asked_of (Serve file batch pump strict) = serve file.now batch pump strict
+asked_of (Serve file batch pump history strict) = serve file.now batch pump history strict
 asked_of (Check file strict) = check file.now strict
 asked_of (Repair file) = repair file.now
 asked_of (Copy file new sectors version identity) = copy file.now new.now sectors version identity
 asked_of (Upgrade file version identity) = upgrade file.now version identity
-asked_of (Mem sectors) = mem sectors
+asked_of (Mem sectors history) = mem sectors history
 asked_of (Deep file) = deep file.now
 asked_of (Salvage file frames) = salvage file.now frames
 asked_of (Dump file) = dump file.now
@@ -39,12 +39,12 @@ asked_of (Dump file) = dump file.now
 abbrev pub InRange : Asked → Type 0
 InRange (format file sectors version mode sparse identity) =
     ((MIN_SECTORS ≤ sectors) × (sectors ≤ MAX_SECTORS)) × ((MIN_FORMAT ≤ version) × (version ≤ MAX_FORMAT)) × (mode ≤ MAX_MODE)
-InRange (serve file batch pump strict) = ((1 ≤ batch) × (batch ≤ MAX_BATCH)) × (pump ≤ MAX_PUMP)
+InRange (serve file batch pump history strict) = ((1 ≤ batch) × (batch ≤ MAX_BATCH)) × (pump ≤ MAX_PUMP) × (history ≤ MAX_HISTORY)
 InRange (check file strict) = Unit {0}
 InRange (repair file) = Unit {0}
 InRange (copy file new sectors version identity) = ((MIN_SECTORS ≤ sectors) × (sectors ≤ MAX_SECTORS)) × ((MIN_FORMAT ≤ version) × (version ≤ MAX_FORMAT))
 InRange (upgrade file version identity) = (MIN_FORMAT ≤ version) × (version ≤ MAX_FORMAT)
-InRange (mem sectors) = (MIN_SECTORS ≤ sectors) × (sectors ≤ MAX_MEMORY_SECTORS)
+InRange (mem sectors history) = ((MIN_SECTORS ≤ sectors) × (sectors ≤ MAX_MEMORY_SECTORS)) × (history ≤ MAX_HISTORY)
 InRange (deep file) = Unit {0}
 InRange (salvage file frames) = Unit {0}
 InRange (dump file) = Unit {0}
@@ -56,6 +56,10 @@ IsNoOption text = get_or text 0 0 ≢ 45
 -- the words give the option this number, which is 1 at least, in plain decimal; or there are none, which give it its default
 abbrev pub IsGiven : List ℕ → ℕ → ℕ → List (List ℕ) → Type 0
 IsGiven option default n words = ((1 ≤ n) × (words ≡ option ∷ decimal n ∷ [])) ⊎ ((n ≡ default) × (words ≡ []))
+
+-- the words give the bytes of the newest transactions in plain decimal; or there are none, and it is the default
+abbrev pub IsHistoryGiven : ℕ → List (List ℕ) → Type 0
+IsHistoryGiven n words = (words ≡ codes "--history" ∷ decimal n ∷ []) ⊎ ((n ≡ HISTORY) × (words ≡ []))
 
 -- the text spells the mode in octal, with or without a plus in front
 abbrev pub SpellsMode : List ℕ → ℕ → Type 0
@@ -89,10 +93,10 @@ abbrev pub IsRowOf : List (List ℕ) → Asked → Bool → Type 0
 IsRowOf words (format file sectors version mode sparse identity) why =
     IsNoOption file × (formats modes identities : List (List ℕ)) × IsGiven (codes "--format") 2 version formats × IsModeGiven mode modes × IsIdentityGiven identity identities
     × (words ≡ codes "format" ∷ file ∷ codes "--sectors" ∷ decimal sectors ∷ formats ++ modes ++ identities ++ flag_words (codes "--sparse") sparse ++ flag_words (codes "--why") why)
-IsRowOf words (serve file batch pump strict) why =
-    IsNoOption file × (batches pumps options : List (List ℕ)) × IsGiven (codes "--batch") 1 batch batches
-    × IsGiven (codes "--pump") 0 pump pumps × InEitherOrder batches pumps options
-    × (words ≡ codes "serve" ∷ file ∷ options ++ flag_words (codes "--strict") strict ++ flag_words (codes "--why") why)
+IsRowOf words (serve file batch pump history strict) why =
+    IsNoOption file × (batches pumps options histories : List (List ℕ)) × IsGiven (codes "--batch") 1 batch batches
+    × IsGiven (codes "--pump") 0 pump pumps × InEitherOrder batches pumps options × IsHistoryGiven history histories
+    × (words ≡ codes "serve" ∷ file ∷ options ++ histories ++ flag_words (codes "--strict") strict ++ flag_words (codes "--why") why)
 IsRowOf words (check file strict) why = IsNoOption file × (words ≡ codes "check" ∷ file ∷ flag_words (codes "--strict") strict ++ flag_words (codes "--why") why)
 IsRowOf words (repair file) why = IsNoOption file × (words ≡ codes "repair" ∷ file ∷ flag_words (codes "--why") why)
 IsRowOf words (copy file new sectors version identity) why =
@@ -101,7 +105,8 @@ IsRowOf words (copy file new sectors version identity) why =
 IsRowOf words (upgrade file version identity) why =
     IsNoOption file × (formats identities : List (List ℕ)) × IsGiven (codes "--format") 3 version formats × IsIdentityGiven identity identities
     × (words ≡ codes "upgrade" ∷ file ∷ formats ++ identities ++ flag_words (codes "--why") why)
-IsRowOf words (mem sectors) why = (words ≡ codes "mem" ∷ codes "--sectors" ∷ decimal sectors ∷ []) × (why ≡ false)
+IsRowOf words (mem sectors history) why =
+    (histories : List (List ℕ)) × IsHistoryGiven history histories × (words ≡ codes "mem" ∷ codes "--sectors" ∷ decimal sectors ∷ histories) × (why ≡ false)
 IsRowOf words (deep file) why = IsNoOption file × (words ≡ codes "check" ∷ file ∷ codes "--deep" ∷ flag_words (codes "--why") why)
 IsRowOf words (salvage file frames) why =
     IsNoOption file × (words ≡ codes "salvage" ∷ file ∷ flag_words (codes "--frames") frames ++ flag_words (codes "--why") why)

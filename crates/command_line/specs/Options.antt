@@ -6,7 +6,7 @@ use Rattle.clap.specs.declared.error.kind.ErrorKind.TheVariants.{DisplayHelp, Di
 use Rattle.clap.specs.declared.builder.action.ArgAction.TheVariants.{Set, SetTrue}
 use Rattle.clap.specs.declared.builder.value_parser.ValueParser.TheVariants.{Unsigned}
 use Rattle.command_line.specs.Call.{Asked, SpellsIdentity, SpellsMode, format, serve, check, repair, copy, upgrade, mem, deep, salvage, dump}
-use Rattle.command_line.specs.declared.limits.TheConstants.{MIN_SECTORS, MAX_SECTORS, MAX_MEMORY_SECTORS, MIN_FORMAT, MAX_FORMAT, MAX_BATCH, MAX_PUMP, OWNER_ALONE}
+use Rattle.command_line.specs.declared.limits.TheConstants.{MIN_SECTORS, MAX_SECTORS, MAX_MEMORY_SECTORS, MIN_FORMAT, MAX_FORMAT, MAX_BATCH, MAX_PUMP, MAX_HISTORY, HISTORY, OWNER_ALONE}
 
 -- `FILE`, which must be there
 abbrev pub file_rule : Rule
@@ -35,6 +35,10 @@ batch_rule = number_up_to (codes "batch") MAX_BATCH
 -- `--pump N`
 abbrev pub pump_rule : Rule
 pump_rule = number_up_to (codes "pump") MAX_PUMP
+
+-- `--history N`, which may be absent, with a number from 0 on
+abbrev pub history_rule : Rule
+history_rule = record (option_rule (codes "history")) { parser = Some (Unsigned 0 MAX_HISTORY) }
 
 -- `--format N`, which may be absent
 abbrev pub format_rule : Rule
@@ -69,7 +73,7 @@ format_shape =
 abbrev pub serve_shape : Shape
 serve_shape =
     let with_numbers = with_rule (with_rule (with_rule (new_app (codes "serve")) file_rule) batch_rule) pump_rule in
-    (with_rule (with_rule with_numbers strict_rule) why_rule).top
+    (with_rule (with_rule (with_rule with_numbers history_rule) strict_rule) why_rule).top
 
 abbrev pub check_shape : Shape
 check_shape = (with_rule (with_rule (with_rule (with_rule (new_app (codes "check")) file_rule) strict_rule) (flag_rule (codes "deep"))) why_rule).top
@@ -86,7 +90,7 @@ abbrev pub upgrade_shape : Shape
 upgrade_shape = (with_rule (with_rule (with_rule (with_rule (new_app (codes "upgrade")) file_rule) format_rule) identity_rule) why_rule).top
 
 abbrev pub mem_shape : Shape
-mem_shape = (with_rule (new_app (codes "mem")) (sectors_up_to MAX_MEMORY_SECTORS)).top
+mem_shape = (with_rule (with_rule (new_app (codes "mem")) (sectors_up_to MAX_MEMORY_SECTORS)) history_rule).top
 
 abbrev pub salvage_shape : Shape
 salvage_shape = (with_rule (with_rule (with_rule (new_app (codes "salvage")) file_rule) (flag_rule (codes "frames"))) why_rule).top
@@ -130,6 +134,10 @@ HoldsNumber option n options = (text : Text) × (one_of option options ≡ Some 
 abbrev pub MayHold : Text → ℕ → ℕ → List Row → Type 0
 MayHold option default n options = ((1 ≤ n) × HoldsNumber option n options) ⊎ ((n ≡ default) × (first_of option options ≡ None))
 
+-- the options give the bytes of the newest transactions by their number, or they give none, and it is the default
+abbrev pub HoldsHistory : ℕ → List Row → Type 0
+HoldsHistory n options = HoldsNumber (codes "history") n options ⊎ ((n ≡ HISTORY) × (first_of (codes "history") options ≡ None))
+
 -- what `clap` keeps of a flag: that it was met, or its default
 abbrev pub flag_text : Bool → Text
 flag_text set = if set then codes "true" else codes "false"
@@ -154,15 +162,15 @@ abbrev pub Holds : Asked → List Row → Type 0
 Holds (format file sectors version mode sparse identity) options =
     HoldsFile file options × HoldsNumber (codes "sectors") sectors options × MayHold (codes "format") 2 version options
     × HoldsMode mode options × HoldsFlag (codes "sparse") sparse options × HoldsIdentity identity options
-Holds (serve file batch pump strict) options =
-    HoldsFile file options × MayHold (codes "batch") 1 batch options × MayHold (codes "pump") 0 pump options
+Holds (serve file batch pump history strict) options =
+    HoldsFile file options × MayHold (codes "batch") 1 batch options × MayHold (codes "pump") 0 pump options × HoldsHistory history options
     × HoldsFlag (codes "strict") strict options
 Holds (check file strict) options = HoldsFile file options × HoldsFlag (codes "strict") strict options × HoldsFlag (codes "deep") false options
 Holds (repair file) options = HoldsFile file options
 Holds (copy file new sectors version identity) options =
     HoldsFile file options × HoldsNew new options × HoldsNumber (codes "sectors") sectors options × MayHold (codes "format") 2 version options × HoldsIdentity identity options
 Holds (upgrade file version identity) options = HoldsFile file options × MayHold (codes "format") 3 version options × HoldsIdentity identity options
-Holds (mem sectors) options = HoldsNumber (codes "sectors") sectors options
+Holds (mem sectors history) options = HoldsNumber (codes "sectors") sectors options × HoldsHistory history options
 Holds (deep file) options = HoldsFile file options × HoldsFlag (codes "deep") true options
 Holds (salvage file frames) options = HoldsFile file options × HoldsFlag (codes "frames") frames options
 Holds (dump file) options = HoldsFile file options × HoldsFlag (codes "read-only") true options
@@ -170,12 +178,12 @@ Holds (dump file) options = HoldsFile file options × HoldsFlag (codes "read-onl
 -- the command of a call
 abbrev pub name_of : Asked → Text
 name_of (format file sectors version mode sparse identity) = codes "format"
-name_of (serve file batch pump strict) = codes "serve"
+name_of (serve file batch pump history strict) = codes "serve"
 name_of (check file strict) = codes "check"
 name_of (repair file) = codes "repair"
 name_of (copy file new sectors version identity) = codes "copy"
 name_of (upgrade file version identity) = codes "upgrade"
-name_of (mem sectors) = codes "mem"
+name_of (mem sectors history) = codes "mem"
 name_of (deep file) = codes "check"
 name_of (salvage file frames) = codes "salvage"
 name_of (dump file) = codes "dump"
@@ -190,9 +198,9 @@ Means met asked = (options : List Row) × (met ≡ Some (name_of asked, options)
 
 -- the options of a call say whether it asks why a file isn't made or opened; that of a call without a file never does
 abbrev pub HoldsWhy : Asked → Bool → List Row → Type 0
-HoldsWhy (mem sectors) why options = why ≡ false
+HoldsWhy (mem sectors history) why options = why ≡ false
 HoldsWhy (format file sectors version mode sparse identity) why options = HoldsFlag (codes "why") why options
-HoldsWhy (serve file batch pump strict) why options = HoldsFlag (codes "why") why options
+HoldsWhy (serve file batch pump history strict) why options = HoldsFlag (codes "why") why options
 HoldsWhy (check file strict) why options = HoldsFlag (codes "why") why options
 HoldsWhy (repair file) why options = HoldsFlag (codes "why") why options
 HoldsWhy (copy file new sectors version identity) why options = HoldsFlag (codes "why") why options

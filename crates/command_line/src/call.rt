@@ -3,13 +3,13 @@ ghost use Rattle.std.specs.Prelude.{◌≡◌, ◌⊎◌, ◌≤◌, ◌<◌, �
 ghost use Rattle.clap.specs.Words.{fault_of, first_of, found_of, HasKind, IsAmong, kind_of, rows_of, subcommand_of, subcommand_rows_of};
 ghost use Rattle.clap.specs.declared.error.kind.ErrorKind.TheVariants.{InvalidValue, OutOfMemory};
 ghost use Rattle.command_line.specs.Call.{Asked, InRange, IsRowOf, SpellsIdentity, SpellsMode, asked_of, check, copy, deep, dump, format, mem, repair, salvage, serve, upgrade};
-ghost use Rattle.command_line.specs.Options.{app, Holds, HoldsFlag, HoldsIdentity, HoldsMode, HoldsNumber, IsMet, MayHold, Means, MeansWhy};
-ghost use Rattle.command_line.specs.declared.limits.TheConstants.{MAX_BATCH, MAX_FORMAT, MAX_MODE, MAX_PUMP, MIN_FORMAT, MIN_SECTORS};
+ghost use Rattle.command_line.specs.Options.{app, Holds, HoldsFlag, HoldsHistory, HoldsIdentity, HoldsMode, HoldsNumber, IsMet, MayHold, Means, MeansWhy};
+ghost use Rattle.command_line.specs.declared.limits.TheConstants.{MAX_BATCH, MAX_FORMAT, MAX_HISTORY, MAX_MODE, MAX_PUMP, MIN_FORMAT, MIN_SECTORS};
 
 use crate::command::program;
 use crate::limits::{
-    MAX_BATCH, MAX_FORMAT, MAX_MEMORY_SECTORS, MAX_MODE, MAX_PUMP, MAX_SECTORS, MIN_FORMAT,
-    MIN_SECTORS, OWNER_ALONE,
+    HISTORY, MAX_BATCH, MAX_FORMAT, MAX_HISTORY, MAX_MEMORY_SECTORS, MAX_MODE, MAX_PUMP,
+    MAX_SECTORS, MIN_FORMAT, MIN_SECTORS, OWNER_ALONE,
 };
 use clap::error::ErrorKind;
 use clap::{ArgMatches, Error};
@@ -31,12 +31,13 @@ pub enum Call<'a> {
         identity: Option<u128>,
     },
     /// Serve lines over the store in a file. One commit takes up to `batch` changes, 1 for each by itself; after a
-    /// change or a batch a step of a copy writes up to `pump` sectors, 0 for none. If it is `strict`, a store whose last
+    /// change or a batch a step of a copy writes up to `pump` sectors, 0 for none; of the newest transactions up to `history` bytes are kept. If it is `strict`, a store whose last
     /// commit may be lost is refused.
     Serve {
         file: &'a str,
         batch: u64,
         pump: u64,
+        history: u64,
         strict: bool,
     },
     /// Show the status of the store in a file, `strict` or not.
@@ -62,9 +63,11 @@ pub enum Call<'a> {
         format: u64,
         identity: Option<u128>,
     },
-    /// Serve lines over a store in memory, on a device of that many sectors.
+    /// Serve lines over a store in memory, on a device of that many sectors. Of the newest transactions up to `history`
+    /// bytes are kept.
     Mem {
         sectors: u64,
+        history: u64,
     },
     /// Read all of the store in a file, and say what is damaged.
     Deep {
@@ -94,7 +97,7 @@ pub struct Order<'a> {
 ///
 /// The call is what the words mean to `clap`, however they are written: `--sectors=16`, or an option before FILE. If
 /// `--format` is absent, its number is 2 for a new file or a copy and 3 for an upgrade, that of `--batch` is 1, that of `--pump`
-/// 0, and the mode is 0600. Refuses, by `clap`'s own errors, what is no call, an option or a flag that is given twice,
+/// 0, that of `--history` 16,777,216, and the mode is 0600. Refuses, by `clap`'s own errors, what is no call, an option or a flag that is given twice,
 /// a number out of the range of its option, a mode that is no octal number up to 0777, an identity that isn't 32 hexadecimal digits, a dump that isn't to be only
 /// read, and a request for help; it also fails if memory runs out. Words that are a call's row fail only if memory runs out; in a row no file begins with a
 /// hyphen, since such a word is read as an option.
@@ -219,17 +222,19 @@ fn format_in<'a>(options: &ArgMatches<'a>) -> Option<Call<'a>>
 fn serve_in<'a>(options: &ArgMatches<'a>) -> Option<Call<'a>>
     ensures in_range { IfSome result (λ call. InRange (asked_of call)) }
     ensures sound { IfSome result (λ call. IsMet (codes "serve") (rows_of (found_of options.now)) (asked_of call)) }
-    ensures meant { (file : List ℕ) (batch pump : ℕ) (strict : Bool) → InRange (serve file batch pump strict)
-        → Holds (serve file batch pump strict) (rows_of (found_of options.now)) → option_map asked_of result ≡ Some (serve file batch pump strict) }
+    ensures meant { (file : List ℕ) (batch pump history : ℕ) (strict : Bool) → InRange (serve file batch pump history strict)
+        → Holds (serve file batch pump history strict) (rows_of (found_of options.now)) → option_map asked_of result ≡ Some (serve file batch pump history strict) }
 {
     let file = file_in(options)?;
     let batch = number_or(options, "batch", 1, MAX_BATCH)?;
     let pump = number_or(options, "pump", 0, MAX_PUMP)?;
+    let history = history_in(options)?;
     let strict = flag_in(options, "strict")?;
     Some(Call::Serve {
         file,
         batch,
         pump,
+        history,
         strict,
     })
 }
@@ -297,11 +302,12 @@ fn upgrade_in<'a>(options: &ArgMatches<'a>) -> Option<Call<'a>>
 fn mem_in<'a>(options: &ArgMatches<'a>) -> Option<Call<'a>>
     ensures in_range { IfSome result (λ call. InRange (asked_of call)) }
     ensures sound { IfSome result (λ call. IsMet (codes "mem") (rows_of (found_of options.now)) (asked_of call)) }
-    ensures meant { (sectors : ℕ) → InRange (mem sectors)
-        → Holds (mem sectors) (rows_of (found_of options.now)) → option_map asked_of result ≡ Some (mem sectors) }
+    ensures meant { (sectors history : ℕ) → InRange (mem sectors history)
+        → Holds (mem sectors history) (rows_of (found_of options.now)) → option_map asked_of result ≡ Some (mem sectors history) }
 {
     let sectors = sectors_in(options, MAX_MEMORY_SECTORS)?;
-    Some(Call::Mem { sectors })
+    let history = history_in(options)?;
+    Some(Call::Mem { sectors, history })
 }
 
 fn salvage_in<'a>(options: &ArgMatches<'a>) -> Option<Call<'a>>
@@ -363,6 +369,18 @@ fn format_number(options: &ArgMatches, default: u64) -> Option<u64>
     match options.get_str("format") {
         Some(_) => number_in(options, "format", MIN_FORMAT, MAX_FORMAT),
         None => Some(default),
+    }
+}
+
+// The bytes of the newest transactions that the options hold, if they are in the range, or their default if they hold none.
+fn history_in(options: &ArgMatches) -> Option<u64>
+    ensures in_range { IfSome result (λ n. n ≤ MAX_HISTORY) }
+    ensures sound { IfSome result (λ n. HoldsHistory n (rows_of (found_of options.now))) }
+    ensures held { (n : ℕ) → n ≤ MAX_HISTORY → HoldsHistory n (rows_of (found_of options.now)) → result ≡ Some n }
+{
+    match options.get_str("history") {
+        Some(_) => number_in(options, "history", 0, MAX_HISTORY),
+        None => Some(HISTORY),
     }
 }
 

@@ -3,11 +3,12 @@ ghost use Rattle.std.specs.Prelude.{◌≡◌, IfOk, IfErr, codes, false};
 ghost use Rattle.clap.specs.Words.{app_of, kind_of, rule_of, shape_of};
 ghost use Rattle.clap.specs.declared.error.kind.ErrorKind.TheVariants.{OutOfMemory};
 ghost use Rattle.clap.specs.declared.builder.command.Command.TheViews.{out-Command as fields_of};
-ghost use Rattle.command_line.specs.Options.{app, batch_rule, check_shape, copy_shape, dump_shape, file_rule, flag_rule, format_rule, format_shape, identity_rule, mem_shape, mode_rule, option_rule, pump_rule, repair_shape, salvage_shape, sectors_up_to, serve_shape, strict_rule, target_rule, upgrade_shape, why_rule};
-ghost use Rattle.command_line.specs.declared.limits.TheConstants.{MAX_BATCH, MAX_MEMORY_SECTORS, MAX_PUMP, MAX_SECTORS};
+ghost use Rattle.command_line.specs.Options.{app, batch_rule, check_shape, copy_shape, dump_shape, file_rule, flag_rule, format_rule, format_shape, history_rule, identity_rule, mem_shape, mode_rule, option_rule, pump_rule, repair_shape, salvage_shape, sectors_up_to, serve_shape, strict_rule, target_rule, upgrade_shape, why_rule};
+ghost use Rattle.command_line.specs.declared.limits.TheConstants.{MAX_BATCH, MAX_HISTORY, MAX_MEMORY_SECTORS, MAX_PUMP, MAX_SECTORS};
 
 use crate::limits::{
-    MAX_BATCH, MAX_FORMAT, MAX_MEMORY_SECTORS, MAX_PUMP, MAX_SECTORS, MIN_FORMAT, MIN_SECTORS,
+    MAX_BATCH, MAX_FORMAT, MAX_HISTORY, MAX_MEMORY_SECTORS, MAX_PUMP, MAX_SECTORS, MIN_FORMAT,
+    MIN_SECTORS,
 };
 use crate::version::VERSION;
 use clap::{Arg, ArgAction, Command, Error, value_parser};
@@ -123,6 +124,19 @@ fn pump_option<'a>(alloc: Global) -> Arg<'a>
         "While a snapshot is due, copy up to N of its sectors after each change, 1 to 1000000",
     )
     .value_parser(value_parser!(u64).range(1..=MAX_PUMP as i64))
+}
+
+fn history_option<'a>(alloc: Global) -> Arg<'a>
+    ensures rule { rule_of result ≡ history_rule }
+    ensures local { result.global ≡ false }
+{
+    text_option(
+        alloc,
+        "history",
+        "BYTES",
+        "Keep the newest changes in memory, up to BYTES of them, for `changes` to tell, 0 to 4294967296; 16777216 if absent",
+    )
+    .value_parser(value_parser!(u64).range(0..=MAX_HISTORY as i64))
 }
 
 fn format_option<'a>(alloc: Global, help: &'a str) -> Arg<'a>
@@ -241,6 +255,7 @@ fn serve_command<'a>(alloc: Global) -> Result<Command<'a>, Error>
         .arg(file_argument(alloc, "The file of the store"))?
         .arg(batch_option(alloc))?
         .arg(pump_option(alloc))?
+        .arg(history_option(alloc))?
         .arg(strict_flag(alloc))?
         .arg(why_flag(alloc))?;
     Ok(serve)
@@ -333,7 +348,8 @@ fn mem_command<'a>(alloc: Global) -> Result<Command<'a>, Error>
 {
     let mem = Command::new(alloc, "mem")
         .about("Answer command lines over a new store in memory")
-        .arg(memory_sectors(alloc))?;
+        .arg(memory_sectors(alloc))?
+        .arg(history_option(alloc))?;
     Ok(mem)
 }
 

@@ -21,6 +21,12 @@ pub const MAX_BATCH: u64 = 1_024;
 /// The most sectors that a step of a copy after a change may be asked to write.
 pub const MAX_PUMP: u64 = 1_000_000;
 
+/// The bytes of the newest transactions that are kept, if they aren't said.
+pub const HISTORY: u64 = 16_777_216;
+
+/// The most of them that may be asked for.
+pub const MAX_HISTORY: u64 = 4_294_967_296;
+
 /// The mode of a new file that its owner alone may read and write (0600 in octal).
 pub const OWNER_ALONE: u32 = 0o600;
 

@@ -1,6 +1,7 @@
 -- The reply to a new file; a store that was shown, or brought to a format.
 use Rattle.std.specs.Prelude.{◌≡◌, ℕ, List, Option, Ok, pos, true, codes}
 use Rattle.std.specs.declared.snapshot.Snapshot.{Snapshot}
+use Rattle.command_line.specs.Call.{format}
 use Rattle.doc_store.specs.declared.opening.Strictness.{Strictness}
 use Rattle.doc_tree.specs.Doc.{Doc, boolean, int, object, member, no_members}
 use Rattle.store_commits.specs.Account.{StoreView}

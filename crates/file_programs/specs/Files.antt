@@ -1,5 +1,5 @@
 -- The programs over a store in a file.
-use Rattle.std.specs.Prelude.{◌≡◌, ◌≢◌, ◌⊎◌, ℕ, Bool, List, ◌++◌, Option, Result, Ok, Err, false, nat_eq, if◌then◌else◌}
+use Rattle.std.specs.Prelude.{◌≡◌, ◌≢◌, ◌⊎◌, ℕ, Bool, List, ◌++◌, Option, Result, Ok, Err, false, true, nat_eq, if◌then◌else◌}
 use Rattle.std.specs.declared.snapshot.Snapshot.{Snapshot}
 use Rattle.sector_device.specs.Disk.{Disk, Image}
 use Rattle.sector_device.specs.declared.history.Held.{Held}
@@ -19,11 +19,12 @@ use Rattle.doc_store.specs.declared.opening.Strictness.TheVariants.{AnyState}
 use Rattle.slot_commits.specs.declared.found.Notice.{Notice}
 use Rattle.store_commits.specs.Run.{Event, Ran, dones_of, hits_of}
 use Rattle.store_commits.specs.declared.event.Reply.{Reply}
-use Rattle.store_commits.specs.Images.{Stands}
+use Rattle.store_commits.specs.Images.{Holds, Stands, version_of_frames}
 use Rattle.store_commits.specs.Folds.{StandsAfter}
 use Rattle.doc_changes.specs.State.{State}
 use Rattle.doc_changes.specs.Refusals.{plain}
 use Rattle.refusals.specs.declared.numbers.TheConstants.{DEVICE, MEMORY, NO_ROOM}
+use Rattle.half_journal.specs.Layout.{IsFormat}
 use Rattle.file_programs.specs.Identity.{IsChosen}
 use Rattle.file_programs.specs.declared.fault.Fault.{Fault}
 use Rattle.file_programs.specs.declared.fault.Fault.TheVariants.{Memory, Refused}
@@ -112,3 +113,11 @@ pub record IsFormattedFile (sectors version : ℕ) (asked : Option ℕ) (device 
   pub chosen : IsChosen asked identity
   pub size : (file_disk device).sectors ≡ sectors
   pub empty : (file_disk device).honest → (image : Image) → (model (nat_eq version 3) (file_disk device)).left image → Carries (nothing_in (nat_eq version 3) identity) image
+
+-- The store was opened in a file that held this by these bytes, which hold its documents and its marks, in its format or, before it was brought to format 2, in format 1: those of the file, if all reads gave what it held.
+pub record WasReadIn (held : Snapshot Held) (opened : StoreView FileDevice) (bytes : List ℕ) : Type 0 where
+  pub version : ℕ
+  pub version_fits : IsFormat version
+  pub rides_fits : opened.account.rides ≡ true → version ≡ 2
+  pub holds : Holds opened.account.state.profile (version_of_frames opened.account.rides version) opened.account.state.seq bytes opened.account.state.documents opened.account.state.marks
+  pub found : (file_disk opened.device).honest → (stands : Stands opened.account.state held.value.seen.items) × (stands.carried.bytes ≡ bytes)

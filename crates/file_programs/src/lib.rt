@@ -13,7 +13,7 @@ mod programs;
 pub use fault::{Fault, complain};
 pub use lines::show_line;
 pub use notices::{note, strictness_of};
-pub use opening::{Closed, Unopened, open_store, open_strictly};
+pub use opening::{Closed, Unopened, open_and_read, open_store, open_strictly};
 pub use programs::{
     Dumped, Ended, Examined, Left, NewCopy, NewFile, SalvagedFile, check_deep, check_file,
     copy_file, dump_file, format_file, repair_file, salvage_file, upgrade_file,

@@ -4,6 +4,7 @@ ghost use Rattle.std.specs.Prelude.{◌≡◌, IfOk, IfErr};
 ghost use Rattle.file_device.specs.File.{file_disk};
 ghost use Rattle.file_programs.specs.Faults.{told_of_unopened};
 ghost use Rattle.file_programs.specs.Files.{IsNoticedIn, IsOpenedIn, IsUnopenedBy, IsUnopenedIn, IsUnopenedOn};
+ghost use Rattle.file_programs.specs.Files.{WasReadIn};
 ghost use Rattle.doc_store.specs.declared.opening.Strictness.TheVariants.{AnyState};
 ghost use Rattle.sector_device.specs.declared.history.Held.{Held};
 ghost use Rattle.sector_device.specs.declared.history.History.{Opened};
@@ -102,6 +103,23 @@ pub fn open_strictly<R: Files<File = File>>(
     ensures noticed { IfOk result (λ opened. IsNoticedIn strictness held opened.0 opened.1) }
     ensures refused { IfErr result (IsUnopenedBy strictness held) }
 {
+    let (store, notice, _) = open_and_read(rt, alloc, file, strictness, held)?;
+    Ok((store, notice))
+}
+
+/// The same, and the bytes of which the store was made.
+pub fn open_and_read<R: Files<File = File>>(
+    rt: &R,
+    alloc: Global,
+    file: &str,
+    strictness: Strictness,
+    held: Snapshot<Held>,
+) -> Result<(Store<FileDevice>, Notice, Vec<u8>), Unopened>
+    ensures opened { IfOk result (λ opened. IsOpenedIn held opened.0) }
+    ensures noticed { IfOk result (λ opened. IsNoticedIn strictness held opened.0 opened.1) }
+    ensures read { IfOk result (λ opened. WasReadIn held opened.0 opened.2.items) }
+    ensures refused { IfErr result (IsUnopenedBy strictness held) }
+{
     let device = FileDevice::open(rt, alloc, file, held)?;
     strictly_on(alloc, device, strictness)
 }
@@ -112,19 +130,20 @@ pub fn store_on(alloc: Global, device: FileDevice) -> Result<Store<FileDevice>, 
     ensures refused { (held : Snapshot Held) → device.history ≡ Opened held → IfErr result (IsUnopenedOn AnyState held (file_disk device).sectors (file_disk device).failures) }
 {
     match strictly_on(alloc, device, Strictness::AnyState) {
-        Ok((store, _)) => Ok(store),
+        Ok((store, _, _)) => Ok(store),
         Err(unopened) => Err(unopened),
     }
 }
 
-// The same, so strictly, and what its slots say.
+// The same, so strictly, what its slots say, and the bytes of which it was made.
 fn strictly_on(
     alloc: Global,
     device: FileDevice,
     strictness: Strictness,
-) -> Result<(Store<FileDevice>, Notice), Unopened>
+) -> Result<(Store<FileDevice>, Notice, Vec<u8>), Unopened>
     ensures opened { (held : Snapshot Held) → device.history ≡ Opened held → IfOk result (λ opened. IsOpenedIn held opened.0) }
     ensures noticed { (held : Snapshot Held) → device.history ≡ Opened held → IfOk result (λ opened. IsNoticedIn strictness held opened.0 opened.1) }
+    ensures read { (held : Snapshot Held) → device.history ≡ Opened held → IfOk result (λ opened. WasReadIn held opened.0 opened.2.items) }
     ensures refused { (held : Snapshot Held) → device.history ≡ Opened held → IfErr result (IsUnopenedOn strictness held (file_disk device).sectors (file_disk device).failures) }
 {
     Ok(Store::open_with(alloc, device, strictness)?)

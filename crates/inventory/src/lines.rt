@@ -1,7 +1,7 @@
 //! The program's use of its store by lines, as a service does with what a client sends.
 
 use crate::fault::Fault;
-use doc_store::Store;
+use recorded_store::RecordedStore;
 use sector_device::SectorDevice;
 use serve_lines::{Options, ReplyRoom, Session};
 use std::alloc::Global;
@@ -10,7 +10,7 @@ use std::io::Write;
 /// Answers each line of a piece of input. What is written of a change is on the device already.
 pub fn answer<D: SectorDevice, W: Write>(
     alloc: Global,
-    store: &mut Store<D>,
+    store: &mut RecordedStore<D>,
     input: &[u8],
     out: &mut W,
 ) -> Result<(), Fault> {

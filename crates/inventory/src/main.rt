@@ -12,6 +12,7 @@ mod opening;
 use doc_store::Store;
 use fault::Fault;
 use file_device::FileDevice;
+use recorded_store::RecordedStore;
 use std::io::{self, Write};
 use std::process::ExitCode;
 
@@ -26,20 +27,23 @@ fn main(rt: HostRuntime) -> ExitCode {
 }
 
 fn keep_inventory(rt: &HostRuntime) -> Result<(), Fault> {
-    let mut store = opening::open_or_make(rt, rt.alloc(), "inventory", 64)?;
-    keep(rt, &mut store)
+    let store = opening::open_or_make(rt, rt.alloc(), "inventory", 64)?;
+    keep(rt, store)
 }
 
 /// Takes in what came, says how much to order, and answers a client's line.
-fn keep(rt: &HostRuntime, store: &mut Store<FileDevice>) -> Result<(), Fault> {
+fn keep(rt: &HostRuntime, store: Store<FileDevice>) -> Result<(), Fault> {
+    let mut store = store;
     let alloc = rt.alloc();
     let mut out = io::writer(rt);
-    calls::take_in(alloc, store, "shelf-1")?;
-    let low = calls::count_low(alloc, store, "shelf-1")?;
+    calls::take_in(alloc, &mut store, "shelf-1")?;
+    let low = calls::count_low(alloc, &store, "shelf-1")?;
     writeln!(out, "{low} to order")?;
+    // No client of it asks for the changes of others, so none are kept.
+    let mut recorded = RecordedStore::new(alloc, store, 0);
     lines::answer(
         alloc,
-        store,
+        &mut recorded,
         b"{\"cmd\":\"get\",\"name\":\"shelf-1\",\"path\":\"/nuts\"}\n",
         &mut out,
     )

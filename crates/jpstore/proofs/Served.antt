@@ -7,19 +7,29 @@ use Rattle.jpstore.specs.Calls.{IsRefused, IsServing}
 use Rattle.file_programs.specs.Files.{IsClosedIn, IsNoticedIn, IsUnopenedBy, WentToTheEnd, fault_of}
 use Rattle.jpstore.specs.Files.{IsServedIn}
 use Rattle.jpstore.specs.Kept.{IsKeptIn}
+use Rattle.jpstore.specs.Memory.{IsServedInMemory}
 use Rattle.file_programs.specs.Notices.{strictness_of}
+use Rattle.file_programs.specs.declared.fault.Fault.{Fault}
 use Rattle.file_programs.specs.declared.opening.Closed.{Closed}
 use Rattle.file_programs.specs.declared.opening.Unopened.{Unopened}
+use Rattle.jpstore.specs.declared.programs.mem.ClosedInMemory.{ClosedInMemory}
 
-pub serving : (held : Snapshot Held) (batch pump : ℕ) (strict : Bool) (r : Result Closed Unopened) (left left_new before after : Option (List ℕ))
-    → IfOk r (λ closed. WentToTheEnd closed.ended → IsServedIn held batch pump left left_new before after closed.store)
+pub serving : (held : Snapshot Held) (batch pump limit : ℕ) (strict : Bool) (r : Result Closed Unopened) (left left_new before after : Option (List ℕ))
+    → IfOk r (λ closed. WentToTheEnd closed.ended → IsServedIn held batch pump limit left left_new before after closed.store)
     → IfOk r (λ closed. closed.ended ≡ Ok tt → closed.store.account.broken ≡ false)
     → IfOk r (λ closed. closed.ended ≡ Err (fault_of DEVICE) → closed.store.account.broken ≡ true)
-    → IfOk r (λ closed. IsClosedIn held closed.store) → IfOk r (λ closed. IsKeptIn held closed.ended left left_new before after closed.store) → IfOk r (λ closed. IsNoticedIn (strictness_of strict) held closed.store closed.notice) → IfErr r (IsUnopenedBy (strictness_of strict) held) → OnErr r (left_new ≡ left) → OnErr r (after ≡ before)
-    → MatchResult r (λ closed. IsServing held batch pump strict closed left left_new before after) (λ unopened. IsRefused (strictness_of strict) held unopened before after × (left_new ≡ left))
-serving held batch pump strict (Ok closed) left left_new before after served works broke closed_in kept noticed refused unread unwritten =
+    → IfOk r (λ closed. IsClosedIn held closed.store) → IfOk r (λ closed. IsKeptIn held limit closed.ended left left_new before after closed.store) → IfOk r (λ closed. IsNoticedIn (strictness_of strict) held closed.store closed.notice) → IfErr r (IsUnopenedBy (strictness_of strict) held) → OnErr r (left_new ≡ left) → OnErr r (after ≡ before)
+    → MatchResult r (λ closed. IsServing held batch pump limit strict closed left left_new before after) (λ unopened. IsRefused (strictness_of strict) held unopened before after × (left_new ≡ left))
+serving held batch pump limit strict (Ok closed) left left_new before after served works broke closed_in kept noticed refused unread unwritten =
     record { served = served; works = works; broke = broke; closed_in = closed_in; kept = kept; noticed = noticed }
-serving held batch pump strict (Err unopened) left left_new before after served works broke closed_in kept noticed refused unread unwritten = ((refused, unwritten), unread)
+serving held batch pump limit strict (Err unopened) left left_new before after served works broke closed_in kept noticed refused unread unwritten = ((refused, unwritten), unread)
+
+-- the same of what `mem` ensures
+pub in_memory : (sectors limit : ℕ) (r : Result ClosedInMemory Fault) (left left_new before after : Option (List ℕ))
+    → IfOk r (λ closed. closed.ended ≡ Ok tt → IsServedInMemory sectors limit left left_new before after closed.store) → OnErr r (left_new ≡ left) → OnErr r (after ≡ before)
+    → MatchResult r (λ closed. closed.ended ≡ Ok tt → IsServedInMemory sectors limit left left_new before after closed.store) (λ fault. (left_new ≡ left) × (after ≡ before))
+in_memory sectors limit (Ok closed) left left_new before after served unread unwritten = served
+in_memory sectors limit (Err fault) left left_new before after served unread unwritten = (unread, unwritten)
 
 -- what follows where it is an `Err`
 pub on_err : {T E P Q : Type 0} (r : Result T E) → (P → Q) → OnErr r P → OnErr r Q

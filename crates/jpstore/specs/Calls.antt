@@ -63,12 +63,12 @@ is_noted kept = true
 
 -- The store in a file that held this was served. If all that there was to read was served, it was served so; the end says whether the device failed; and
 -- however it ended, the store went by one run from what was opened.
-pub record IsServing (held : Snapshot Held) (batch pump : ℕ) (strict : Bool) (closed : Closed) (left left_new before after : Option (List ℕ)) : Type 0 where
-  pub served : WentToTheEnd closed.ended → IsServedIn held batch pump left left_new before after closed.store
+pub record IsServing (held : Snapshot Held) (batch pump limit : ℕ) (strict : Bool) (closed : Closed) (left left_new before after : Option (List ℕ)) : Type 0 where
+  pub served : WentToTheEnd closed.ended → IsServedIn held batch pump limit left left_new before after closed.store
   pub works : closed.ended ≡ Ok tt → closed.store.account.broken ≡ false
   pub broke : closed.ended ≡ Err (fault_of DEVICE) → closed.store.account.broken ≡ true
   pub closed_in : IsClosedIn held closed.store
-  pub kept : IsKeptIn held closed.ended left left_new before after closed.store
+  pub kept : IsKeptIn held limit closed.ended left left_new before after closed.store
   pub noticed : IsNoticedIn (strictness_of strict) held closed.store closed.notice
 
 -- no store was opened in a file that held this, and nothing was written
@@ -80,8 +80,8 @@ IsRefused strictness held unopened before after = IsUnopenedBy strictness held u
 abbrev pub Does : Snapshot Held → Asked → Kept → Option (List ℕ) → Option (List ℕ) → Option (List ℕ) → Option (List ℕ) → Type 0
 Does held (format file sectors version mode sparse identity) (Formatted made) left left_new before after =
     IfOk made (IsFormattedFile sectors version identity) × Shows made (line_of (format_reply (capacity_of (nat_eq version 3) sectors) sectors)) before after × (left_new ≡ left)
-Does held (serve file batch pump strict) (Served served) left left_new before after =
-    MatchResult served (λ closed. IsServing held batch pump strict closed left left_new before after) (λ unopened. IsRefused (strictness_of strict) held unopened before after × (left_new ≡ left))
+Does held (serve file batch pump limit strict) (Served served) left left_new before after =
+    MatchResult served (λ closed. IsServing held batch pump limit strict closed left left_new before after) (λ unopened. IsRefused (strictness_of strict) held unopened before after × (left_new ≡ left))
 Does held (check file strict) (Checked checked) left left_new before after =
     MatchResult checked (λ closed. IsShown (strictness_of strict) held closed before after) (λ unopened. IsRefused (strictness_of strict) held unopened before after) × (left_new ≡ left)
 Does held (repair file) (Repaired repaired) left left_new before after =
@@ -94,8 +94,8 @@ Does held (copy file new sectors version identity) (Copied copied) left left_new
     × (left_new ≡ left)
 Does held (upgrade file version identity) (Upgraded upgraded) left left_new before after =
     MatchResult upgraded (λ closed. IsUpgrading held version identity closed before after) (λ unopened. IsRefused AnyState held unopened before after) × (left_new ≡ left)
-Does held (mem sectors) (InMemory memory) left left_new before after =
-    MatchResult memory (λ closed. closed.ended ≡ Ok tt → IsServedInMemory sectors left left_new before after closed.store) (λ fault. (left_new ≡ left) × (after ≡ before))
+Does held (mem sectors limit) (InMemory memory) left left_new before after =
+    MatchResult memory (λ closed. closed.ended ≡ Ok tt → IsServedInMemory sectors limit left left_new before after closed.store) (λ fault. (left_new ≡ left) × (after ≡ before))
 Does held (deep file) (Examined examined) left left_new before after =
     MatchResult examined (λ e. IsExaminedIn held e before after) (λ unopened. IsUnlookedIn held unopened × (after ≡ before)) × (left_new ≡ left)
 Does held (salvage file frames) (Salvaged salvaged) left left_new before after =

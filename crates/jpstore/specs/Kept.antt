@@ -17,14 +17,20 @@ use Rattle.serve_lines.specs.Kept.{IsKept}
 use Rattle.protocol.specs.declared.serve_fault.ServeFault.TheVariants.{Writer}
 use Rattle.file_programs.specs.declared.fault.Fault.{Fault}
 use Rattle.file_programs.specs.declared.fault.Fault.TheVariants.{Session}
+use Rattle.change_history.specs.History.{History}
 use Rattle.file_programs.specs.Files.{IsOpenedIn, WentToTheEnd}
+use Rattle.jpstore.specs.Histories.{BeginsIn}
 
 -- A store that was opened in a file that held this was served so, however that ended.
-pub record IsKeptIn (held : Snapshot Held) (ended : Result (Unit {0}) Fault) (left left_new before after : Option (List ℕ)) (closed : StoreView FileDevice) : Type 0 where
+pub record IsKeptIn (held : Snapshot Held) (limit : ℕ) (ended : Result (Unit {0}) Fault) (left left_new before after : Option (List ℕ)) (closed : StoreView FileDevice) : Type 0 where
   pub opened : StoreView FileDevice
   pub is_opened : IsOpenedIn held opened
   pub honest : (file_disk closed.device).honest → (file_disk opened.device).honest
-  pub kept : IsKept file_disk opened closed left left_new
+  -- the history that it begins with, and the one that it ends with, of which nothing more is said here
+  pub first : History
+  pub last : History
+  pub begins : BeginsIn held limit opened first
+  pub kept : IsKept file_disk (record { store = opened; history = first }) (record { store = closed; history = last }) left left_new
   -- At the end of the input no line is without a reply; and unless the writer failed the lines of the replies are all that was written.
   pub whole : WentToTheEnd ended → (kept.later ≡ []) × IsAtEnd left_new
   pub wrote : (ended ≡ Err (Session Writer) → ⊥) → Appends before after (reply_lines kept.replies)

@@ -5,6 +5,8 @@ use Rattle.sector_device.specs.Memory.{mem_disk}
 use Rattle.sector_device.specs.declared.memory.MemDisk.{MemDisk}
 use Rattle.doc_changes.specs.State.{empty}
 use Rattle.store_commits.specs.Account.{Account, StoreView}
+use Rattle.recorded_store.specs.Recorded.{RecordedView}
+use Rattle.told_transactions.specs.Told.{none_from}
 use Rattle.protocol.specs.Lines.{lines_of}
 use Rattle.serve_lines.specs.Serve.{Serves}
 use Rattle.jpstore.specs.Files.{options_of}
@@ -17,7 +19,7 @@ new_account sectors = record { state = empty; used = 0; half = 0; rides = false;
 -- An empty store of `sectors` sectors was served to the end, and works: all that was read is all there was, and what
 -- was written is the reply lines of a session over its lines, in which each change is made by itself, and no step of a
 -- copy unasked. The seal at its end has nothing to do in format 2.
-pub record IsServedInMemory (sectors : ℕ) (left left_new : Option (List ℕ)) (before after : Option (List ℕ)) (closed : StoreView MemDisk) : Type 0 where
+pub record IsServedInMemory (sectors limit : ℕ) (left left_new : Option (List ℕ)) (before after : Option (List ℕ)) (closed : StoreView MemDisk) : Type 0 where
   pub opened : StoreView MemDisk
   pub is_new : opened.account ≡ new_account sectors
   pub works : closed.account.broken ≡ false
@@ -25,6 +27,6 @@ pub record IsServedInMemory (sectors : ℕ) (left left_new : Option (List ℕ)) 
   pub consumed : Consumes left left_new read
   pub at_end : IsAtEnd left_new
   pub count : ℕ
-  pub mid : StoreView MemDisk
-  pub served : Serves mem_disk (options_of 1 0) opened (lines_of read) before mid after count
-  pub sealed : IsSealedAtEnd mem_disk opened mid closed
+  pub mid : RecordedView MemDisk
+  pub served : Serves mem_disk (options_of 1 0) (record { store = opened; history = none_from limit 0 }) (lines_of read) before mid after count
+  pub sealed : IsSealedAtEnd mem_disk opened mid.store closed

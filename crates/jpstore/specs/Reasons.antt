@@ -11,12 +11,12 @@ use Rattle.file_programs.specs.declared.fault.Fault.TheVariants as told
 -- FILE of a call
 abbrev pub file_of : Asked → Option (List ℕ)
 file_of (format file sectors version mode sparse identity) = Some file
-file_of (serve file batch pump strict) = Some file
+file_of (serve file batch pump history strict) = Some file
 file_of (check file strict) = Some file
 file_of (repair file) = Some file
 file_of (copy file new sectors version identity) = Some file
 file_of (upgrade file version identity) = Some file
-file_of (mem sectors) = None
+file_of (mem sectors history) = None
 file_of (deep file) = Some file
 file_of (salvage file frames) = Some file
 file_of (dump file) = Some file
@@ -25,11 +25,11 @@ file_of (dump file) = Some file
 abbrev pub new_of : Asked → Option (List ℕ)
 new_of (copy file new sectors version identity) = Some new
 new_of (format file sectors version mode sparse identity) = None
-new_of (serve file batch pump strict) = None
+new_of (serve file batch pump history strict) = None
 new_of (check file strict) = None
 new_of (repair file) = None
 new_of (upgrade file version identity) = None
-new_of (mem sectors) = None
+new_of (mem sectors history) = None
 new_of (deep file) = None
 new_of (salvage file frames) = None
 new_of (dump file) = None

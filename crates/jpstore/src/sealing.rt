@@ -3,6 +3,7 @@
 ghost use Rattle.std.specs.Prelude.{◌≡◌, ◌≢◌, ◌↔◌, ℕ, [], List, IfOk, IsErrOf, IsOk, IsTrue, false};
 ghost use Rattle.std.specs.Io.KnownBytes.{Appends, Consumes, IsAtEnd};
 ghost use Rattle.store_commits.specs.Account.{IsStanding, StoreView};
+ghost use Rattle.recorded_store.specs.Recorded.{RecordedView};
 ghost use Rattle.protocol.specs.Lines.{answered, ended, lines_of};
 ghost use Rattle.protocol.specs.Reply.{reply_lines};
 ghost use Rattle.serve_lines.specs.Kept.{IsKept};
@@ -11,8 +12,9 @@ ghost use Rattle.protocol.specs.declared.serve_fault.ServeFault.TheVariants.{Rea
 ghost use Rattle.file_programs.specs.Files.{RanSomeEvents};
 ghost use Rattle.jpstore.specs.Seals.{IsSealedAtEnd};
 
+use doc_store::Status;
 use doc_store::laws::runs_join;
-use doc_store::{Status, Store};
+use recorded_store::RecordedStore;
 use sector_device::SectorDevice;
 use serve_lines::{Options, ServeFault, Served, serve};
 use std::alloc::Global;
@@ -22,7 +24,7 @@ use std::io::{Read, Write};
 /// session it is as it was then.
 pub fn serve_and_seal<D: SectorDevice, I: Read, O: Write>(
     alloc: Global,
-    store: &mut Store<D>,
+    store: &mut RecordedStore<D>,
     reader: &mut I,
     writer: &mut O,
     options: &Options,
@@ -31,8 +33,8 @@ pub fn serve_and_seal<D: SectorDevice, I: Read, O: Write>(
         × (IsOk result → (k.later ≡ []) × IsAtEnd (I.remaining reader.new))
         × ((IsErrOf result Writer → ⊥) → Appends (O.contents writer.old) (O.contents writer.new) (reply_lines k.replies)) }
     ensures session { IfOk result (λ served. (read : List ℕ) × Consumes (I.remaining reader.old) (I.remaining reader.new) read × IsAtEnd (I.remaining reader.new)
-        × ((mid : StoreView D) × Serves D.disk options.now store.old (lines_of read) (O.contents writer.old) mid (O.contents writer.new) served.lines
-        × IsSealedAtEnd D.disk store.old mid store.new)) }
+        × ((mid : RecordedView D) × Serves D.disk options.now store.old (lines_of read) (O.contents writer.old) mid (O.contents writer.new) served.lines
+        × IsSealedAtEnd D.disk store.old.store mid.store store.new.store)) }
     ensures broken { IfOk result (λ served. served.broken ≡ store.new.account.broken) }
     ensures reader { IsErrOf result Reader → (read : List ℕ) × Consumes (I.remaining reader.old) (I.remaining reader.new) read
         × Pauses D.disk options.now store.old (answered (ended read)) (O.contents writer.old) store.new (O.contents writer.new) }
@@ -41,11 +43,11 @@ pub fn serve_and_seal<D: SectorDevice, I: Read, O: Write>(
     ensures writer { IsErrOf result Writer → (read : List ℕ) × Consumes (I.remaining reader.old) (I.remaining reader.new) read
         × BreaksOff D.disk options.now store.old read (I.remaining reader.new) store.new }
     ensures memory { IsErrOf result Memory → (store.new ≡ store.old) × (reader.new ≡ reader.old) × (writer.new ≡ writer.old) }
-    ensures went { RanSomeEvents D.disk store.old store.new }
+    ensures went { RanSomeEvents D.disk store.old.store store.new.store }
     ensures standing { IsStanding (D.disk store.new.device) store.new.account }
 {
     runs_join::<D>();
-    let seq = store.status().seq;
+    let seq = store.store().status().seq;
     match serve(alloc, store, reader, writer, options) {
         Ok(served) => {
             let broken = seal_if_changed(store, seq);
@@ -60,16 +62,16 @@ pub fn serve_and_seal<D: SectorDevice, I: Read, O: Write>(
 
 // Seals a store that works and has accepted changes since it had this number of them, and answers whether it is broken
 // then.
-fn seal_if_changed<D: SectorDevice>(store: &mut Store<D>, seq: u64) -> bool
-    ensures sealed { (old : StoreView D) → old.account.state.seq ≡ seq → IsSealedAtEnd D.disk old store.old store.new }
+fn seal_if_changed<D: SectorDevice>(store: &mut RecordedStore<D>, seq: u64) -> bool
+    ensures sealed { (old : StoreView D) → old.account.state.seq ≡ seq → IsSealedAtEnd D.disk old store.old.store store.new.store }
     ensures broken { result ≡ store.new.account.broken }
     ensures standing { IsStanding (D.disk store.new.device) store.new.account }
 {
     runs_join::<D>();
-    if has_changed(&store.status(), seq) {
+    if has_changed(&store.store().status(), seq) {
         let _ = store.seal();
     }
-    store.status().broken
+    store.store().status().broken
 }
 
 // Whether a store of this status works and has another number of accepted changes.

@@ -2,5 +2,7 @@ pub mod Written
 pub mod Texts
 pub mod Cuts
 pub mod Keeps
-pub mod Changes
+pub mod Objects
 pub mod Marks
+pub mod Frames
+pub mod Told

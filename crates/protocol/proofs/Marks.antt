@@ -186,6 +186,7 @@ module _ (ms left : Members) (at_mark : Doc) (takes : TakesOut (codes "mark") ms
   only_marked none (asked.rev name) is = not_so _ is.0 refl
   only_marked none (asked.mark key) is = not_so _ is.0 refl
   only_marked none (asked.query name path) is = not_so _ is.0 refl
+  only_marked none (asked.changes from most) is = not_so _ is.0 refl
   only_marked none asked.list is = not_so _ is.0 refl
   only_marked none asked.status is = not_so _ is.0 refl
   only_marked none asked.snapshot is = not_so _ is.0 refl

@@ -6,6 +6,7 @@ use Rattle.std.proofs.lemmas.List.{drop_all}
 use Rattle.std.proofs.lemmas.Option.{get_or_from_slice_get, slice_get_within}
 use Rattle.json.specs.Print.{escape_byte}
 use Rattle.serde_json.specs.Written.{comma_if}
+use Rattle.doc_tree.specs.Doc.{Doc}
 use Rattle.doc_tree.specs.Text.{elements_text, text_of}
 use Rattle.doc_tree.specs.TreeView.{elements_of}
 use Rattle.path_eval.specs.Nodes.{Located}
@@ -54,20 +55,20 @@ line_done ns i line whole past is ends =
 
 -- ---- its bytes
 
-line_length : (ns : List Located) → length (line_of (nodes_reply ns)) ≡ length (text_of (nodes_reply ns)) + 1
-line_length ns = length-append (text_of (nodes_reply ns)) (codes "\n")
+line_length : (d : Doc) → length (line_of d) ≡ length (text_of d) + 1
+line_length d = length-append (text_of d) (codes "\n")
 
 -- a part of the line that is over the limit is not the last of it
 pub part_over : (later : Bool) (ns rest : List Located) (line : List ℕ) → line ++ rows_left later rest ≡ line_of (nodes_reply ns) → REPLY_BYTES < length line → REPLY_BYTES < length (text_of (nodes_reply ns))
 part_over later ns rest line is over =
-    let whole = ap length is ∙ line_length ns in
+    let whole = ap length is ∙ line_length (nodes_reply ns) in
     let parts = length-append line (rows_left later rest) in
     let left = length-append (elements_text later (elements_of (map node_object rest))) (codes ",\"ok\":true}\n") in
     let end : length (codes ",\"ok\":true}\n") ≡ 12 = refl in
     omega (arith, whole, parts, left, end, over)
 
-pub line_over : (ns : List Located) (line : List ℕ) → line ≡ line_of (nodes_reply ns) → REPLY_BYTES + 1 < length line → REPLY_BYTES < length (text_of (nodes_reply ns))
-line_over ns line is over = let whole = ap length is ∙ line_length ns in omega (arith, whole, over)
+pub line_over : (d : Doc) (line : List ℕ) → line ≡ line_of d → REPLY_BYTES + 1 < length line → REPLY_BYTES < length (text_of d)
+line_over d line is over = let whole = ap length is ∙ line_length d in omega (arith, whole, over)
 
-pub line_within : (ns : List Located) (line : List ℕ) → line ≡ line_of (nodes_reply ns) → length line ≤ REPLY_BYTES + 1 → length (text_of (nodes_reply ns)) ≤ REPLY_BYTES
-line_within ns line is within = let whole = ap length is ∙ line_length ns in omega (arith, whole, within)
+pub line_within : (d : Doc) (line : List ℕ) → line ≡ line_of d → length line ≤ REPLY_BYTES + 1 → length (text_of d) ≤ REPLY_BYTES
+line_within d line is within = let whole = ap length is ∙ line_length d in omega (arith, whole, within)

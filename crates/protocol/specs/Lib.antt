@@ -6,5 +6,7 @@ pub mod Room
 pub mod Lines
 pub mod Marks
 pub mod Request
+pub mod Changes
+pub mod Frames
 pub mod Read
 pub mod LineBuffer

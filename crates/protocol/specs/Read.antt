@@ -16,9 +16,9 @@ use Rattle.doc_changes.specs.declared.refusal.Refusal.{Refusal}
 use Rattle.refusals.specs.declared.numbers.TheConstants.{MEMORY}
 use Rattle.protocol.specs.Request as asked
 use Rattle.protocol.specs.Marks.{asked_value, mark_object, put_some}
-use Rattle.protocol.specs.Request.{members_of, objects_of, AreInRange, Asks, IsInRange, IsNoRequest, IsObjectOf}
+use Rattle.protocol.specs.Request.{from_and_max, members_of, objects_of, AreInRange, Asks, IsInRange, IsNoRequest, IsObjectOf}
 use Rattle.protocol.specs.declared.request.Request.{Request}
-use Rattle.protocol.specs.declared.request.Request.TheVariants.{Change, Get, GetSchema, Rev, Mark, Query, List as ListNames, Status, Snapshot, Pump, Seal}
+use Rattle.protocol.specs.declared.request.Request.TheVariants.{Change, Get, GetSchema, Rev, Mark, Query, Changes as ChangesAfter, List as ListNames, Status, Snapshot, Pump, Seal}
 
 -- a request, without its place in memory
 abbrev pub asked_by : Request → asked.Request
@@ -28,6 +28,7 @@ asked_by (GetSchema name) = asked.get_schema (string_bytes name)
 asked_by (Rev name) = asked.rev (string_bytes name)
 asked_by (Mark key) = asked.mark (string_bytes key)
 asked_by (Query name path) = asked.query (string_bytes name) (string_bytes path)
+asked_by (ChangesAfter from most) = asked.changes from most
 asked_by ListNames = asked.list
 asked_by Status = asked.status
 asked_by Snapshot = asked.snapshot
@@ -70,6 +71,7 @@ word_of (asked.get_schema name) = codes "get-schema"
 word_of (asked.rev name) = codes "rev"
 word_of (asked.mark key) = codes "mark"
 word_of (asked.query name path) = codes "query"
+word_of (asked.changes from most) = codes "changes"
 word_of asked.list = codes "list"
 word_of asked.status = codes "status"
 word_of asked.snapshot = codes "snapshot"
@@ -87,6 +89,7 @@ others_of (asked.get_schema name) = member (codes "name") (text name) no_members
 others_of (asked.rev name) = member (codes "name") (text name) no_members
 others_of (asked.mark key) = member (codes "key") (text key) no_members
 others_of (asked.query name path) = name_and name (codes "path") (text path)
+others_of (asked.changes from most) = from_and_max from most
 others_of asked.list = no_members
 others_of asked.status = no_members
 others_of asked.snapshot = no_members

@@ -8,9 +8,9 @@ use Rattle.record_text.specs.Change.{Change, command_object, name_and}
 use Rattle.doc_machine.specs.Transaction.{Changes, Transaction, alone, marked, several, single, together}
 use Rattle.refusals.specs.declared.numbers.TheConstants.{NOT_JSON, NUMBER, LINE_TOO_LONG, COMMAND}
 use Rattle.protocol.specs.Marks.{with_marking}
-use Rattle.protocol.specs.declared.limits.TheConstants.{LINE_BYTES, PUMP_SECTORS}
+use Rattle.protocol.specs.declared.limits.TheConstants.{CHANGES_BYTES, LINE_BYTES, PUMP_SECTORS}
 
--- a transaction; a snapshot, a step of one that is copied, or a seal, which change no document; or a question, which changes nothing: the value at a pointer's place, a schema, a revision, a mark, the nodes of a query, all names, the status
+-- a transaction; a snapshot, a step of one that is copied, or a seal, which change no document; or a question, which changes nothing: the value at a pointer's place, a schema, a revision, a mark, the nodes of a query, the transactions after the change of a number, all names, the status
 pub data Request : Type 0 where
   change : Transaction → Request
   get : (name path : List ℕ) → Request
@@ -18,6 +18,7 @@ pub data Request : Type 0 where
   rev : (name : List ℕ) → Request
   mark : (key : List ℕ) → Request
   query : (name path : List ℕ) → Request
+  changes : (from most : ℕ) → Request
   list : Request
   status : Request
   snapshot : Request
@@ -31,12 +32,16 @@ objects_of (c ∷ cs) = element (commands.object_of c) (objects_of cs)
 
 -- the members of a transaction's object: the list of its changes' objects, and `cmd`
 abbrev pub transaction_members : Elements → Members
-transaction_members changes = member (codes "changes") (docs.list changes) (member (codes "cmd") (text (codes "transaction")) no_members)
+transaction_members listed = member (codes "changes") (docs.list listed) (member (codes "cmd") (text (codes "transaction")) no_members)
 
 -- the members of the object of changes, but for those that speak of a mark
 abbrev pub members_of : Changes → Members
 members_of (alone c) = member (codes "cmd") (text (commands.word_of c)) (commands.others_of c)
 members_of (together cs) = transaction_members (objects_of cs)
+
+-- the members of a request for transactions: the number of the change that they come after, and how many bytes of frames at most are wanted
+abbrev pub from_and_max : ℕ → ℕ → Members
+from_and_max from most = member (codes "from") (int (pos from)) (member (codes "max") (int (pos most)) no_members)
 
 -- the object of a request, with exactly its members, in byte order of their names
 abbrev pub object_of : Request → Doc
@@ -48,6 +53,7 @@ object_of (get_schema name) = command_object (codes "get-schema") (member (codes
 object_of (rev name) = command_object (codes "rev") (member (codes "name") (text name) no_members)
 object_of (mark key) = command_object (codes "mark") (member (codes "key") (text key) no_members)
 object_of (query name path) = command_object (codes "query") (name_and name (codes "path") (text path))
+object_of (changes from most) = command_object (codes "changes") (from_and_max from most)
 object_of list = command_object (codes "list") no_members
 object_of status = command_object (codes "status") no_members
 object_of snapshot = command_object (codes "snapshot") no_members
@@ -62,6 +68,7 @@ AreInRange (together cs) = (1 ≤ length cs) × (length cs ≤ 1_024)
 -- its number, or the number of its changes, is one that may be asked for
 abbrev pub IsInRange : Request → Type 0
 IsInRange (pump most) = (1 ≤ most) × (most ≤ PUMP_SECTORS)
+IsInRange (changes from most) = (1 ≤ most) × (most ≤ CHANGES_BYTES)
 IsInRange (change (several cs)) = AreInRange (together cs)
 IsInRange (change (marked m cs)) = AreInRange cs
 IsInRange _ = ⊤

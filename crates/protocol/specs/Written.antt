@@ -25,3 +25,13 @@ seq_text m = number_text (codes ",\"seq\":") (option_map (λ mark. mark.seq) m)
 -- a line with the value of a mark after its first part and the mark's number after its second
 abbrev pub told_text : List ℕ → Option Mark → List ℕ → List ℕ
 told_text begun m behind = begun ++ (value_text m ++ (behind ++ (seq_text m ++ codes "}\n")))
+
+-- the member of a mark that is set, if there is one, after others
+abbrev pub mark_text : Option Mark → List ℕ
+mark_text None = []
+mark_text (Some m) = codes ",\"mark\":{\"key\":" ++ (quoted m.key ++ (codes ",\"value\":" ++ (quoted m.value ++ codes "}")))
+
+-- the member of an identity, if there is one, after others
+abbrev pub identity_text : Option (List ℕ) → List ℕ
+identity_text None = []
+identity_text (Some identity) = codes ",\"identity\":" ++ quoted identity

@@ -12,6 +12,7 @@
 //! text would be over the limit, it is refused at the node that passes it.
 #![tactic(auto)]
 
+mod changes;
 mod cut;
 pub mod limits;
 mod line;
@@ -28,6 +29,7 @@ mod several;
 mod shown;
 mod text;
 
+pub use changes::{changes_line, gone_line};
 pub use cut::cut_at_feed;
 pub use line::Line;
 pub use mark_lines::{mark_line, other_mark_line};

@@ -67,7 +67,7 @@ fn with_seq(line: Vec<u8>, mark: Option<&Mark>) -> Result<Vec<u8>, AllocError>
     }
 }
 
-fn with_quoted(line: Vec<u8>, text: &str) -> Result<Vec<u8>, AllocError>
+pub(crate) fn with_quoted(line: Vec<u8>, text: &str) -> Result<Vec<u8>, AllocError>
     ensures { IfOk result (λ longer. longer.items ≡ line.items ++ quoted text.now) }
 {
     let mut longer = line;
@@ -75,7 +75,7 @@ fn with_quoted(line: Vec<u8>, text: &str) -> Result<Vec<u8>, AllocError>
     Ok(longer)
 }
 
-fn with_number(line: Vec<u8>, number: u64) -> Result<Vec<u8>, AllocError>
+pub(crate) fn with_number(line: Vec<u8>, number: u64) -> Result<Vec<u8>, AllocError>
     ensures { IfOk result (λ longer. longer.items ≡ line.items ++ decimal number) }
 {
     let mut digits = Buffer::new();

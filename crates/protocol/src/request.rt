@@ -7,7 +7,7 @@ ghost use Rattle.doc_tree.specs.Read.{document, read_of};
 ghost use Rattle.doc_tree.specs.TreeView.{view};
 ghost use Rattle.protocol.specs.Read.{AsksWith, IsRequest, IsUnmarkedRequest, ReadsRequest};
 
-use crate::limits::{LINE_BYTES, PUMP_SECTORS};
+use crate::limits::{CHANGES_BYTES, LINE_BYTES, PUMP_SECTORS};
 use crate::marked::{marked, take_out};
 use crate::several::several;
 use doc_machine::{Refusal, Transaction};
@@ -31,6 +31,8 @@ pub enum Request {
     Mark { key: String },
     /// What a query selects in a document. Whether the path is a query isn't judged yet.
     Query { name: String, path: String },
+    /// The transactions after the change of number `from`, as many as have at most `max` bytes of frames, and one at least.
+    Changes { from: u64, max: u64 },
     /// The names of all documents.
     List,
     /// The status of the store.
@@ -118,6 +120,7 @@ fn alone(members: MemberCursor) -> Option<Request>
         "rev" => rev(others),
         "mark" => mark(others),
         "query" => query(others),
+        "changes" => changes(others),
         "list" => list(others),
         "status" => status(others),
         "snapshot" => snapshot(others),
@@ -170,6 +173,19 @@ fn query(others: MemberCursor) -> Option<Request>
     let (path, rest) = rest.take_text("path")?;
     rest.end()?;
     Some(Request::Query { name, path })
+}
+
+fn changes(others: MemberCursor) -> Option<Request>
+    ensures { AsksWith (codes "changes") (ahead others) result }
+{
+    let (from, rest) = others.take_number("from")?;
+    let (max, rest) = rest.take_number("max")?;
+    rest.end()?;
+    if 1 <= max && max <= CHANGES_BYTES {
+        Some(Request::Changes { from, max })
+    } else {
+        None
+    }
 }
 
 fn list(others: MemberCursor) -> Option<Request>

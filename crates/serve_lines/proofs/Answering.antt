@@ -1,6 +1,6 @@
 -- What a reply tells of its line: of the replies to questions, and of refusals.
-use Rattle.std.proofs.Common.{◌≡◌, ◌≢◌, ◌⊎◌, ◌≤◌, inl, inr, ⊎_elim, ℕ, Bool, true, false, List, [], ◌∷◌, map, length, arith, chars, codes, pos, nat_le, if◌then◌else◌, refl, sym, ◌∙◌, ap, subst, Option, None, Some, option_and_then, Result, Ok, Err}
-use Rattle.std.proofs.lemmas.Bool.{leb-true, le-leb}
+use Rattle.std.proofs.Common.{◌≡◌, ◌≢◌, ◌⊎◌, ◌≤◌, inl, inr, ⊎_elim, ℕ, Bool, true, false, List, [], ◌∷◌, map, length, arith, chars, codes, pos, nat_le, if◌then◌else◌, refl, sym, ◌∙◌, ap, subst, MatchOption, ◌<◌, Option, None, Some, option_and_then, Result, Ok, Err}
+use Rattle.std.proofs.lemmas.Bool.{leb-false, leb-true, le-leb}
 use Rattle.doc_tree.specs.Doc as docs
 use Rattle.doc_tree.specs.Doc.{Doc, Members, boolean, get_member, int, member, no_members, text}
 use Rattle.doc_tree.specs.Read.{Reading, document, not_json, not_whole, read_of}
@@ -23,14 +23,18 @@ use Rattle.doc_changes.specs.State.{Document, State, find}
 use Rattle.doc_changes.specs.declared.refusal.Refusal.{Refusal}
 use Rattle.doc_machine.specs.Queries.{nodes_in}
 use Rattle.doc_store.specs.Formats.{status_of}
-use Rattle.store_commits.specs.Account.{Account}
+use Rattle.told_transactions.specs.Told.{AreReadable, told_each}
+use Rattle.recorded_store.specs.Recorded.{Recorded}
+use Rattle.change_history.specs.History.{Told, first_within, since}
+use Rattle.doc_machine.specs.Transaction.{Transaction}
+use Rattle.protocol.specs.Changes.{changes_reply, gone_reply, transaction_objects}
 use Rattle.store_commits.specs.Run.{Event}
 use Rattle.store_commits.specs.declared.event.Reply.{Reply}
 use Rattle.protocol.specs.declared.limits.TheConstants.{REPLY_BYTES}
-use Rattle.protocol.specs.Request.{Request, Asks, IsAskedBy, IsInRange, change, get, get_schema, rev, mark, query, list, status, snapshot, pump, seal, object_of}
+use Rattle.protocol.specs.Request.{Request, Asks, IsAskedBy, IsInRange, change, get, get_schema, rev, mark, query, changes, list, status, snapshot, pump, seal, object_of}
 use Rattle.protocol.specs.Reply.{change_reply, mark_reply, names_reply, node_object, nodes_reply, other_mark_reply, refusal_reply, revision_reply, texts, told_by, value_or_null, value_reply, with_number}
-use Rattle.serve_lines.specs.Kept.{AsksFor, Has, HaveOwnNames, IsRefusal, LineTells, Refuses, Shows, Tells}
-use Rattle.serve_lines.specs.Session.{AnswersOther, Finds, Replies, Selects, found_reply, reply_to_mark, reply_to_rev, selected_reply}
+use Rattle.serve_lines.specs.Kept.{AsksFor, Has, HaveOwnNames, IsRefusal, IsWithinReply, Known, LineTells, Refuses, Shows, Tells, known_of}
+use Rattle.serve_lines.specs.Session.{AnswersOther, Finds, Replies, Selects, found_reply, reply_to_mark, reply_to_rev, selected_reply, told_reply}
 use Rattle.status_lines.specs.Status.{id_of}
 use Rattle.serve_lines.proofs.Statuses.{tells_seq}
 
@@ -221,30 +225,53 @@ query_answered s name path reply selected (inr (short, inr (inl left))) said =
 query_answered s name path reply selected (inr (short, inr (inr only))) said =
     selected_in s name path reply only.0 (document_at s name) refl short only.1 (said ∙ ap selected_reply only.2)
 
+-- ---- the transactions after a change
+
+-- the reply that tells these is within the limit, or refused
+told_these : (identity : Option (List ℕ)) (seq from : ℕ) (ts : List Transaction) (reply : Doc) (fits : Bool) → nat_le (length (text_of (changes_reply identity seq from ts))) REPLY_BYTES ≡ fits
+    → reply ≡ (if fits then changes_reply identity seq from ts else refusal_reply (plain REPLY_LONG)) → IsWithinReply (changes_reply identity seq from ts) reply
+told_these identity seq from ts reply true is said = inl (said, leb-true (length (text_of (changes_reply identity seq from ts))) REPLY_BYTES is)
+told_these identity seq from ts reply false is said =
+    inr (refuses_by reply (plain REPLY_LONG) said, over (length (text_of (changes_reply identity seq from ts))) is)
+  where
+    over : (n : ℕ) → nat_le n REPLY_BYTES ≡ false → REPLY_BYTES < n
+    over n none = leb-false n REPLY_BYTES none
+
+told_after_change : (old : Recorded) (from most : ℕ) (rest : Option (List Told)) (reply : Doc)
+    → MatchOption rest (reply ≡ gone_reply old.state.seq old.history.floor)
+    (λ known. (ts : List Transaction) × (first_within most known ≡ told_each old.rides from ts) × AreReadable from ts × (reply ≡ told_reply (id_of (status_of old.account)) old.state.seq from ts))
+    → MatchOption rest (reply ≡ gone_reply old.state.seq old.history.floor)
+    (λ known. (ts : List Transaction) × (first_within most known ≡ told_each old.rides from ts) × AreReadable from ts × (identity : Option (List ℕ)) × IsWithinReply (changes_reply identity old.state.seq from ts) reply)
+told_after_change old from most None reply h = h
+told_after_change old from most (Some known) reply h =
+    let identity = id_of (status_of old.account) in
+    (h.0, h.1, h.2, identity, told_these identity old.state.seq from h.0 reply (nat_le (length (text_of (changes_reply identity old.state.seq from h.0))) REPLY_BYTES) refl h.3)
+
 -- ---- a line by itself
 
-request_tells : (old new : Account) (request : Request) (events : List Event) (said : List Reply) (reply : Doc) → Replies old request events said reply new → Tells old.state request reply
+request_tells : (old new : Recorded) (request : Request) (events : List Event) (said : List Reply) (reply : Doc) → Replies old request events said reply new → Tells (known_of old) request reply
 request_tells old new (change t) events said reply h = absurd h
-request_tells old new snapshot events said reply (Ok used, answers, is, asked, told) = inl (ap (resolve (codes "seq" ∷ [])) is)
-request_tells old new snapshot events said reply (Err r, answers, is, asked, told) = inr (is_refusal reply r is)
-request_tells old new (pump most) events said reply (Ok step, answers, is, asked, told) = inl (ap (resolve (codes "seq" ∷ [])) is)
-request_tells old new (pump most) events said reply (Err r, answers, is, asked, told) = inr (is_refusal reply r is)
-request_tells old new seal events said reply (Ok done, answers, is, asked, told) = inl (ap (resolve (codes "seq" ∷ [])) is)
-request_tells old new seal events said reply (Err r, answers, is, asked, told) = inr (is_refusal reply r is)
+request_tells old new snapshot events said reply (Ok used, answers, kept, is, asked, told) = inl (ap (resolve (codes "seq" ∷ [])) is)
+request_tells old new snapshot events said reply (Err r, answers, kept, is, asked, told) = inr (is_refusal reply r is)
+request_tells old new (pump most) events said reply (Ok step, answers, kept, is, asked, told) = inl (ap (resolve (codes "seq" ∷ [])) is)
+request_tells old new (pump most) events said reply (Err r, answers, kept, is, asked, told) = inr (is_refusal reply r is)
+request_tells old new seal events said reply (Ok done, answers, kept, is, asked, told) = inl (ap (resolve (codes "seq" ∷ [])) is)
+request_tells old new seal events said reply (Err r, answers, kept, is, asked, told) = inr (is_refusal reply r is)
 request_tells old new (get name path) events said reply h = value_answered old.state name path reply h.0 h.1 h.2
 request_tells old new (get_schema name) events said reply h = schema_answered old.state name reply (document_at old.state name) refl h.0
 request_tells old new (rev name) events said reply h = revision_answered old.state name reply (document_at old.state name) refl h.0
 request_tells old new (mark key) events said reply h = mark_answered old.state key reply (is_name key) refl h.0
 request_tells old new (query name path) events said reply h = query_answered old.state name path reply h.0 h.1 h.2
+request_tells old new (changes from most) events said reply h = told_after_change old from most (since old.history.floor old.history.told from) reply h.0
 request_tells old new list events said reply h = inl h.0
-request_tells old new status events said reply h = inl (ap (resolve (codes "seq" ∷ [])) h.0 ∙ tells_seq (status_of old) (id_of (status_of old)), ap (resolve (codes "documents" ∷ [])) h.0)
+request_tells old new status events said reply h = inl (ap (resolve (codes "seq" ∷ [])) h.0 ∙ tells_seq (status_of old.account) (id_of (status_of old.account)), ap (resolve (codes "documents" ∷ [])) h.0)
 
-memory_tells : (s : State) (line : List ℕ) (reply : Doc) → reply ≡ refusal_reply (plain MEMORY) → LineTells s line reply
+memory_tells : (s : Known) (line : List ℕ) (reply : Doc) → reply ≡ refusal_reply (plain MEMORY) → LineTells s line reply
 memory_tells s line reply is = inr (inr (inl (refuses_by reply (plain MEMORY) is)))
 
 -- what a line by itself is answered
-pub other_tells : (old new : Account) (line : List ℕ) (events : List Event) (said : List Reply) (reply : Doc) → AnswersOther old line events said reply new → LineTells old.state line reply
-other_tells old new line events said reply (inl memory) = memory_tells old.state line reply memory.0
+pub other_tells : (old new : Recorded) (line : List ℕ) (events : List Event) (said : List Reply) (reply : Doc) → AnswersOther old line events said reply new → LineTells (known_of old) line reply
+other_tells old new line events said reply (inl memory) = memory_tells (known_of old) line reply memory.0
 other_tells old new line events said reply (inr (Ok request, asks, is)) = inl (request, asks_for line request asks, request_tells old new request events said reply is)
 other_tells old new line events said reply (inr (Err number, asks, is)) = inr (inl (is_refusal reply (plain number) is.0, asks_none line number asks))
 
@@ -274,22 +301,32 @@ not_shown s (query name path) seq shows =
     let nodes = nodelist shows.0.doc shows.3 (only_node shows.0.doc) in
     other_member seq (codes "nodes") (nodes_reply nodes) (docs.list (elements_of (map node_object nodes))) shows.6 refl refl
 not_shown s list seq shows = other_member seq (codes "names") (names_reply (map (λ d. d.name) s.documents)) (docs.list (texts (map (λ d. d.name) s.documents))) shows refl refl
+not_shown s (changes from most) seq shows = shows
 not_shown s status seq shows = let none : None ≡ Some (int (pos (length s.documents))) = shows.1 in absurd (cc none)
 
-request_not_done : (s : State) (request : Request) (seq : ℕ) → Tells s request (change_reply seq) → ⊥
+not_told_after : (k : Known) (from most seq : ℕ) (rest : Option (List Told))
+    → MatchOption rest (change_reply seq ≡ gone_reply k.state.seq k.history.floor)
+    (λ known. (ts : List Transaction) × (first_within most known ≡ told_each k.rides from ts) × AreReadable from ts × (identity : Option (List ℕ)) × IsWithinReply (changes_reply identity k.state.seq from ts) (change_reply seq)) → ⊥
+not_told_after k from most seq None is = other_member seq (codes "gone") (gone_reply k.state.seq k.history.floor) (boolean true) is refl refl
+not_told_after k from most seq (Some known) (ts, first, readable, identity, inl told) =
+    other_member seq (codes "changes") (changes_reply identity k.state.seq from ts) (docs.list (transaction_objects from ts)) told.0 refl refl
+not_told_after k from most seq (Some known) (ts, first, readable, identity, inr refused) = not_refused seq (REPLY_LONG, refused.0)
+
+request_not_done : (s : Known) (request : Request) (seq : ℕ) → Tells s request (change_reply seq) → ⊥
 request_not_done s (change t) seq refused = not_refused seq refused
 request_not_done s snapshot seq tells = ⊎_elim (no_seq seq) (not_refused seq) tells
 request_not_done s (pump most) seq tells = ⊎_elim (no_seq seq) (not_refused seq) tells
 request_not_done s seal seq tells = ⊎_elim (no_seq seq) (not_refused seq) tells
-request_not_done s (get name path) seq tells = ⊎_elim (not_shown s (get name path) seq) (λ refused. not_refused seq refused.0) tells
-request_not_done s (get_schema name) seq tells = ⊎_elim (not_shown s (get_schema name) seq) (λ refused. not_refused seq refused.0) tells
-request_not_done s (rev name) seq tells = ⊎_elim (not_shown s (rev name) seq) (λ refused. not_refused seq refused.0) tells
-request_not_done s (mark key) seq tells = ⊎_elim (not_shown s (mark key) seq) (λ refused. not_refused seq refused.0) tells
-request_not_done s (query name path) seq tells = ⊎_elim (not_shown s (query name path) seq) (λ refused. not_refused seq refused.0) tells
-request_not_done s list seq tells = ⊎_elim (not_shown s list seq) (λ refused. not_refused seq refused.0) tells
-request_not_done s status seq tells = ⊎_elim (not_shown s status seq) (λ refused. not_refused seq refused.0) tells
+request_not_done s (get name path) seq tells = ⊎_elim (not_shown s.state (get name path) seq) (λ refused. not_refused seq refused.0) tells
+request_not_done s (get_schema name) seq tells = ⊎_elim (not_shown s.state (get_schema name) seq) (λ refused. not_refused seq refused.0) tells
+request_not_done s (rev name) seq tells = ⊎_elim (not_shown s.state (rev name) seq) (λ refused. not_refused seq refused.0) tells
+request_not_done s (mark key) seq tells = ⊎_elim (not_shown s.state (mark key) seq) (λ refused. not_refused seq refused.0) tells
+request_not_done s (query name path) seq tells = ⊎_elim (not_shown s.state (query name path) seq) (λ refused. not_refused seq refused.0) tells
+request_not_done s (changes from most) seq tells = not_told_after s from most seq (since s.history.floor s.history.told from) tells
+request_not_done s list seq tells = ⊎_elim (not_shown s.state list seq) (λ refused. not_refused seq refused.0) tells
+request_not_done s status seq tells = ⊎_elim (not_shown s.state status seq) (λ refused. not_refused seq refused.0) tells
 
-pub not_done : (s : State) (line : List ℕ) (seq : ℕ) → LineTells s line (change_reply seq) → ⊥
+pub not_done : (s : Known) (line : List ℕ) (seq : ℕ) → LineTells s line (change_reply seq) → ⊥
 not_done s line seq (inl asked) = request_not_done s asked.0 seq asked.2
 not_done s line seq (inr (inl none)) = not_refused seq none.0
 not_done s line seq (inr (inr (inl memory))) = not_refused seq (MEMORY, memory)

@@ -8,7 +8,8 @@ use Rattle.std.proofs.lemmas.Bool.{ne_eqb}
 use Rattle.std.specs.Io.KnownBytes.{IsAtEnd}
 use Rattle.sector_device.specs.Disk.{Disk}
 use Rattle.doc_tree.specs.Doc.{Doc}
-use Rattle.store_commits.specs.Account.{StoreView, IsStanding}
+use Rattle.recorded_store.specs.Recorded.{RecordedView, recorded_of}
+use Rattle.store_commits.specs.Account.{IsStanding}
 use Rattle.store_commits.specs.Run.{Event, Ran}
 use Rattle.store_commits.specs.declared.event.Reply.{Reply}
 use Rattle.store_commits.proofs.Modelled.{AreCoherent}
@@ -74,7 +75,7 @@ answered-append a b = filter-append (λ line. not (is_blank line)) a b
 
 module _ {D : Type 0} (disk : D → Disk) (options : Options) where
   -- some bytes came, and no line feed
-  pub reaches_more : (start : StoreView D) (bytes : List ℕ) (now : StoreView D) (replies : List Doc) (cs : List Transaction) (rest more : List ℕ) → HasCut disk options start bytes now replies cs rest
+  pub reaches_more : (start : RecordedView D) (bytes : List ℕ) (now : RecordedView D) (replies : List Doc) (cs : List Transaction) (rest more : List ℕ) → HasCut disk options start bytes now replies cs rest
       → HasCut disk options start (bytes ++ more) now replies cs (rest ++ more)
   reaches_more start bytes now replies cs rest more r = record {
     lines = r.lines;
@@ -84,19 +85,19 @@ module _ {D : Type 0} (disk : D → Disk) (options : Options) where
   }
 
   -- the lines to answer of all that was read, where the rest is a line
-  pub lines_of-reached : (start : StoreView D) (bytes : List ℕ) (now : StoreView D) (replies : List Doc) (cs : List Transaction) (rest : List ℕ) (r : HasCut disk options start bytes now replies cs rest) (more : List ℕ)
+  pub lines_of-reached : (start : RecordedView D) (bytes : List ℕ) (now : RecordedView D) (replies : List Doc) (cs : List Transaction) (rest : List ℕ) (r : HasCut disk options start bytes now replies cs rest) (more : List ℕ)
       → lines_of (bytes ++ more) ≡ answered r.lines ++ lines_of (rest ++ more)
   lines_of-reached start bytes now replies cs rest r more =
       ap lines_of (ap (λ x. x ++ more) r.split ∙ append_assoc (with_feeds r.lines) rest more) ∙ ap answered (cut-with_feeds r.lines (rest ++ more) r.unbroken) ∙ answered-append r.lines (cut (rest ++ more))
 
   -- the lines that a line feed has ended are answered, or their changes wait
-  pub settles_ended : (start : StoreView D) (bytes : List ℕ) (now : StoreView D) (replies : List Doc) (cs : List Transaction) (rest : List ℕ) → HasNoBreak rest → HasCut disk options start bytes now replies cs rest
+  pub settles_ended : (start : RecordedView D) (bytes : List ℕ) (now : RecordedView D) (replies : List Doc) (cs : List Transaction) (rest : List ℕ) → HasNoBreak rest → HasCut disk options start bytes now replies cs rest
       → HasAnswered disk options start (answered (ended bytes)) now replies cs
   settles_ended start bytes now replies cs rest whole r =
       subst (λ (ls : List (List ℕ)). HasAnswered disk options start (answered ls) now replies cs) (sym (ap ended r.split ∙ ended-with_feeds r.lines rest r.unbroken whole)) r.settles
 
   -- whatever came behind it
-  pub breaks_off : (start : StoreView D) (bytes more : List ℕ) (left : Option (List ℕ)) (now : StoreView D) (replies : List Doc) (cs : List Transaction) (rest : List ℕ) → HasCut disk options start bytes now replies cs rest
+  pub breaks_off : (start : RecordedView D) (bytes more : List ℕ) (left : Option (List ℕ)) (now : RecordedView D) (replies : List Doc) (cs : List Transaction) (rest : List ℕ) → HasCut disk options start bytes now replies cs rest
       → BreaksOff disk options start (bytes ++ more) left now
   breaks_off start bytes more left now replies cs rest r =
       let later = answered (ended (rest ++ more)) in
@@ -112,7 +113,7 @@ module _ {D : Type 0} (disk : D → Disk) (options : Options) where
       }
 
   -- all of the input was read, and all its lines are answered
-  pub breaks_off_end : (start : StoreView D) (bytes : List ℕ) (left : Option (List ℕ)) (now : StoreView D) (replies : List Doc) → IsAtEnd left → IsSession disk options start (lines_of bytes) replies now
+  pub breaks_off_end : (start : RecordedView D) (bytes : List ℕ) (left : Option (List ℕ)) (now : RecordedView D) (replies : List Doc) → IsAtEnd left → IsSession disk options start (lines_of bytes) replies now
       → BreaksOff disk options start bytes left now
   breaks_off_end start bytes left now replies end session = record {
     lines = lines_of bytes;
@@ -149,23 +150,23 @@ some_most : (options : Options) → 0 < most_of options
 some_most options = omega arith
 
 -- a session over the lines, and whether no batch is the last that may take more lines
-pub record Sat {D : Type 0} (disk : D → Disk) (options : Options) (start : StoreView D) (lines : List (List ℕ)) (replies : List Doc) (new : StoreView D) (whole : Bool) : Type 0 where
+pub record Sat {D : Type 0} (disk : D → Disk) (options : Options) (start : RecordedView D) (lines : List (List ℕ)) (replies : List Doc) (new : RecordedView D) (whole : Bool) : Type 0 where
   pub session : IsSession disk options start lines replies new
   pub whole_is : session.whole ≡ whole
 
 module _ {D : Type 0} (disk : D → Disk) (options : Options) (coherent : AreCoherent disk) where
   -- a run goes on by what lines led to
-  ran_led : (start old new : StoreView D) (events more : List Event) (said answers : List Reply) → Ran disk start old events said → IsRunFrom disk old more answers new → Ran disk start new (events ++ more) (said ++ answers)
+  ran_led : (start old new : RecordedView D) (events more : List Event) (said answers : List Reply) → Ran disk start.store old.store events said → IsRunFrom disk old more answers new → Ran disk start.store new.store (events ++ more) (said ++ answers)
   ran_led start old new events more said answers first led = elim led [
     | inl quiet ↦
-        subst (λ (v : StoreView D). Ran disk start v (events ++ more) (said ++ answers)) (sym quiet.0)
-        (subst (λ (es : List Event). Ran disk start old es (said ++ answers)) (sym (ap (λ es. events ++ es) quiet.1 ∙ append-nil events))
-        (subst (λ (rs : List Reply). Ran disk start old events rs) (sym (ap (λ rs. said ++ rs) quiet.2 ∙ append-nil said)) first))
-    | inr second ↦ ran_joined disk coherent start old new events more said answers first second
+        subst (λ (v : RecordedView D). Ran disk start.store v.store (events ++ more) (said ++ answers)) (sym quiet.0)
+        (subst (λ (es : List Event). Ran disk start.store old.store es (said ++ answers)) (sym (ap (λ es. events ++ es) quiet.1 ∙ append-nil events))
+        (subst (λ (rs : List Reply). Ran disk start.store old.store events rs) (sym (ap (λ rs. said ++ rs) quiet.2 ∙ append-nil said)) first))
+    | inr second ↦ ran_joined disk coherent start.store old.store new.store events more said answers first second
   ]
 
   -- one line more, by itself
-  session_alone : (start old new : StoreView D) (lines : List (List ℕ)) (line : List ℕ) (replies : List Doc) (reply : Doc) → IsSession disk options start lines replies old → LineIsAnswered disk options old line reply new
+  session_alone : (start old new : RecordedView D) (lines : List (List ℕ)) (line : List ℕ) (replies : List Doc) (reply : Doc) → IsSession disk options start lines replies old → LineIsAnswered disk options old line reply new
       → Sat disk options start (lines ++ line ∷ []) (replies ++ reply ∷ []) new true
   session_alone start old new lines line replies reply s answer = record {
     session = record {
@@ -174,18 +175,18 @@ module _ {D : Type 0} (disk : D → Disk) (options : Options) (coherent : AreCoh
       grouped = one_alone lines s.groups s.whole line s.grouped;
       events = s.events ++ answer.events;
       said = s.said ++ answer.said;
-      session = one_more start.account old.account new.account s.groups (alone line) s.events answer.events s.said answer.said replies (reply ∷ []) s.session answer.does;
+      session = one_more (recorded_of start) (recorded_of old) (recorded_of new) s.groups (alone line) s.events answer.events s.said answer.said replies (reply ∷ []) s.session answer.does;
       ran = ran_led start old new s.events answer.events s.said answer.said s.ran answer.led;
     };
     whole_is = refl;
   }
 
   -- one batch more
-  session_batch : (start old new : StoreView D) (lines batch : List (List ℕ)) (cs : List Transaction) (replies docs : List Doc) (s : IsSession disk options start lines replies old)
+  session_batch : (start old new : RecordedView D) (lines batch : List (List ℕ)) (cs : List Transaction) (replies docs : List Doc) (s : IsSession disk options start lines replies old)
       → AskFor batch cs → BatchIsAnswered disk options old cs docs new → (whole : Bool) → AreGroups options (lines ++ batch) (s.groups ++ together batch ∷ []) whole
       → Sat disk options start (lines ++ batch) (replies ++ docs) new whole
   session_batch start old new lines batch cs replies docs s asked b whole grouped =
-      let does : Does options old.account (together batch) (b.own ++ b.more) (b.own_said ++ b.more_said) docs new.account = record {
+      let does : Does options (recorded_of old) (together batch) (b.own ++ b.more) (b.own_said ++ b.more_said) docs (recorded_of new) = record {
         mid = b.mid;
         own = b.own;
         own_said = b.own_said;
@@ -203,20 +204,20 @@ module _ {D : Type 0} (disk : D → Disk) (options : Options) (coherent : AreCoh
           grouped = grouped;
           events = s.events ++ (b.own ++ b.more);
           said = s.said ++ (b.own_said ++ b.more_said);
-          session = one_more start.account old.account new.account s.groups (together batch) s.events (b.own ++ b.more) s.said (b.own_said ++ b.more_said) replies docs s.session does;
+          session = one_more (recorded_of start) (recorded_of old) (recorded_of new) s.groups (together batch) s.events (b.own ++ b.more) s.said (b.own_said ++ b.more_said) replies docs s.session does;
           ran = ran_led start old new s.events (b.own ++ b.more) s.said (b.own_said ++ b.more_said) s.ran b.led;
         };
         whole_is = refl;
       }
 
   -- the batch that waits, short of being full, if any change waits
-  session_ended_batch : (start old new : StoreView D) (lines : List (List ℕ)) (cs : List Transaction) (replies docs : List Doc) → HasAnswered disk options start lines old replies cs
+  session_ended_batch : (start old new : RecordedView D) (lines : List (List ℕ)) (cs : List Transaction) (replies docs : List Doc) → HasAnswered disk options start lines old replies cs
       → EndsBatch disk options old cs docs new → IsSession disk options start lines (replies ++ docs) new
   session_ended_batch start old new lines cs replies docs s e = elim e [
     | inl none ↦
         let waiting : s.waiting ≡ [] = asked_none s.waiting (subst (λ (l : List Transaction). AskFor s.waiting l) none.0 s.asked) in
         let all : lines ≡ s.done = s.parts ∙ ap (λ (l : List (List ℕ)). s.done ++ l) waiting ∙ append-nil s.done in
-        subst (λ (v : StoreView D). IsSession disk options start lines (replies ++ docs) v) (sym none.2)
+        subst (λ (v : RecordedView D). IsSession disk options start lines (replies ++ docs) v) (sym none.2)
         (subst (λ (ls : List (List ℕ)). IsSession disk options start ls (replies ++ docs) old) (sym all)
         (subst (λ (rs : List Doc). IsSession disk options start s.done rs old) (sym (ap (λ (l : List Doc). replies ++ l) none.1 ∙ append-nil replies)) s.session))
     | inr some ↦
@@ -227,12 +228,12 @@ module _ {D : Type 0} (disk : D → Disk) (options : Options) (coherent : AreCoh
         (session_batch start old new s.done s.waiting cs replies docs s.session s.asked some.1 false grouped).session
   ]
 
-  module _ (start old new : StoreView D) (lines : List (List ℕ)) (cs left : List Transaction) (line : List ℕ) (replies more : List Doc) (s : HasAnswered disk options start lines old replies cs) where
+  module _ (start old new : RecordedView D) (lines : List (List ℕ)) (cs left : List Transaction) (line : List ℕ) (replies more : List Doc) (s : HasAnswered disk options start lines old replies cs) where
     -- its change waits
     settles_waiting : Waits options old cs line more new left → HasAnswered disk options start (lines ++ line ∷ []) new (replies ++ more) left
     settles_waiting w =
         subst (λ (l : List Transaction). HasAnswered disk options start (lines ++ line ∷ []) new (replies ++ more) l) (sym w.left_are)
-        (subst (λ (v : StoreView D). HasAnswered disk options start (lines ++ line ∷ []) v (replies ++ more) (cs ++ w.c ∷ [])) (sym w.same)
+        (subst (λ (v : RecordedView D). HasAnswered disk options start (lines ++ line ∷ []) v (replies ++ more) (cs ++ w.c ∷ [])) (sym w.same)
         (subst (λ (rs : List Doc). HasAnswered disk options start (lines ++ line ∷ []) old rs (cs ++ w.c ∷ [])) (sym (ap (λ (l : List Doc). replies ++ l) w.none ∙ append-nil replies))
         (record {
           done = s.done;
@@ -286,7 +287,7 @@ module _ {D : Type 0} (disk : D → Disk) (options : Options) (coherent : AreCoh
           let no_more : replies ++ more ≡ replies = ap (λ x. replies ++ x) w.1 ∙ append-nil replies in
           let no_line : lines ++ last line ≡ lines = ap (λ b. lines ++ cond (not b) (line ∷ []) []) w.0 ∙ append-nil lines in
           subst (λ (l : List Transaction). HasAnswered disk options start (lines ++ last line) new (replies ++ more) l) (sym w.3)
-          (subst (λ (now : StoreView D). HasAnswered disk options start (lines ++ last line) now (replies ++ more) cs) (sym w.2)
+          (subst (λ (now : RecordedView D). HasAnswered disk options start (lines ++ last line) now (replies ++ more) cs) (sym w.2)
           (subst (λ (ls : List (List ℕ)). HasAnswered disk options start ls old (replies ++ more) cs) (sym no_line)
           (subst (λ (rs : List Doc). HasAnswered disk options start lines old rs cs) (sym no_more) s)))
       | inr w ↦
@@ -295,7 +296,7 @@ module _ {D : Type 0} (disk : D → Disk) (options : Options) (coherent : AreCoh
     ]
 
   -- before the first byte
-  pub reaches_start : (start : StoreView D) → IsStanding (disk start.device) start.account → HasCut disk options start [] start [] [] []
+  pub reaches_start : (start : RecordedView D) → IsStanding (disk start.device) start.account → HasCut disk options start [] start [] [] []
   reaches_start start standing = record {
     lines = [];
     unbroken = tt;
@@ -310,8 +311,8 @@ module _ {D : Type 0} (disk : D → Disk) (options : Options) (coherent : AreCoh
         grouped = no_groups;
         events = [];
         said = [];
-        session = begun start.account;
-        ran = ran_nothing disk coherent start standing;
+        session = begun (recorded_of start);
+        ran = ran_nothing disk coherent start.store standing;
       };
       whole = refl;
       asked = tt;
@@ -320,7 +321,7 @@ module _ {D : Type 0} (disk : D → Disk) (options : Options) (coherent : AreCoh
   }
 
   -- a line feed came
-  pub reaches_line : (start : StoreView D) (bytes : List ℕ) (old new : StoreView D) (replies more : List Doc) (cs left : List Transaction) (line : List ℕ) → HasNoBreak line → HasCut disk options start bytes old replies cs line
+  pub reaches_line : (start : RecordedView D) (bytes : List ℕ) (old new : RecordedView D) (replies more : List Doc) (cs left : List Transaction) (line : List ℕ) → HasNoBreak line → HasCut disk options start bytes old replies cs line
       → EndsLine disk options old cs line more new left → HasCut disk options start (bytes ++ line_feed ∷ []) new (replies ++ more) left []
   reaches_line start bytes old new replies more cs left line whole r e = record {
     lines = r.lines ++ line ∷ [];
@@ -335,7 +336,7 @@ module _ {D : Type 0} (disk : D → Disk) (options : Options) (coherent : AreCoh
   }
 
   -- the input has ended: the last line is, and then the batch that waits
-  pub session_end : (start : StoreView D) (bytes : List ℕ) (old mid new : StoreView D) (replies more docs : List Doc) (cs left : List Transaction) (rest : List ℕ) → HasNoBreak rest
+  pub session_end : (start : RecordedView D) (bytes : List ℕ) (old mid new : RecordedView D) (replies more docs : List Doc) (cs left : List Transaction) (rest : List ℕ) → HasNoBreak rest
       → HasCut disk options start bytes old replies cs rest → EndsLine disk options old cs rest more mid left → EndsBatch disk options mid left docs new
       → IsSession disk options start (lines_of bytes) (replies ++ (more ++ docs)) new
   session_end start bytes old mid new replies more docs cs left rest whole r e b =

@@ -6,7 +6,8 @@ use Rattle.doc_tree.specs.Doc.{Doc}
 use Rattle.doc_machine.specs.Transaction.{Transaction, transaction_of}
 use Rattle.doc_machine.specs.declared.transaction.Transaction.{Transaction as Held}
 use Rattle.store_journal.specs.Models.{model}
-use Rattle.store_commits.specs.Account.{StoreView, IsStanding}
+use Rattle.recorded_store.specs.Recorded.{RecordedView, recorded_of}
+use Rattle.store_commits.specs.Account.{IsStanding}
 use Rattle.store_commits.proofs.Modelled.{AreCoherent}
 use Rattle.store_commits.specs.Folds.{StandsAfter}
 use Rattle.store_commits.specs.Run.{hits_of}
@@ -36,7 +37,7 @@ first_says reply rest (said ∷ more) h = record { said = said; more = more; doc
 
 module _ {D : Type 0} (disk : D → Disk) (options : Options) where
   -- The replies that were given, where none is ready, are those of a session over the lines that have ended, but for those whose changes wait.
-  pub settles_heard : (start : StoreView D) (read : List ℕ) (now : StoreView D) (session : Session) (replies : List Doc) → session.ready.items ≡ [] → HasRead disk options start read now session replies
+  pub settles_heard : (start : RecordedView D) (read : List ℕ) (now : RecordedView D) (session : Session) (replies : List Doc) → session.ready.items ≡ [] → HasRead disk options start read now session replies
       → HasAnswered disk options start (answered (ended read)) now replies (waiting_in session)
   settles_heard start read now session replies none s =
       let no_more : replies ++ s.ready ≡ replies = ap (λ (l : List Doc). replies ++ l) (says_none s.ready (subst (λ (l : List Reply). AllSay l s.ready) none s.says)) ∙ append-nil replies in
@@ -44,7 +45,7 @@ module _ {D : Type 0} (disk : D → Disk) (options : Options) where
       (settles_ended disk options start read now (replies ++ s.ready) (waiting_in session) s.rest s.kept.whole s.reached)
 
   -- what a crash leaves now: each image stands for the store's state, and where the store works for nothing else
-  pub stands_heard : (start : StoreView D) (read : List ℕ) (now : StoreView D) (session : Session) (replies : List Doc) → HasRead disk options start read now session replies
+  pub stands_heard : (start : RecordedView D) (read : List ℕ) (now : RecordedView D) (session : Session) (replies : List Doc) → HasRead disk options start read now session replies
       → (disk start.device).honest → start.account.broken ≡ false → (image : Image) → (model start.account.rides (disk now.device)).left image
       → (hits : List Transaction) × StandsAfter now.account.state hits image × (now.account.broken ≡ false → hits ≡ [])
   stands_heard start read now is replies s honest working image left =
@@ -53,7 +54,7 @@ module _ {D : Type 0} (disk : D → Disk) (options : Options) where
       (hits_of session.events session.said, lasts.at_end honest working image left, lasts.none_in_doubt)
 
   -- one more of the replies that were ready is given
-  pub hears_given : (start : StoreView D) (read : List ℕ) (now : StoreView D) (was is : Session) (replies : List Doc) (reply : Reply) → was.ready.items ≡ reply ∷ is.ready.items → KeepsLines was is
+  pub hears_given : (start : RecordedView D) (read : List ℕ) (now : RecordedView D) (was is : Session) (replies : List Doc) (reply : Reply) → was.ready.items ≡ reply ∷ is.ready.items → KeepsLines was is
       → HasRead disk options start read now was replies → (said : Doc) × Says reply said × HasRead disk options start read now is (replies ++ said ∷ [])
   hears_given start read now was is replies reply given same s =
       let first = first_says reply is.ready.items s.ready (subst (λ (l : List Reply). AllSay l s.ready) given s.says) in
@@ -73,7 +74,7 @@ module _ {D : Type 0} (disk : D → Disk) (options : Options) where
       )
 
   -- none was ready
-  pub hears_same : (start : StoreView D) (read : List ℕ) (now : StoreView D) (was is : Session) (replies : List Doc) → was.ready.items ≡ [] → is.ready.items ≡ [] → KeepsLines was is
+  pub hears_same : (start : RecordedView D) (read : List ℕ) (now : RecordedView D) (was is : Session) (replies : List Doc) → was.ready.items ≡ [] → is.ready.items ≡ [] → KeepsLines was is
       → HasRead disk options start read now was replies → HasRead disk options start read now is replies
   hears_same start read now was is replies none still same s = record {
     rest = s.rest;
@@ -85,7 +86,7 @@ module _ {D : Type 0} (disk : D → Disk) (options : Options) where
   }
 
   -- the same once the input has ended
-  pub ended_given : (start : StoreView D) (lines : List (List ℕ)) (now : StoreView D) (was is : Session) (replies : List Doc) (reply : Reply) → was.ready.items ≡ reply ∷ is.ready.items
+  pub ended_given : (start : RecordedView D) (lines : List (List ℕ)) (now : RecordedView D) (was is : Session) (replies : List Doc) (reply : Reply) → was.ready.items ≡ reply ∷ is.ready.items
       → HasEnded disk options start lines now was replies → (said : Doc) × Says reply said × HasEnded disk options start lines now is (replies ++ said ∷ [])
   ended_given start lines now was is replies reply given s =
       let first = first_says reply is.ready.items s.ready (subst (λ (l : List Reply). AllSay l s.ready) given s.says) in
@@ -93,14 +94,14 @@ module _ {D : Type 0} (disk : D → Disk) (options : Options) where
       (first.said, first.says, record { ready = first.more; session = subst (λ (rs : List Doc). IsSession disk options start lines rs now) all s.session; says = first.others })
 
   -- and where none is ready any more
-  pub ended_all : (start : StoreView D) (lines : List (List ℕ)) (now : StoreView D) (session : Session) (replies : List Doc) → session.ready.items ≡ [] → HasEnded disk options start lines now session replies
+  pub ended_all : (start : RecordedView D) (lines : List (List ℕ)) (now : RecordedView D) (session : Session) (replies : List Doc) → session.ready.items ≡ [] → HasEnded disk options start lines now session replies
       → IsSession disk options start lines replies now
   ended_all start lines now session replies none s =
       subst (λ (rs : List Doc). IsSession disk options start lines rs now) (ap (λ (l : List Doc). replies ++ l) (says_none s.ready (subst (λ (l : List Reply). AllSay l s.ready) none s.says)) ∙ append-nil replies) s.session
 
 module _ {D : Type 0} (disk : D → Disk) (options : Options) (coherent : AreCoherent disk) where
   -- A session for which nothing waits may begin anew at any store: what it holds is all that it has read.
-  pub hears_start : (start : StoreView D) (session : Session) (so_far : List ℕ) → IsStanding (disk start.device) start.account → session.options ≡ options → session.waiting.items ≡ [] → session.ready.items ≡ []
+  pub hears_start : (start : RecordedView D) (session : Session) (so_far : List ℕ) → IsStanding (disk start.device) start.account → session.options ≡ options → session.waiting.items ≡ [] → session.ready.items ≡ []
       → Holds session.line so_far → HasRead disk options start so_far start session []
   hears_start start session so_far standing by none_waits none_ready kept = record {
     rest = so_far;

@@ -9,5 +9,6 @@ pub mod Shown
 pub mod Statuses
 pub mod Telling
 mod Answering
+mod Changing
 mod Numbering
 pub mod Keeping

@@ -23,201 +23,10 @@ use Rattle.store_commits.specs.declared.event.Reply.{Reply}
 use Rattle.store_commits.specs.declared.event.Reply.TheVariants.{Done, Snapped, Pumped, Sealed, Refused}
 use Rattle.protocol.specs.Request.{change}
 use Rattle.protocol.specs.Reply.{change_reply, other_mark_reply, refusal_reply}
-use Rattle.serve_lines.specs.Kept.{IsRefusal, Refuses, Replied, no_line, was_done, was_hit, was_told}
+use Rattle.serve_lines.specs.Kept.{IsRefusal, Known, Refuses, Replied, known_after, no_line, was_done, was_hit, was_told}
 use Rattle.serve_lines.specs.Session.{AreTold, AskFor, IsTold, asks_another_mark, key_of, shown_reply, told_in}
 use Rattle.serve_lines.proofs.Answering.{asks_for, is_refusal, other_mark_refuses, refuses, refuses_by}
-
--- each change counts one
-seq_all : (s : State) (cs : List Change) → s.seq + length cs ≡ (after_all s cs).seq
-seq_all s [] = omega arith
-seq_all s (c ∷ cs) = (let one : s.seq + length (c ∷ cs) ≡ (s.seq + 1) + length cs = omega arith in one) ∙ seq_all (after s c) cs
-
--- Transactions after one another, from a state, with their replies: one that was done is answered by the seq after it, and the others change nothing. After one that the device's fault hit none was done.
-abbrev Counts : State → List Transaction → List Reply → Type 0
-Counts s [] [] = ⊤
-Counts s (t ∷ ts) (Done seq ∷ rs) = (seq ≡ (after_in s t).seq) × Counts (after_in s t) ts rs
-Counts s (t ∷ ts) (Refused r ∷ rs) = (nat_eq r.number DEVICE ≡ true → dones_of (changes ts) rs ≡ []) × Counts s ts rs
-Counts s _ _ = ⊥
-
--- of two parts one has none
-none_before : {X : Type 0} (xs ys : List X) → xs ++ ys ≡ [] → ys ≡ []
-none_before [] ys none = none
-none_before (x ∷ xs) ys none = absurd (cc none)
-
-dones_both : (s : State) (ts us : List Transaction) (rs qs : List Reply) → Counts s ts rs → dones_of (changes (ts ++ us)) (rs ++ qs) ≡ dones_of (changes ts) rs ++ dones_of (changes us) qs
-dones_both s [] us [] qs first = refl
-dones_both s [] us (r ∷ rs) qs first = absurd first
-dones_both s (t ∷ ts) us [] qs first = absurd first
-dones_both s (t ∷ ts) us (Done seq ∷ rs) qs first = ap (λ (l : List Transaction). t ∷ l) (dones_both (after_in s t) ts us rs qs first.1)
-dones_both s (t ∷ ts) us (Refused r ∷ rs) qs first = dones_both s ts us rs qs first.1
-dones_both s (t ∷ ts) us (Snapped used ∷ rs) qs first = absurd first
-dones_both s (t ∷ ts) us (Pumped p ∷ rs) qs first = absurd first
-dones_both s (t ∷ ts) us (Sealed ∷ rs) qs first = absurd first
-
-hits_both : (s : State) (ts us : List Transaction) (rs qs : List Reply) → Counts s ts rs → hits_of (changes (ts ++ us)) (rs ++ qs) ≡ hits_of (changes ts) rs ++ hits_of (changes us) qs
-hits_both s [] us [] qs first = refl
-hits_both s [] us (r ∷ rs) qs first = absurd first
-hits_both s (t ∷ ts) us [] qs first = absurd first
-hits_both s (t ∷ ts) us (Done seq ∷ rs) qs first = hits_both (after_in s t) ts us rs qs first.1
-hits_both s (t ∷ ts) us (Refused r ∷ rs) qs first =
-    ap (λ (l : List Transaction). hit_by (change_event t) (Refused r) ++ l) (hits_both s ts us rs qs first.1) ∙ sym (append_assoc (hit_by (change_event t) (Refused r)) (hits_of (changes ts) rs) (hits_of (changes us) qs))
-hits_both s (t ∷ ts) us (Snapped used ∷ rs) qs first = absurd first
-hits_both s (t ∷ ts) us (Pumped p ∷ rs) qs first = absurd first
-hits_both s (t ∷ ts) us (Sealed ∷ rs) qs first = absurd first
-
--- the first has no hit, or the second nothing that was done
-abbrev AreApart : List Transaction → List Reply → List Transaction → List Reply → Type 0
-AreApart ts rs us qs = (hits_of (changes ts) rs ≡ []) ⊎ (dones_of (changes us) qs ≡ [])
-
--- of one more in front
-apart_from : (t : Transaction) (r : Refusal) (ts us : List Transaction) (rs qs : List Reply) → AreApart (t ∷ ts) (Refused r ∷ rs) us qs → AreApart ts rs us qs
-apart_from t r ts us rs qs (inl none) = inl (none_before (hit_by (change_event t) (Refused r)) (hits_of (changes ts) rs) none)
-apart_from t r ts us rs qs (inr none) = inr none
-
--- one that was hit in front
-apart_hit : (t : Transaction) (r : Refusal) (ts us : List Transaction) (rs qs : List Reply) → nat_eq r.number DEVICE ≡ true → AreApart (t ∷ ts) (Refused r ∷ rs) us qs → dones_of (changes us) qs ≡ []
-apart_hit t r ts us rs qs hit (inl none) =
-    let some : t ∷ hits_of (changes ts) rs ≡ [] = ap (λ (b : Bool). (if b then t ∷ [] else []) ++ hits_of (changes ts) rs) (sym hit) ∙ none in
-    absurd (cc some)
-apart_hit t r ts us rs qs hit (inr none) = none
-
-counts_behind : (s : State) (ts us : List Transaction) (rs qs : List Reply) → Counts s ts rs → Counts (after_each s (dones_of (changes ts) rs)) us qs → AreApart ts rs us qs → Counts s (ts ++ us) (rs ++ qs)
-counts_behind s [] us [] qs first second apart = second
-counts_behind s [] us (r ∷ rs) qs first second apart = absurd first
-counts_behind s (t ∷ ts) us [] qs first second apart = absurd first
-counts_behind s (t ∷ ts) us (Done seq ∷ rs) qs first second apart = (first.0, counts_behind (after_in s t) ts us rs qs first.1 second apart)
-counts_behind s (t ∷ ts) us (Refused r ∷ rs) qs first second apart = (
-  (λ hit. (let none = apart_hit t r ts us rs qs hit apart in dones_both s ts us rs qs first.1 ∙ (λ i. first.0 hit i ++ none i))),
-  counts_behind s ts us rs qs first.1 second (apart_from t r ts us rs qs apart),
-)
-counts_behind s (t ∷ ts) us (Snapped used ∷ rs) qs first second apart = absurd first
-counts_behind s (t ∷ ts) us (Pumped p ∷ rs) qs first second apart = absurd first
-counts_behind s (t ∷ ts) us (Sealed ∷ rs) qs first second apart = absurd first
-
-state_behind : (s : State) (ts us : List Transaction) (rs qs : List Reply) → Counts s ts rs
-    → after_each s (dones_of (changes (ts ++ us)) (rs ++ qs)) ≡ after_each (after_each s (dones_of (changes ts) rs)) (dones_of (changes us) qs)
-state_behind s [] us [] qs first = refl
-state_behind s [] us (r ∷ rs) qs first = absurd first
-state_behind s (t ∷ ts) us [] qs first = absurd first
-state_behind s (t ∷ ts) us (Done seq ∷ rs) qs first = state_behind (after_in s t) ts us rs qs first.1
-state_behind s (t ∷ ts) us (Refused r ∷ rs) qs first = state_behind s ts us rs qs first.1
-state_behind s (t ∷ ts) us (Snapped used ∷ rs) qs first = absurd first
-state_behind s (t ∷ ts) us (Pumped p ∷ rs) qs first = absurd first
-state_behind s (t ∷ ts) us (Sealed ∷ rs) qs first = absurd first
-
--- from an account to an account, transactions of a batch: a hit breaks the store, and a broken one does nothing
-pub record Counted (a b : Account) (ts : List Transaction) (rs : List Reply) : Type 0 where
-  pub counts : Counts a.state ts rs
-  pub state : b.state ≡ after_each a.state (dones_of (changes ts) rs)
-  pub hit : (hits_of (changes ts) rs ≡ []) ⊎ (b.broken ≡ true)
-  pub broke : a.broken ≡ true → (dones_of (changes ts) rs ≡ []) × (b.broken ≡ true)
-
-behind : (a b d : Account) (ts us : List Transaction) (rs qs : List Reply) → Counted a b ts rs → Counted b d us qs → Counted a d (ts ++ us) (rs ++ qs)
-behind a b d ts us rs qs first second = record {
-  counts = counts_behind a.state ts us rs qs first.counts (subst (λ (s : State). Counts s us qs) first.state second.counts) (⊎_elim inl (λ broken. inr (second.broke broken).0) first.hit);
-  state = second.state ∙ ap (λ (s : State). after_each s (dones_of (changes us) qs)) first.state ∙ sym (state_behind a.state ts us rs qs first.counts);
-  hit = ⊎_elim (λ none. ⊎_elim (λ no_more. inl (hits_both a.state ts us rs qs first.counts ∙ (λ i. none i ++ no_more i))) inr second.hit) (λ broken. inr (second.broke broken).1) first.hit;
-  broke = λ broken. (let one = first.broke broken in let two = second.broke one.1 in (dones_both a.state ts us rs qs first.counts ∙ (λ i. one.0 i ++ two.0 i), two.1));
-}
-
--- a working store is not broken
-works_not : {A : Type 0} (a : Account) → a.broken ≡ false → a.broken ≡ true → A
-works_not a works broken = let both = sym works ∙ broken in absurd (cc both)
-
--- one that wasn't done
-refused : (a b : Account) (t : Transaction) (r : Refusal) → b.state ≡ a.state → (hits_of (changes (t ∷ [])) (Refused r ∷ []) ≡ []) ⊎ (b.broken ≡ true) → (a.broken ≡ true → b.broken ≡ true) → Counted a b (t ∷ []) (Refused r ∷ [])
-refused a b t r same hit still = record { counts = ((λ _. refl), tt); state = same; hit = hit; broke = λ broken. (refl, still broken) }
-
--- ---- one commit
-
--- the documents' own refusals are no fault of the device
-own_refusal : (a : Account) (t : Transaction) (r : Refusal) → refusal_in a.state t ≡ Some r → nat_eq r.number DEVICE ≡ false
-own_refusal a t r is = ne_eqb r.number DEVICE (own_transaction a.state t r is).1
-
-done_counts : (a : Account) (seq : ℕ) (slots : List Slot) → seq ≡ a.state.seq → AreJudged a slots → Counts a.state (asked slots) (replies_done seq slots)
-done_counts a seq [] is judged = tt
-done_counts a seq (waits t ∷ slots) is judged =
-    let next = ap (λ (n : ℕ). n + length (changes_of t)) is ∙ seq_all a.state (changes_of t) in
-    (next, done_counts (account_behind a t) (seq + length (changes_of t)) slots next judged.2)
-done_counts a seq (said t r ∷ slots) is judged = (
-  (λ hit. (let both = sym hit ∙ own_refusal a t r judged.0 in absurd (cc both))),
-  done_counts a seq slots is judged.1,
-)
-
--- none of these was hit
-done_unhit : (a : Account) (seq : ℕ) (slots : List Slot) → AreJudged a slots → hits_of (changes (asked slots)) (replies_done seq slots) ≡ []
-done_unhit a seq [] judged = refl
-done_unhit a seq (waits t ∷ slots) judged = done_unhit (account_behind a t) (seq + length (changes_of t)) slots judged.2
-done_unhit a seq (said t r ∷ slots) judged =
-    ap (λ (b : Bool). (if b then t ∷ [] else []) ++ hits_of (changes (asked slots)) (replies_done seq slots)) (own_refusal a t r judged.0) ∙ done_unhit a seq slots judged.1
-
-done_are : (seq : ℕ) (slots : List Slot) → dones_of (changes (asked slots)) (replies_done seq slots) ≡ waiting slots
-done_are seq [] = refl
-done_are seq (waits t ∷ slots) = ap (λ (ts : List Transaction). t ∷ ts) (done_are (seq + length (changes_of t)) slots)
-done_are seq (said t r ∷ slots) = done_are seq slots
-
-committed_state : (a : Account) (slots : List Slot) → (account_committed a slots).state ≡ after_each a.state (waiting slots)
-committed_state a [] = refl
-committed_state a (waits t ∷ slots) = committed_state (account_behind a t) slots
-committed_state a (said t r ∷ slots) = committed_state a slots
-
-none_in_doubt_done : (slots : List Slot) → dones_of (changes (asked slots)) (replies_in_doubt slots) ≡ []
-none_in_doubt_done [] = refl
-none_in_doubt_done (waits t ∷ slots) = none_in_doubt_done slots
-none_in_doubt_done (said t r ∷ slots) = none_in_doubt_done slots
-
-doubt_counts : (s : State) (slots : List Slot) → Counts s (asked slots) (replies_in_doubt slots)
-doubt_counts s [] = tt
-doubt_counts s (waits t ∷ slots) = ((λ _. none_in_doubt_done slots), doubt_counts s slots)
-doubt_counts s (said t r ∷ slots) = ((λ _. none_in_doubt_done slots), doubt_counts s slots)
-
--- ---- a batch
-
-pub batch_counts : (a b : Account) (ts : List Transaction) (rs : List Reply) (commits : List Commit) → IsBatch a ts rs commits b → Counted a b ts rs
-batch_counts _ _ _ _ _ (no_more a) = record { counts = tt; state = refl; hit = inl refl; broke = λ broken. (refl, broken) }
-batch_counts _ _ _ _ _ (commit_made a b d slots ts rs more made forced rest) =
-    behind a b d (asked slots) ts (replies_done a.state.seq slots) rs (record {
-      counts = done_counts a a.state.seq slots refl made.judged;
-      state = ap (λ (x : Account). x.state) made.new_is ∙ committed_state a slots ∙ ap (after_each a.state) (sym (done_are a.state.seq slots));
-      hit = inl (done_unhit a a.state.seq slots made.judged);
-      broke = λ broken. works_not a made.works broken;
-    }) (batch_counts b d ts rs more rest)
-batch_counts _ _ _ _ _ (commit_in_doubt a b d slots ts rs more hit forced rest) =
-    behind a b d (asked slots) ts (replies_in_doubt slots) rs (record {
-      counts = doubt_counts a.state slots;
-      state = ap (λ (x : Account). x.state) hit.new_is ∙ ap (after_each a.state) (sym (none_in_doubt_done slots));
-      hit = inr (ap (λ (x : Account). x.broken) hit.new_is);
-      broke = λ broken. works_not a hit.works broken;
-    }) (batch_counts b d ts rs more rest)
-batch_counts _ _ _ _ _ (room_made a b d t ts rs more goes made rest) =
-    let state = ap (λ (x : Account). x.state) made.new_is in
-    behind a b d (t ∷ []) ts (replies_done a.state.seq (waits t ∷ [])) rs (record {
-      counts = (seq_all a.state (changes_of t), tt);
-      state = state;
-      hit = inl refl;
-      broke = λ broken. works_not a goes.works broken;
-    }) (batch_counts b d ts rs more rest)
-batch_counts _ _ _ _ _ (behind_in_doubt a b d t ts rs more goes hit rest) =
-    let broken = ap (λ (x : Account). x.broken) hit.new_is in
-    behind a b d (t ∷ []) ts (Refused (plain DEVICE) ∷ []) rs (refused a b t (plain DEVICE) (ap (λ (x : Account). x.state) hit.new_is) (inr broken) (λ _. broken)) (batch_counts b d ts rs more rest)
-batch_counts _ _ _ _ _ (room_in_doubt a d t ts rs more goes rest) =
-    let b = account_broken a in
-    behind a b d (t ∷ []) ts (Refused (plain DEVICE) ∷ []) rs (refused a b t (plain DEVICE) refl (inr refl) (λ _. refl)) (batch_counts b d ts rs more rest)
-batch_counts _ _ _ _ _ (as_snapshot a d t ts rs more goes rest) =
-    let b = account_with_snapshot (account_after a t) in
-    behind a b d (t ∷ []) ts (replies_done a.state.seq (waits t ∷ [])) rs (record {
-      counts = (seq_all a.state (changes_of t), tt);
-      state = refl;
-      hit = inl refl;
-      broke = λ broken. works_not a goes.works broken;
-    }) (batch_counts b d ts rs more rest)
-batch_counts _ _ _ _ _ (as_snapshot_in_doubt a d t ts rs more goes rest) =
-    let b = account_broken a in
-    behind a b d (t ∷ []) ts (Refused (plain DEVICE) ∷ []) rs (refused a b t (plain DEVICE) refl (inr refl) (λ _. refl)) (batch_counts b d ts rs more rest)
-batch_counts _ _ _ _ _ (is_full a d t ts rs more works accepted none rest) =
-    behind a a d (t ∷ []) ts (Refused (plain FULL) ∷ []) rs (refused a a t (plain FULL) refl (inl refl) (λ is. is)) (batch_counts a d ts rs more rest)
-batch_counts _ _ _ _ _ (stays_broken a d t ts rs more broken rest) =
-    behind a a d (t ∷ []) ts (Refused (plain BROKEN) ∷ []) rs (refused a a t (plain BROKEN) refl (inl refl) (λ is. is)) (batch_counts a d ts rs more rest)
+use Rattle.recorded_store.proofs.Counting.{Counts}
 
 -- ---- its lines
 
@@ -249,7 +58,7 @@ module _ (left : State) (key : Option (List ℕ)) where
 device_plain : (r : Refusal) → nat_eq r.number DEVICE ≡ true → asks_another_mark (Refused r) ≡ false
 device_plain r is = ap (λ (n : ℕ). nat_eq n MARK) (eqb-true r.number DEVICE is)
 
-module _ (s left : State) (line : List ℕ) (t : Transaction) (reply : Doc) (lines : List (List ℕ)) (replies : List Doc) (r : Refusal) (done hit : List Transaction) (asks : AskFor (line ∷ []) (t ∷ [])) (told : IsTold left (key_of t) (Refused r) reply)
+module _ (s : Known) (left : State) (line : List ℕ) (t : Transaction) (reply : Doc) (lines : List (List ℕ)) (replies : List Doc) (r : Refusal) (done hit : List Transaction) (asks : AskFor (line ∷ []) (t ∷ [])) (told : IsTold left (key_of t) (Refused r) reply)
     (rest : Replied s lines replies done hit) where
   -- a transaction was refused, for a fault of the device, after which none is done, or for another reason
   line_refused : (fault : Bool) → nat_eq r.number DEVICE ≡ fault → (nat_eq r.number DEVICE ≡ true → done ≡ []) → Replied s (line ∷ lines) (reply ∷ replies) done ((if fault then t ∷ [] else []) ++ hit)
@@ -260,7 +69,7 @@ module _ (s left : State) (line : List ℕ) (t : Transaction) (reply : Doc) (lin
   line_refused false is none = was_told s line reply lines replies done hit (inl (change t, asks_for line (change t) asks.0, told_refuses left (key_of t) r reply told)) rest
 
 -- the lines that asked for the transactions were answered so, in the state that was left
-pub batch_replied : (s left : State) (lines : List (List ℕ)) (ts : List Transaction) (rs : List Reply) (replies : List Doc) → AskFor lines ts → Counts s ts rs → AreTold left (map key_of ts) rs replies
+pub batch_replied : (s : Known) (left : State) (lines : List (List ℕ)) (ts : List Transaction) (rs : List Reply) (replies : List Doc) → AskFor lines ts → Counts s.state ts rs → AreTold left (map key_of ts) rs replies
     → Replied s lines replies (dones_of (changes ts) rs) (hits_of (changes ts) rs)
 batch_replied s left [] [] [] [] asks counts told = no_line s
 batch_replied s left [] [] [] (reply ∷ replies) asks counts told = absurd told
@@ -270,9 +79,9 @@ batch_replied s left (line ∷ lines) [] rs replies asks counts told = absurd as
 batch_replied s left (line ∷ lines) (t ∷ ts) [] replies asks counts told = absurd counts
 batch_replied s left (line ∷ lines) (t ∷ ts) (r ∷ rs) [] asks counts told = absurd told
 batch_replied s left (line ∷ lines) (t ∷ ts) (Done seq ∷ rs) (reply ∷ replies) asks counts told =
-    let is : change_reply (after_in s t).seq ≡ reply = sym (plainly left (key_of t) (Done seq) reply refl told.0 ∙ ap change_reply counts.0) in
+    let is : change_reply (known_after s t).state.seq ≡ reply = sym (plainly left (key_of t) (Done seq) reply refl told.0 ∙ ap change_reply counts.0) in
     subst (λ (d : Doc). Replied s (line ∷ lines) (d ∷ replies) (t ∷ dones_of (changes ts) rs) (hits_of (changes ts) rs)) is
-    (was_done s line t lines replies (dones_of (changes ts) rs) (hits_of (changes ts) rs) (asks_for line (change t) asks.0) (batch_replied (after_in s t) left lines ts rs replies asks.1 counts.1 told.1))
+    (was_done s line t lines replies (dones_of (changes ts) rs) (hits_of (changes ts) rs) (asks_for line (change t) asks.0) (batch_replied (known_after s t) left lines ts rs replies asks.1 counts.1 told.1))
 batch_replied s left (line ∷ lines) (t ∷ ts) (Refused r ∷ rs) (reply ∷ replies) asks counts told =
     line_refused s left line t reply lines replies r (dones_of (changes ts) rs) (hits_of (changes ts) rs) (asks.0, tt) told.0 (batch_replied s left lines ts rs replies asks.1 counts.1 told.1) (nat_eq r.number DEVICE) refl counts.0
 batch_replied s left (line ∷ lines) (t ∷ ts) (Snapped used ∷ rs) (reply ∷ replies) asks counts told = absurd counts
@@ -280,7 +89,7 @@ batch_replied s left (line ∷ lines) (t ∷ ts) (Pumped p ∷ rs) (reply ∷ re
 batch_replied s left (line ∷ lines) (t ∷ ts) (Sealed ∷ rs) (reply ∷ replies) asks counts told = absurd counts
 
 -- where memory was refused to the whole batch
-pub batch_unmade : (s : State) (lines : List (List ℕ)) (ts : List Transaction) → AskFor lines ts → Replied s lines (map (λ _. refusal_reply (plain MEMORY)) ts) [] []
+pub batch_unmade : (s : Known) (lines : List (List ℕ)) (ts : List Transaction) → AskFor lines ts → Replied s lines (map (λ _. refusal_reply (plain MEMORY)) ts) [] []
 batch_unmade s [] [] asks = no_line s
 batch_unmade s [] (t ∷ ts) asks = absurd asks
 batch_unmade s (line ∷ lines) [] asks = absurd asks

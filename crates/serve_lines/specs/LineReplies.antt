@@ -7,7 +7,7 @@ use Rattle.doc_machine.specs.Transaction.{Transaction}
 use Rattle.doc_changes.specs.Refusals.{plain}
 use Rattle.doc_changes.specs.declared.refusal.Refusal.{Refusal}
 use Rattle.refusals.specs.declared.numbers.TheConstants.{MEMORY}
-use Rattle.store_commits.specs.Account.{Account, StoreView}
+use Rattle.recorded_store.specs.Recorded.{Recorded, RecordedView, recorded_of}
 use Rattle.store_commits.specs.Run as store
 use Rattle.store_commits.specs.declared.event.Reply.{Reply as StoreReply}
 use Rattle.store_commits.specs.declared.event.Reply.TheVariants as store_replies
@@ -23,56 +23,56 @@ use Rattle.serve_lines.specs.Session.{AnswersBatch, ChangesNothing, Does, Follow
 use Rattle.serve_lines.specs.declared.options.Options.{Options}
 
 -- From old, a request was given this reply, or memory ran out, and led to new.
-abbrev pub AnswersRequest : Account → Request → List Event → List StoreReply → Doc → Account → Type 0
+abbrev pub AnswersRequest : Recorded → Request → List Event → List StoreReply → Doc → Recorded → Type 0
 AnswersRequest old request events said reply new =
     ((reply ≡ refusal_reply (plain MEMORY)) × ChangesNothing old events said new) ⊎ Replies old request events said reply new
 
 -- The store made a run of these events, or was asked for nothing and hasn't changed.
-abbrev pub IsRunFrom : {D : Type 0} → (D → Disk) → StoreView D → List Event → List StoreReply → StoreView D → Type 0
-IsRunFrom disk old events said new = ((new ≡ old) × (events ≡ []) × (said ≡ [])) ⊎ Ran disk old new events said
+abbrev pub IsRunFrom : {D : Type 0} → (D → Disk) → RecordedView D → List Event → List StoreReply → RecordedView D → Type 0
+IsRunFrom disk old events said new = ((new ≡ old) × (events ≡ []) × (said ≡ [])) ⊎ Ran disk old.store new.store events said
 
 -- A step of a copy was made if one is wanted, and else nothing.
-abbrev pub MakesCopyStep : {D : Type 0} → (D → Disk) → Options → StoreView D → StoreView D → Type 0
+abbrev pub MakesCopyStep : {D : Type 0} → (D → Disk) → Options → RecordedView D → RecordedView D → Type 0
 MakesCopyStep disk options old new =
-    (WantsStep options old.account × ((outcome : Result Pump Refusal) × PumpAnswers old.account options.pump outcome new.account × Ran disk old new (store.pump options.pump ∷ []) (reply_of store_replies.Pumped outcome ∷ [])))
+    (WantsStep options old.account × ((outcome : Result Pump Refusal) × PumpAnswers old.account options.pump outcome new.account × (new.history ≡ old.history) × Ran disk old.store new.store (store.pump options.pump ∷ []) (reply_of store_replies.Pumped outcome ∷ [])))
     ⊎ ((WantsStep options old.account → ⊥) × (new ≡ old))
 
 -- The same after these replies, if one of them says that a transaction was done.
-abbrev pub FollowsBatch : {D : Type 0} → (D → Disk) → Options → List StoreReply → StoreView D → StoreView D → Type 0
+abbrev pub FollowsBatch : {D : Type 0} → (D → Disk) → Options → List StoreReply → RecordedView D → RecordedView D → Type 0
 FollowsBatch disk options said old new = (HasDone said × MakesCopyStep disk options old new) ⊎ ((HasDone said → ⊥) × (new ≡ old))
 
 -- From old, something was answered by these events of the store, with what follows it, and what the store was asked for both.
-pub record Led {D : Type 0} (disk : D → Disk) (options : Options) (Answered : List Event → List StoreReply → Account → Type 0) (old new : StoreView D) : Type 0 where
-  pub mid : Account
+pub record Led {D : Type 0} (disk : D → Disk) (options : Options) (Answered : List Event → List StoreReply → Recorded → Type 0) (old new : RecordedView D) : Type 0 where
+  pub mid : Recorded
   pub own : List Event
   pub own_said : List StoreReply
   pub answers : Answered own own_said mid
   pub more : List Event
   pub more_said : List StoreReply
-  pub follows : Follows options own_said mid more more_said new.account
+  pub follows : Follows options own_said mid more more_said (recorded_of new)
   pub led : IsRunFrom disk old (own ++ more) (own_said ++ more_said) new
 
 -- A request was.
-abbrev pub RequestIsAnswered : {D : Type 0} → (D → Disk) → Options → StoreView D → Request → Doc → StoreView D → Type 0
-RequestIsAnswered disk options old request reply new = Led disk options (λ own said mid. AnswersRequest old.account request own said reply mid) old new
+abbrev pub RequestIsAnswered : {D : Type 0} → (D → Disk) → Options → RecordedView D → Request → Doc → RecordedView D → Type 0
+RequestIsAnswered disk options old request reply new = Led disk options (λ own said mid. AnswersRequest (recorded_of old) request own said reply mid) old new
 
 -- The same with nothing after it, whatever the options.
-abbrev pub IsAnsweredAlone : {D : Type 0} → (D → Disk) → StoreView D → Request → Doc → StoreView D → Type 0
+abbrev pub IsAnsweredAlone : {D : Type 0} → (D → Disk) → RecordedView D → Request → Doc → RecordedView D → Type 0
 IsAnsweredAlone disk old request reply new = (options : Options) → RequestIsAnswered disk options old request reply new
 
 -- What a line by itself led to, with what follows it, and with what the store was asked for both.
-pub record LineIsAnswered {D : Type 0} (disk : D → Disk) (options : Options) (old : StoreView D) (line : List ℕ) (reply : Doc) (new : StoreView D) : Type 0 where
+pub record LineIsAnswered {D : Type 0} (disk : D → Disk) (options : Options) (old : RecordedView D) (line : List ℕ) (reply : Doc) (new : RecordedView D) : Type 0 where
   pub events : List Event
   pub said : List StoreReply
-  pub does : Does options old.account (alone line) events said (reply ∷ []) new.account
+  pub does : Does options (recorded_of old) (alone line) events said (reply ∷ []) (recorded_of new)
   pub led : IsRunFrom disk old events said new
 
 -- The transactions of one batch were.
-abbrev pub BatchIsAnswered : {D : Type 0} → (D → Disk) → Options → StoreView D → List Transaction → List Doc → StoreView D → Type 0
-BatchIsAnswered disk options old ts replies new = Led disk options (λ own said mid. AnswersBatch old.account ts own said replies mid) old new
+abbrev pub BatchIsAnswered : {D : Type 0} → (D → Disk) → Options → RecordedView D → List Transaction → List Doc → RecordedView D → Type 0
+BatchIsAnswered disk options old ts replies new = Led disk options (λ own said mid. AnswersBatch (recorded_of old) ts own said replies mid) old new
 
 -- The transactions that waited, if any did, were done as one batch.
-abbrev pub EndsBatch : {D : Type 0} → (D → Disk) → Options → StoreView D → List Transaction → List Doc → StoreView D → Type 0
+abbrev pub EndsBatch : {D : Type 0} → (D → Disk) → Options → RecordedView D → List Transaction → List Doc → RecordedView D → Type 0
 EndsBatch disk options old cs replies new = ((cs ≡ []) × (replies ≡ []) × (new ≡ old)) ⊎ ((0 < length cs) × BatchIsAnswered disk options old cs replies new)
 
 -- a reply of the store, as a session's

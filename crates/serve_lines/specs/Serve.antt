@@ -3,7 +3,7 @@ use Rattle.std.specs.Prelude.{◌≡◌, ◌⊎◌, ◌<◌, ℕ, Bool, true, Li
 use Rattle.std.specs.Io.KnownBytes.{Appends, IsAtEnd}
 use Rattle.sector_device.specs.Disk.{Disk}
 use Rattle.doc_tree.specs.Doc.{Doc}
-use Rattle.store_commits.specs.Account.{StoreView}
+use Rattle.recorded_store.specs.Recorded.{RecordedView, recorded_of}
 use Rattle.doc_machine.specs.Transaction.{Transaction}
 use Rattle.store_commits.specs.Run.{Event, Ran}
 use Rattle.store_commits.specs.declared.event.Reply.{Reply}
@@ -13,30 +13,30 @@ use Rattle.serve_lines.specs.Session.{AreGroups, AskFor, Group, Session, most_of
 use Rattle.serve_lines.specs.declared.options.Options.{Options}
 
 -- A session over the lines led from old to new, and its events were one run of the store, which says what a crash may leave meanwhile and at its end.
-pub record IsSession {D : Type 0} (disk : D → Disk) (options : Options) (old : StoreView D) (lines : List (List ℕ)) (replies : List Doc) (new : StoreView D) : Type 0 where
+pub record IsSession {D : Type 0} (disk : D → Disk) (options : Options) (old : RecordedView D) (lines : List (List ℕ)) (replies : List Doc) (new : RecordedView D) : Type 0 where
   pub groups : List Group
   -- no batch is the last that may take more lines
   pub whole : Bool
   pub grouped : AreGroups options lines groups whole
   pub events : List Event
   pub said : List Reply
-  pub session : Session options old.account groups events said replies new.account
-  pub ran : Ran disk old new events said
+  pub session : Session options (recorded_of old) groups events said replies (recorded_of new)
+  pub ran : Ran disk old.store new.store events said
 
 -- It did, and the lines of its replies are all that was written.
-pub record Writes {D : Type 0} (disk : D → Disk) (options : Options) (old : StoreView D) (lines : List (List ℕ)) (before : Option (List ℕ)) (new : StoreView D) (after : Option (List ℕ)) : Type 0 where
+pub record Writes {D : Type 0} (disk : D → Disk) (options : Options) (old : RecordedView D) (lines : List (List ℕ)) (before : Option (List ℕ)) (new : RecordedView D) (after : Option (List ℕ)) : Type 0 where
   pub replies : List Doc
   pub session : IsSession disk options old lines replies new
   pub wrote : Appends before after (reply_lines replies)
 
 -- the same, with the number of its replies, which stops at 2^64 - 1
-pub record Serves {D : Type 0} (disk : D → Disk) (options : Options) (old : StoreView D) (lines : List (List ℕ)) (before : Option (List ℕ)) (new : StoreView D) (after : Option (List ℕ)) (count : ℕ) : Type 0 where
+pub record Serves {D : Type 0} (disk : D → Disk) (options : Options) (old : RecordedView D) (lines : List (List ℕ)) (before : Option (List ℕ)) (new : RecordedView D) (after : Option (List ℕ)) (count : ℕ) : Type 0 where
   pub told : Writes disk options old lines before new after
   pub counted : count ≡ count_of told.replies
 
 -- If it pauses: transactions wait for others, fewer than a batch takes, and aren't done. A session over all lines
 -- before them went in this way, and each of its batches was ended by being full or by a line after it.
-pub record Pauses {D : Type 0} (disk : D → Disk) (options : Options) (old : StoreView D) (lines : List (List ℕ)) (before : Option (List ℕ)) (new : StoreView D) (after : Option (List ℕ)) : Type 0 where
+pub record Pauses {D : Type 0} (disk : D → Disk) (options : Options) (old : RecordedView D) (lines : List (List ℕ)) (before : Option (List ℕ)) (new : RecordedView D) (after : Option (List ℕ)) : Type 0 where
   pub done : List (List ℕ)
   pub waiting : List (List ℕ)
   pub parts : lines ≡ done ++ waiting
@@ -48,7 +48,7 @@ pub record Pauses {D : Type 0} (disk : D → Disk) (options : Options) (old : St
 
 -- A session over the first of the lines that line feeds ended in these bytes led from old to new, with no batch cut
 -- short, or if they are all of the input, over the first of its lines.
-pub record BreaksOff {D : Type 0} (disk : D → Disk) (options : Options) (old : StoreView D) (bytes : List ℕ) (left : Option (List ℕ)) (new : StoreView D) : Type 0 where
+pub record BreaksOff {D : Type 0} (disk : D → Disk) (options : Options) (old : RecordedView D) (bytes : List ℕ) (left : Option (List ℕ)) (new : RecordedView D) : Type 0 where
   pub lines : List (List ℕ)
   pub later : List (List ℕ)
   pub replies : List Doc
@@ -57,5 +57,5 @@ pub record BreaksOff {D : Type 0} (disk : D → Disk) (options : Options) (old :
 
 -- No line waits if a batch takes one: all lines were done.
 abbrev pub OneNeverWaits : {D : Type 0} → (D → Disk) → Type 0
-OneNeverWaits {D} disk = (options : Options) (old new : StoreView D) (lines : List (List ℕ)) (before after : Option (List ℕ)) → most_of options ≡ 1
+OneNeverWaits {D} disk = (options : Options) (old new : RecordedView D) (lines : List (List ℕ)) (before after : Option (List ℕ)) → most_of options ≡ 1
     → Pauses disk options old lines before new after → Writes disk options old lines before new after

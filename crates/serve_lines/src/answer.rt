@@ -1,5 +1,5 @@
 //! The answer to a line by itself: one that is no change.
-ghost use Rattle.std.specs.Prelude.{◌≡◌, ◌⊎◌, ℕ, List, [], IfOk, Ok, Err, MatchResult};
+ghost use Rattle.std.specs.Prelude.{◌≡◌, ◌⊎◌, ℕ, List, [], IfOk, Ok, Err, MatchResult, option_map};
 ghost use Rattle.doc_tree.specs.Doc.{Doc};
 ghost use Rattle.doc_changes.specs.Refusals.{plain};
 ghost use Rattle.protocol.specs.Read.{asked_by, IsNoChange, ReadsRequest};
@@ -10,24 +10,34 @@ ghost use Rattle.protocol.specs.Reply.{line_of, refusal_reply};
 ghost use Rattle.path_eval.specs.NodeView.{listed_of};
 ghost use Rattle.path_parse.specs.SyntaxView.{query_view};
 ghost use Rattle.doc_machine.specs.Queries.{nodes_at};
-ghost use Rattle.serve_lines.specs.Session.{selected_reply};
+ghost use Rattle.status_lines.specs.Status.{id_of, shown_id};
+ghost use Rattle.serve_lines.specs.Session.{selected_reply, told_reply};
+ghost use Rattle.doc_machine.specs.Transaction.{Transaction};
+ghost use Rattle.protocol.specs.Changes.{AreToldFrom};
+ghost use Rattle.recorded_store.specs.Recorded.{recorded_of};
+ghost use Rattle.std.specs.VecDeque.Iter.{deque_iter_rest};
 
 use crate::options::Options;
+use change_history::Told;
 use doc_machine::{Documents, Nodelist, Refusal};
 use doc_pointer::Pointer;
-use doc_store::Store;
+use doc_store::Status;
 use path_eval::lent_nodes;
 use path_parse::Query;
-use protocol::{Reply, Request, mark_line, names_line, nodes_line, value_line};
+use protocol::{
+    Reply, Request, changes_line, gone_line, mark_line, names_line, nodes_line, value_line,
+};
+use recorded_store::RecordedStore;
 use refusals::numbers::MEMORY;
 use sector_device::SectorDevice;
-use status_lines::status_line;
+use status_lines::{id_text, status_line};
 use std::alloc::{AllocError, Global};
+use std::collections::vec_deque::Iter;
 
 /// The answer to a line, by what it was read as: what it asks for, which is no change, or why it asks for nothing.
 pub(crate) fn answer<D: SectorDevice>(
     alloc: Global,
-    store: &mut Store<D>,
+    store: &mut RecordedStore<D>,
     asked: Result<Request, Refusal>,
 ) -> Reply
     requires { IfOk asked (λ request. IsNoChange (asked_by request)) }
@@ -40,7 +50,7 @@ pub(crate) fn answer<D: SectorDevice>(
     }
 }
 
-fn reply_to<D: SectorDevice>(alloc: Global, store: &mut Store<D>, request: Request) -> Reply
+fn reply_to<D: SectorDevice>(alloc: Global, store: &mut RecordedStore<D>, request: Request) -> Reply
     requires { IsNoChange (asked_by request) }
     ensures { (reply : Doc) × Says result reply × IsAnsweredAlone D.disk store.old (asked_by request) reply store.new }
 {
@@ -51,6 +61,7 @@ fn reply_to<D: SectorDevice>(alloc: Global, store: &mut Store<D>, request: Reque
         Request::Rev { name } => rev(store, name.as_str()),
         Request::Mark { key } => mark(alloc, store, key.as_str()),
         Request::Query { name, path } => query(alloc, store, name.as_str(), path.as_str()),
+        Request::Changes { from, max } => changes(alloc, store, from, max),
         Request::List => list(alloc, store),
         Request::Status => status(alloc, store),
         Request::Snapshot => snapshot(store),
@@ -59,7 +70,7 @@ fn reply_to<D: SectorDevice>(alloc: Global, store: &mut Store<D>, request: Reque
     }
 }
 
-fn snapshot<D: SectorDevice>(store: &mut Store<D>) -> Reply
+fn snapshot<D: SectorDevice>(store: &mut RecordedStore<D>) -> Reply
     ensures { (reply : Doc) × Says result reply × IsAnsweredAlone D.disk store.old asked.snapshot reply store.new }
 {
     match store.snapshot() {
@@ -68,7 +79,7 @@ fn snapshot<D: SectorDevice>(store: &mut Store<D>) -> Reply
     }
 }
 
-fn pump<D: SectorDevice>(store: &mut Store<D>, most: u64) -> Reply
+fn pump<D: SectorDevice>(store: &mut RecordedStore<D>, most: u64) -> Reply
     ensures { (reply : Doc) × Says result reply × IsAnsweredAlone D.disk store.old (asked.pump most) reply store.new }
 {
     match store.pump(most) {
@@ -77,7 +88,7 @@ fn pump<D: SectorDevice>(store: &mut Store<D>, most: u64) -> Reply
     }
 }
 
-fn seal<D: SectorDevice>(store: &mut Store<D>) -> Reply
+fn seal<D: SectorDevice>(store: &mut RecordedStore<D>) -> Reply
     ensures { (reply : Doc) × Says result reply × IsAnsweredAlone D.disk store.old asked.seal reply store.new }
 {
     match store.seal() {
@@ -86,54 +97,54 @@ fn seal<D: SectorDevice>(store: &mut Store<D>) -> Reply
     }
 }
 
-fn get<D: SectorDevice>(alloc: Global, store: &Store<D>, name: &str, path: &str) -> Reply
-    ensures { (reply : Doc) × Says result reply × AnswersRequest store.now.account (asked.get name.now path.now) [] [] reply store.now.account }
+fn get<D: SectorDevice>(alloc: Global, store: &RecordedStore<D>, name: &str, path: &str) -> Reply
+    ensures { (reply : Doc) × Says result reply × AnswersRequest (recorded_of store.now) (asked.get name.now path.now) [] [] reply (recorded_of store.now) }
 {
     let pointer = match Pointer::read(alloc, path) {
         Ok(pointer) => pointer,
         Err(fault) => return Reply::Refused(Refusal::plain(fault.number)),
     };
-    match store.get(name, &pointer) {
+    match store.store().get(name, &pointer) {
         Ok(value) => shown(value_line(alloc, value)),
         Err(refusal) => Reply::Refused(refusal),
     }
 }
 
-fn get_schema<D: SectorDevice>(alloc: Global, store: &Store<D>, name: &str) -> Reply
-    ensures { (reply : Doc) × Says result reply × AnswersRequest store.now.account (asked.get_schema name.now) [] [] reply store.now.account }
+fn get_schema<D: SectorDevice>(alloc: Global, store: &RecordedStore<D>, name: &str) -> Reply
+    ensures { (reply : Doc) × Says result reply × AnswersRequest (recorded_of store.now) (asked.get_schema name.now) [] [] reply (recorded_of store.now) }
 {
-    match store.schema_of(name) {
+    match store.store().schema_of(name) {
         Ok(schema) => shown(value_line(alloc, schema)),
         Err(refusal) => Reply::Refused(refusal),
     }
 }
 
-fn rev<D: SectorDevice>(store: &Store<D>, name: &str) -> Reply
-    ensures { (reply : Doc) × Says result reply × AnswersRequest store.now.account (asked.rev name.now) [] [] reply store.now.account }
+fn rev<D: SectorDevice>(store: &RecordedStore<D>, name: &str) -> Reply
+    ensures { (reply : Doc) × Says result reply × AnswersRequest (recorded_of store.now) (asked.rev name.now) [] [] reply (recorded_of store.now) }
 {
-    match store.revision(name) {
+    match store.store().revision(name) {
         Ok(revision) => Reply::Revision(revision),
         Err(refusal) => Reply::Refused(refusal),
     }
 }
 
-fn mark<D: SectorDevice>(alloc: Global, store: &Store<D>, key: &str) -> Reply
-    ensures { (reply : Doc) × Says result reply × AnswersRequest store.now.account (asked.mark key.now) [] [] reply store.now.account }
+fn mark<D: SectorDevice>(alloc: Global, store: &RecordedStore<D>, key: &str) -> Reply
+    ensures { (reply : Doc) × Says result reply × AnswersRequest (recorded_of store.now) (asked.mark key.now) [] [] reply (recorded_of store.now) }
 {
-    match store.mark(key) {
+    match store.store().mark(key) {
         Ok(present) => shown(mark_line(alloc, present)),
         Err(refusal) => Reply::Refused(refusal),
     }
 }
 
-fn query<D: SectorDevice>(alloc: Global, store: &Store<D>, name: &str, path: &str) -> Reply
-    ensures { (reply : Doc) × Says result reply × AnswersRequest store.now.account (asked.query name.now path.now) [] [] reply store.now.account }
+fn query<D: SectorDevice>(alloc: Global, store: &RecordedStore<D>, name: &str, path: &str) -> Reply
+    ensures { (reply : Doc) × Says result reply × AnswersRequest (recorded_of store.now) (asked.query name.now path.now) [] [] reply (recorded_of store.now) }
 {
     let query = match Query::read(alloc, path) {
         Ok(query) => query,
         Err(fault) => return Reply::Refused(Refusal::plain(fault.number)),
     };
-    match select(alloc, &store.look(), name, &query) {
+    match select(alloc, &store.store().look(), name, &query) {
         Ok(nodes) => selected(alloc, &nodes),
         Err(refusal) => Reply::Refused(refusal),
     }
@@ -165,19 +176,55 @@ fn selected(alloc: Global, nodes: &Nodelist<'_>) -> Reply
     }
 }
 
-fn list<D: SectorDevice>(alloc: Global, store: &Store<D>) -> Reply
-    ensures { (reply : Doc) × Says result reply × AnswersRequest store.now.account asked.list [] [] reply store.now.account }
+fn changes<D: SectorDevice>(alloc: Global, store: &RecordedStore<D>, from: u64, most: u64) -> Reply
+    ensures { (reply : Doc) × Says result reply × AnswersRequest (recorded_of store.now) (asked.changes from most) [] [] reply (recorded_of store.now) }
 {
-    match store.list() {
+    let status = store.store().status();
+    match store.since(from, most) {
+        Some(told) => told_changes(alloc, told, from, &status),
+        None => shown(gone_line(alloc, store.floor(), status.seq)),
+    }
+}
+
+// These transactions, which come after the change of number `from`, or that they are too many bytes.
+fn told_changes(alloc: Global, told: Iter<'_, Told>, from: u64, status: &Status) -> Reply
+    requires { (ts : List Transaction) × AreToldFrom from (deque_iter_rest told) ts }
+    ensures { (ts : List Transaction) → AreToldFrom from (deque_iter_rest told.entry) ts
+        → Says result (told_reply (id_of status.now) status.now.seq from ts) ⊎ Says result (refusal_reply (plain MEMORY)) }
+{
+    let Ok(text) = id_text(alloc, status) else {
+        return Reply::Refused(Refusal::plain(MEMORY));
+    };
+    let identity = identity_in(status, text.as_str());
+    match changes_line(alloc, told, from, status.seq, identity) {
+        Ok(line) => Reply::Line(line),
+        Err(refusal) => Reply::Refused(refusal),
+    }
+}
+
+// The text of the identity, if the status has one.
+fn identity_in<'t>(status: &Status, text: &'t str) -> Option<&'t str>
+    ensures { option_map (λ id. id.now) result ≡ shown_id status.now text.now }
+{
+    match status.identity {
+        Some(_) => Some(text),
+        None => None,
+    }
+}
+
+fn list<D: SectorDevice>(alloc: Global, store: &RecordedStore<D>) -> Reply
+    ensures { (reply : Doc) × Says result reply × AnswersRequest (recorded_of store.now) asked.list [] [] reply (recorded_of store.now) }
+{
+    match store.store().list() {
         Ok(names) => shown(names_line(alloc, names.as_slice())),
         Err(refusal) => Reply::Refused(refusal),
     }
 }
 
-fn status<D: SectorDevice>(alloc: Global, store: &Store<D>) -> Reply
-    ensures { (reply : Doc) × Says result reply × AnswersRequest store.now.account asked.status [] [] reply store.now.account }
+fn status<D: SectorDevice>(alloc: Global, store: &RecordedStore<D>) -> Reply
+    ensures { (reply : Doc) × Says result reply × AnswersRequest (recorded_of store.now) asked.status [] [] reply (recorded_of store.now) }
 {
-    let status = store.status();
+    let status = store.store().status();
     shown(status_line(alloc, &status))
 }
 

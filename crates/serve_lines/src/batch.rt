@@ -5,7 +5,9 @@ ghost use Rattle.std.specs.Vec.{vec_capacity, vec_len};
 ghost use Rattle.std.specs.VecDeque.{deque_capacity, deque_len};
 ghost use Rattle.doc_tree.specs.Doc.{Doc};
 ghost use Rattle.doc_machine.specs.Transaction.{transaction_of};
+ghost use Rattle.store_commits.specs.Batch.{changes};
 ghost use Rattle.store_commits.specs.Events.{is_done};
+ghost use Rattle.recorded_store.specs.Recorded.{Records, recorded_of};
 ghost use Rattle.doc_changes.specs.Refusals.{plain};
 ghost use Rattle.store_commits.specs.Run.{Batched};
 ghost use Rattle.protocol.specs.declared.reply.Reply.{Reply as Shown};
@@ -18,6 +20,7 @@ use crate::replies::{keys_of, push, say};
 use doc_machine::{Refusal, Transaction};
 use doc_store::Store;
 use protocol::Reply;
+use recorded_store::RecordedStore;
 use refusals::numbers::MEMORY;
 use sector_device::SectorDevice;
 use std::alloc::Global;
@@ -28,7 +31,7 @@ use std::mem;
 /// waits then, and their replies are ready: if memory is refused, that reply to each of them.
 pub(crate) fn commit<D: SectorDevice>(
     alloc: Global,
-    store: &mut Store<D>,
+    store: &mut RecordedStore<D>,
     options: &Options,
     waiting: &mut Vec<Transaction>,
     ready: &mut VecDeque<Reply>,
@@ -47,7 +50,13 @@ pub(crate) fn commit<D: SectorDevice>(
     }
     match change_all(alloc, store, waiting) {
         Ok((said, keys)) => {
-            say(alloc, store, ready, said.as_slice(), keys.as_slice());
+            say(
+                alloc,
+                store.store(),
+                ready,
+                said.as_slice(),
+                keys.as_slice(),
+            );
             follow(store, options, said.as_slice());
         }
         Err(_) => refuse(ready, many, MEMORY),
@@ -58,10 +67,11 @@ pub(crate) fn commit<D: SectorDevice>(
 // marks, or that memory is refused, and nothing was done.
 fn change_all<D: SectorDevice>(
     alloc: Global,
-    store: &mut Store<D>,
+    store: &mut RecordedStore<D>,
     waiting: &mut Vec<Transaction>,
 ) -> Result<(Vec<doc_store::Reply>, Vec<Option<String>>), Refusal>
-    ensures made { IfOk result (λ done. Batched D.disk store.old store.new (map transaction_of waiting.old.items) done.0.items) }
+    ensures made { IfOk result (λ done. Batched D.disk store.old.store store.new.store (map transaction_of waiting.old.items) done.0.items) }
+    ensures recorded { IfOk result (λ done. Records (recorded_of store.old) (changes (map transaction_of waiting.old.items)) done.0.items (recorded_of store.new)) }
     ensures keys { IfOk result (λ done. map key_in done.1.items ≡ map key_of (map transaction_of waiting.old.items)) }
     ensures err { IfErr result (λ _. store.new ≡ store.old) }
     ensures none { (waiting.new.items ≡ []) × (vec_len waiting.new ≡ 0) }
@@ -78,7 +88,11 @@ fn change_all<D: SectorDevice>(
 }
 
 // Makes a step of a copy after these replies, if a change was done and one is wanted.
-fn follow<D: SectorDevice>(store: &mut Store<D>, options: &Options, said: &[doc_store::Reply])
+fn follow<D: SectorDevice>(
+    store: &mut RecordedStore<D>,
+    options: &Options,
+    said: &[doc_store::Reply],
+)
     ensures { FollowsBatch D.disk options.now said.now store.old store.new }
 {
     if has_done(said) {
@@ -103,10 +117,10 @@ fn is_done(reply: doc_store::Reply) -> bool
 }
 
 // Makes a step of a copy after changes that were done, if one is wanted. Its answer isn't shown.
-fn go_on<D: SectorDevice>(store: &mut Store<D>, options: &Options)
+fn go_on<D: SectorDevice>(store: &mut RecordedStore<D>, options: &Options)
     ensures { MakesCopyStep D.disk options.now store.old store.new }
 {
-    if wants_step(store, options) {
+    if wants_step(store.store(), options) {
         let _ = store.pump(options.pump);
     }
 }

@@ -5,8 +5,8 @@ ghost use Rattle.protocol.specs.LineBuffer.{Holds};
 use crate::options::Options;
 use crate::session::Session;
 use crate::writing::{Unwritten, make_room, put, send};
-use doc_store::Store;
 use protocol::{Outbox, Reply};
+use recorded_store::RecordedStore;
 use sector_device::SectorDevice;
 use std::alloc::{AllocError, Global};
 use std::io::Write;
@@ -41,7 +41,7 @@ impl Progress {
     pub(crate) fn turn<D: SectorDevice, W: Write>(
         &mut self,
         alloc: Global,
-        store: &mut Store<D>,
+        store: &mut RecordedStore<D>,
         writer: &mut W,
         piece: &[u8],
     ) -> Result<(), Unwritten>
@@ -58,7 +58,7 @@ impl Progress {
     fn take<D: SectorDevice, W: Write>(
         &mut self,
         alloc: Global,
-        store: &mut Store<D>,
+        store: &mut RecordedStore<D>,
         writer: &mut W,
         piece: &[u8],
     ) -> Result<(), Unwritten>
@@ -103,7 +103,7 @@ impl Progress {
     pub(crate) fn finish<D: SectorDevice, W: Write>(
         &mut self,
         alloc: Global,
-        store: &mut Store<D>,
+        store: &mut RecordedStore<D>,
         writer: &mut W,
     ) -> Result<u64, Unwritten>
         requires taken { self.old.session.ready.items ≡ [] }

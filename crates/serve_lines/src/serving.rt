@@ -17,9 +17,9 @@ ghost use Rattle.protocol.specs.declared.serve_fault.ServeFault.TheVariants.{Rea
 use crate::options::Options;
 use crate::progress::Progress;
 use crate::writing::Unwritten;
-use doc_store::Store;
 use doc_store::laws::runs_keep_the_promise;
 use protocol::ServeFault;
+use recorded_store::RecordedStore;
 use sector_device::SectorDevice;
 use std::alloc::Global;
 use std::io::{Read, Write};
@@ -48,7 +48,7 @@ pub struct Served {
 /// answered from what was last committed.
 pub fn serve<D: SectorDevice, R: Read, W: Write>(
     alloc: Global,
-    store: &mut Store<D>,
+    store: &mut RecordedStore<D>,
     reader: &mut R,
     writer: &mut W,
     options: &Options,
@@ -72,9 +72,9 @@ pub fn serve<D: SectorDevice, R: Read, W: Write>(
 
     // However it ends, what the store was asked and answered keeps the promise. That are the events and the replies of any
     // session that it may have been by the other clauses.
-    ensures promise { (events : List Event) × (said : List Reply) × KeepsPromise D.disk store.old store.new (dones_of events said) (hits_of events said) }
+    ensures promise { (events : List Event) × (said : List Reply) × KeepsPromise D.disk store.old.store store.new.store (dones_of events said) (hits_of events said) }
     ensures promised { (lines : List (List ℕ)) (replies : List Doc) (was : IsSession D.disk options.now store.old lines replies store.new)
-        → KeepsPromise D.disk store.old store.new (dones_of was.events was.said) (hits_of was.events was.said) }
+        → KeepsPromise D.disk store.old.store store.new.store (dones_of was.events was.said) (hits_of was.events was.said) }
 
     // The reader failed or the turns ran out: each line that a line feed ended is answered, and its reply is written, but
     // for the changes that wait for others, which aren't done. A turn gave a byte at least, and 65,536 at most.
@@ -94,18 +94,26 @@ pub fn serve<D: SectorDevice, R: Read, W: Write>(
 {
     runs_keep_the_promise::<D>();
     let ended = answer_all(alloc, store, reader, writer, options);
-    // By this call the proof knows at every exit that what is stored is good, and what the device holds.
-    let broken = store.status().broken;
+    let broken = is_broken(store);
     match ended {
         Ok(lines) => Ok(Served { lines, broken }),
         Err(fault) => Err(fault),
     }
 }
 
+// Whether the store is broken. Who calls this also knows that what is stored is good, and what the device holds.
+fn is_broken<D: SectorDevice>(store: &RecordedStore<D>) -> bool
+    ensures broken { result ≡ store.now.account.broken }
+    ensures good { Good store.now.account.state }
+    ensures standing { IsStanding (D.disk store.now.device) store.now.account }
+{
+    store.store().status().broken
+}
+
 // The same, but for what the store is seen as at the end: the number of all replies.
 fn answer_all<D: SectorDevice, R: Read, W: Write>(
     alloc: Global,
-    store: &mut Store<D>,
+    store: &mut RecordedStore<D>,
     reader: &mut R,
     writer: &mut W,
     options: &Options,
@@ -122,7 +130,7 @@ fn answer_all<D: SectorDevice, R: Read, W: Write>(
         × BreaksOff D.disk options.now store.old read (R.remaining reader.new) store.new }
     ensures memory { IsErrOf result Memory → (store.new ≡ store.old) × (reader.new ≡ reader.old) × (writer.new ≡ writer.old) }
 {
-    store.know();
+    store.store().know();
     let Ok(mut progress) = Progress::new(alloc, options) else {
         return Err(ServeFault::Memory);
     };

@@ -14,8 +14,8 @@ use crate::batch::{commit, hold, is_full};
 use crate::options::Options;
 use crate::replies::push;
 use doc_machine::{Refusal, Transaction};
-use doc_store::Store;
 use protocol::{Line, Reply, Request, cut_at_feed, read_request};
+use recorded_store::RecordedStore;
 use refusals::numbers::LINE_TOO_LONG;
 use sector_device::SectorDevice;
 use std::alloc::{AllocError, Global};
@@ -66,7 +66,7 @@ impl Session {
     pub fn next_reply<'a, D: SectorDevice>(
         &mut self,
         alloc: Global,
-        store: &mut Store<D>,
+        store: &mut RecordedStore<D>,
         input: &'a [u8],
     ) -> Option<(Reply, &'a [u8])>
         ensures heard { MatchOption result (ReadsMore D.disk input.now store.old self.old store.new self.new)
@@ -98,7 +98,7 @@ impl Session {
     /// Ends the input: its last line, which no line feed has ended, is answered, and the transactions that wait are made. Their
     /// replies are ready then (`ready_reply`), and the session has read nothing again. While replies are ready it does
     /// nothing: they are to be taken before.
-    pub fn finish<D: SectorDevice>(&mut self, alloc: Global, store: &mut Store<D>)
+    pub fn finish<D: SectorDevice>(&mut self, alloc: Global, store: &mut RecordedStore<D>)
         ensures ended { EndsInput D.disk store.old self.old store.new self.new }
         ensures clear { self.old.ready.items ≡ [] → Holds self.new.line [] × (self.new.waiting.items ≡ []) }
         ensures options { self.new.options ≡ self.old.options }
@@ -117,7 +117,12 @@ impl Session {
     }
 
     // Takes the last bytes of a line, and does what it asks for, unless it is blank.
-    fn take_line<D: SectorDevice>(&mut self, alloc: Global, store: &mut Store<D>, end: &[u8])
+    fn take_line<D: SectorDevice>(
+        &mut self,
+        alloc: Global,
+        store: &mut RecordedStore<D>,
+        end: &[u8],
+    )
         requires whole { HasNoBreak end.now }
         requires taken { self.old.ready.items ≡ [] }
         ensures heard { ReadsMore D.disk (end.now ++ line_feed ∷ []) store.old self.old store.new self.new }
@@ -128,7 +133,7 @@ impl Session {
     }
 
     // Does what the line asks for that has ended, unless it is blank, and begins the next.
-    fn end_line<D: SectorDevice>(&mut self, alloc: Global, store: &mut Store<D>)
+    fn end_line<D: SectorDevice>(&mut self, alloc: Global, store: &mut RecordedStore<D>)
         requires taken { self.old.ready.items ≡ [] }
         ensures ends { LineEndsFor D.disk store.old self.old store.new self.new }
         ensures clear { Holds self.new.line [] }
@@ -144,7 +149,7 @@ impl Session {
     }
 
     // Does what the line asks for that has ended, or lets its transaction wait.
-    fn do_line<D: SectorDevice>(&mut self, alloc: Global, store: &mut Store<D>)
+    fn do_line<D: SectorDevice>(&mut self, alloc: Global, store: &mut RecordedStore<D>)
         requires taken { self.old.ready.items ≡ [] }
         ensures ends { (line : List ℕ) → Holds self.old.line line → LineEnds D.disk line store.old self.old store.new self.new }
         ensures same { KeepsInput self.old self.new }
@@ -160,7 +165,7 @@ impl Session {
     fn wait<D: SectorDevice>(
         &mut self,
         alloc: Global,
-        store: &mut Store<D>,
+        store: &mut RecordedStore<D>,
         transaction: Transaction,
     )
         requires taken { self.old.ready.items ≡ [] }
@@ -184,7 +189,7 @@ impl Session {
     fn end_batch<D: SectorDevice>(
         &mut self,
         alloc: Global,
-        store: &mut Store<D>,
+        store: &mut RecordedStore<D>,
         asked: Result<Request, Refusal>,
     )
         requires taken { self.old.ready.items ≡ [] }

@@ -1,6 +1,6 @@
 //! A session without streams, as an application has it that embeds the store.
-use crate::support::{TURNS, new_store, session, text_of};
-use doc_store::Store;
+use crate::support::{TURNS, new_recorded_store, session, text_of};
+use recorded_store::RecordedStore;
 use sector_device::MemDisk;
 use serve_lines::{Options, Reply, ReplyRoom, Session};
 use std::alloc::Global;
@@ -43,7 +43,7 @@ fn tell(
     rt: &impl Abort,
     alloc: Global,
     session: &mut Session,
-    store: &mut Store<MemDisk>,
+    store: &mut RecordedStore<MemDisk>,
     piece: &[u8],
     told: &mut Told,
 ) {
@@ -78,7 +78,7 @@ fn told_in_pieces(
     batch: u64,
 ) -> Vec<u8> {
     let mut told = Told::new(rt, alloc);
-    let mut store = new_store(rt, alloc);
+    let mut store = new_recorded_store(rt, alloc);
     let mut session = session_by(rt, alloc, batch);
     for piece in input.chunks(size.max(1)) {
         tell(rt, alloc, &mut session, &mut store, piece, &mut told);

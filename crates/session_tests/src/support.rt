@@ -1,5 +1,6 @@
 //! Stores in memory, and sessions over them.
 use doc_store::Store;
+use recorded_store::RecordedStore;
 use sector_device::{MemDisk, SectorDevice};
 use serve_lines::{Options, ServeFault, Served, serve};
 use std::alloc::Global;
@@ -37,10 +38,15 @@ pub(crate) fn new_store(rt: &impl Abort, alloc: Global) -> Store<MemDisk> {
     opened(rt, alloc, formatted(rt, alloc, 16))
 }
 
+/// A new store of 16 sectors, with its newest changes.
+pub(crate) fn new_recorded_store(rt: &impl Abort, alloc: Global) -> RecordedStore<MemDisk> {
+    RecordedStore::new(alloc, new_store(rt, alloc), 4_096)
+}
+
 /// How a session over a store ended, in which each change is a batch of its own.
 pub(crate) fn served<R: Read, W: Write>(
     alloc: Global,
-    store: &mut Store<MemDisk>,
+    store: &mut RecordedStore<MemDisk>,
     reader: &mut R,
     writer: &mut W,
     turns: u64,
@@ -61,7 +67,8 @@ pub(crate) fn session<R: Read>(
     turns: u64,
 ) -> (Result<Served, ServeFault>, Vec<u8>) {
     let mut writer = Vec::new(alloc);
-    let end = served(alloc, &mut new_store(rt, alloc), reader, &mut writer, turns);
+    let mut store = new_recorded_store(rt, alloc);
+    let end = served(alloc, &mut store, reader, &mut writer, turns);
     (end, writer)
 }
 

@@ -1,5 +1,5 @@
 //! Writers: how a session ends by what its writer does.
-use crate::support::{LISTED, TURNS, assert_ended, new_store, served};
+use crate::support::{LISTED, TURNS, assert_ended, new_recorded_store, served};
 use serve_lines::{ServeFault, Served};
 use std::alloc::Global;
 use std::io::{self, Write};
@@ -69,7 +69,7 @@ fn assert_flushes(
         refuses,
     };
     let mut reader = b"{\"cmd\":\"list\"}\n".as_slice();
-    let mut store = new_store(rt, alloc);
+    let mut store = new_recorded_store(rt, alloc);
     let end = served(alloc, &mut store, &mut reader, &mut writer, turns);
     assert_ended(rt, end, &writer.flushed, wanted, flushed);
 }
@@ -102,7 +102,7 @@ fn assert_ends(
         failing,
     };
     let mut reader = b"{\"cmd\":\"list\"}\n".as_slice();
-    let mut store = new_store(rt, alloc);
+    let mut store = new_recorded_store(rt, alloc);
     let end = served(alloc, &mut store, &mut reader, &mut writer, TURNS);
     assert_ended(rt, end, &writer.taken, wanted, taken);
 }

@@ -3,4 +3,4 @@
 
 mod status;
 
-pub use status::{identity_text, send_id, status_line};
+pub use status::{id_text, identity_text, send_id, status_line};

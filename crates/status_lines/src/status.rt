@@ -20,8 +20,8 @@ pub fn status_line(alloc: Global, status: &Status) -> Result<Vec<u8>, AllocError
     shown_line(alloc, &StatusReply { status, id })
 }
 
-// The text of the identity that a status has; if it has none, a text that isn't shown.
-fn id_text(alloc: Global, status: &Status) -> Result<String, AllocError>
+/// The text of the identity that a status has; if it has none, a text that isn't shown.
+pub fn id_text(alloc: Global, status: &Status) -> Result<String, AllocError>
     ensures { IfOk result (λ text. shown_id status.now (string_bytes text) ≡ id_of status.now) }
 {
     match status.identity {

@@ -2,6 +2,7 @@
 
 use crate::fault::Fault;
 use doc_store::{CopyState, Format, Store};
+use recorded_store::RecordedStore;
 use sector_device::{FailOnce, Fuse, MemDisk};
 use serve_lines::{Options, serve};
 use std::alloc::Global;
@@ -9,6 +10,9 @@ use store_journal::{format, format_in};
 
 /// A reply line has at most this number of bytes, with its line feed, so a session of one line grows no writer.
 const LONGEST_REPLY: usize = 16_777_217;
+
+/// Bytes of the newest changes that a session knows.
+const HISTORY: u64 = 65_536;
 
 /// A disk that may fail once, and from some call on.
 pub type Device = Fuse<FailOnce<MemDisk>>;
@@ -208,17 +212,25 @@ impl Bench {
         if self.store.is_none() {
             self.open(said)?;
         }
-        let Some(store) = &mut self.store else {
+        let mut output = Vec::with_capacity(self.alloc, LONGEST_REPLY)?;
+        let Some(store) = self.store.take() else {
             return Ok(());
         };
-        let mut output = Vec::with_capacity(self.alloc, LONGEST_REPLY)?;
+        let mut recorded = RecordedStore::new(self.alloc, store, HISTORY);
         let mut reader = input.as_bytes();
         let options = Options {
             batch: self.together,
             pump: self.behind,
             turns: u64::MAX,
         };
-        let ended = serve(self.alloc, store, &mut reader, &mut output, &options);
+        let ended = serve(
+            self.alloc,
+            &mut recorded,
+            &mut reader,
+            &mut output,
+            &options,
+        );
+        self.store = Some(recorded.into_store());
         said.push_str(std::str::from_utf8(output.as_slice()).unwrap_or("no text"))?;
         if let Err(fault) = ended {
             writeln!(said, "{fault}")?;

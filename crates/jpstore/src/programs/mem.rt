@@ -1,4 +1,4 @@
-//! `mem --sectors N`
+//! `mem --sectors N [--history BYTES]`
 
 ghost use Rattle.std.specs.Prelude.{◌≡◌, IfOk, OnErr, Ok};
 ghost use Rattle.jpstore.specs.Memory.{IsServedInMemory, new_account};
@@ -7,6 +7,7 @@ use crate::serving::{options_of, serve_store};
 use doc_store::Store;
 use doc_store::laws::one_state_stands;
 use file_programs::Fault;
+use recorded_store::RecordedStore;
 use sector_device::MemDisk;
 use std::alloc::Global;
 use std::io::{Read, Write};
@@ -21,21 +22,27 @@ pub struct ClosedInMemory {
     pub ended: Result<(), Fault>,
 }
 
-/// Serves lines over an empty store on a disk in memory, each change by itself, and hands it out as it is at the end.
+/// Serves lines over an empty store on a disk in memory, each change by itself, and hands it out as it is at the end. Of its newest
+/// transactions at most `history` bytes are kept.
 pub fn serve_memory<I: Read, O: Write>(
     alloc: Global,
     sectors: u64,
+    history: u64,
     reader: &mut I,
     writer: &mut O,
 ) -> Result<ClosedInMemory, Fault>
     ensures served { IfOk result (λ closed. closed.ended ≡ Ok tt
-        → IsServedInMemory sectors (I.remaining reader.old) (I.remaining reader.new) (O.contents writer.old) (O.contents writer.new) closed.store) }
+        → IsServedInMemory sectors history (I.remaining reader.old) (I.remaining reader.new) (O.contents writer.old) (O.contents writer.new) closed.store) }
     ensures unread { OnErr result (reader.new ≡ reader.old) }
     ensures unwritten { OnErr result (writer.new ≡ writer.old) }
 {
-    let mut store = new_store(alloc, sectors)?;
-    let ended = serve_store(alloc, &mut store, reader, writer, &options_of(1, 0));
-    Ok(ClosedInMemory { store, ended })
+    let store = new_store(alloc, sectors)?;
+    let mut recorded = RecordedStore::new(alloc, store, history);
+    let ended = serve_store(alloc, &mut recorded, reader, writer, &options_of(1, 0));
+    Ok(ClosedInMemory {
+        store: recorded.into_store(),
+        ended,
+    })
 }
 
 // An empty store on a disk of `sectors` sectors in memory.

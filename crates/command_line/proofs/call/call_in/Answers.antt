@@ -17,12 +17,12 @@ returns-in-format-clause-meant c = go
 
     go : (asked : Asked) → InRange asked → Means (subcommand_rows_of c.args.matches.now) asked → option_map asked_of c.format_in.result ≡ Some asked
     go (format file n version mode sparse identity) range m = c.format_in.ensures.meant file n version mode sparse identity range (met (format file n version mode sparse identity) m).1
-    go (serve file batch pump strict) range m = other (serve file batch pump strict) m refl
+    go (serve file batch pump history strict) range m = other (serve file batch pump history strict) m refl
     go (check file strict) range m = other (check file strict) m refl
     go (repair file) range m = other (repair file) m refl
     go (copy file new n version identity) range m = other (copy file new n version identity) m refl
     go (upgrade file version identity) range m = other (upgrade file version identity) m refl
-    go (mem n) range m = other (mem n) m refl
+    go (mem n history) range m = other (mem n history) m refl
     go (deep file) range m = other (deep file) m refl
     go (salvage file frames) range m = other (salvage file frames) m refl
     go (dump file) range m = other (dump file) m refl
@@ -38,12 +38,12 @@ returns-in-serve-clause-meant c = go
 
     go : (asked : Asked) → InRange asked → Means (subcommand_rows_of c.args.matches.now) asked → option_map asked_of c.serve_in.result ≡ Some asked
     go (format file n version mode sparse identity) range m = other (format file n version mode sparse identity) m refl
-    go (serve file batch pump strict) range m = c.serve_in.ensures.meant file batch pump strict range (met (serve file batch pump strict) m).1
+    go (serve file batch pump history strict) range m = c.serve_in.ensures.meant file batch pump history strict range (met (serve file batch pump history strict) m).1
     go (check file strict) range m = other (check file strict) m refl
     go (repair file) range m = other (repair file) m refl
     go (copy file new n version identity) range m = other (copy file new n version identity) m refl
     go (upgrade file version identity) range m = other (upgrade file version identity) m refl
-    go (mem n) range m = other (mem n) m refl
+    go (mem n history) range m = other (mem n history) m refl
     go (deep file) range m = other (deep file) m refl
     go (salvage file frames) range m = other (salvage file frames) m refl
     go (dump file) range m = other (dump file) m refl
@@ -59,12 +59,12 @@ returns-in-copy-clause-meant c = go
 
     go : (asked : Asked) → InRange asked → Means (subcommand_rows_of c.args.matches.now) asked → option_map asked_of c.copy_in.result ≡ Some asked
     go (format file n version mode sparse identity) range m = other (format file n version mode sparse identity) m refl
-    go (serve file batch pump strict) range m = other (serve file batch pump strict) m refl
+    go (serve file batch pump history strict) range m = other (serve file batch pump history strict) m refl
     go (check file strict) range m = other (check file strict) m refl
     go (repair file) range m = other (repair file) m refl
     go (copy file new n version identity) range m = c.copy_in.ensures.meant file new n version identity range (met (copy file new n version identity) m).1
     go (upgrade file version identity) range m = other (upgrade file version identity) m refl
-    go (mem n) range m = other (mem n) m refl
+    go (mem n history) range m = other (mem n history) m refl
     go (deep file) range m = other (deep file) m refl
     go (salvage file frames) range m = other (salvage file frames) m refl
     go (dump file) range m = other (dump file) m refl
@@ -80,12 +80,12 @@ returns-in-upgrade-clause-meant c = go
 
     go : (asked : Asked) → InRange asked → Means (subcommand_rows_of c.args.matches.now) asked → option_map asked_of c.upgrade_in.result ≡ Some asked
     go (format file n version mode sparse identity) range m = other (format file n version mode sparse identity) m refl
-    go (serve file batch pump strict) range m = other (serve file batch pump strict) m refl
+    go (serve file batch pump history strict) range m = other (serve file batch pump history strict) m refl
     go (check file strict) range m = other (check file strict) m refl
     go (repair file) range m = other (repair file) m refl
     go (copy file new n version identity) range m = other (copy file new n version identity) m refl
     go (upgrade file version identity) range m = c.upgrade_in.ensures.meant file version identity range (met (upgrade file version identity) m).1
-    go (mem n) range m = other (mem n) m refl
+    go (mem n history) range m = other (mem n history) m refl
     go (deep file) range m = other (deep file) m refl
     go (salvage file frames) range m = other (salvage file frames) m refl
     go (dump file) range m = other (dump file) m refl
@@ -101,12 +101,12 @@ returns-in-mem-clause-meant c = go
 
     go : (asked : Asked) → InRange asked → Means (subcommand_rows_of c.args.matches.now) asked → option_map asked_of c.mem_in.result ≡ Some asked
     go (format file n version mode sparse identity) range m = other (format file n version mode sparse identity) m refl
-    go (serve file batch pump strict) range m = other (serve file batch pump strict) m refl
+    go (serve file batch pump history strict) range m = other (serve file batch pump history strict) m refl
     go (check file strict) range m = other (check file strict) m refl
     go (repair file) range m = other (repair file) m refl
     go (copy file new n version identity) range m = other (copy file new n version identity) m refl
     go (upgrade file version identity) range m = other (upgrade file version identity) m refl
-    go (mem n) range m = c.mem_in.ensures.meant n range (met (mem n) m).1
+    go (mem n history) range m = c.mem_in.ensures.meant n history range (met (mem n history) m).1
     go (deep file) range m = other (deep file) m refl
     go (salvage file frames) range m = other (salvage file frames) m refl
     go (dump file) range m = other (dump file) m refl
@@ -122,12 +122,12 @@ returns-in-check-clause-meant c = go
 
     go : (asked : Asked) → InRange asked → Means (subcommand_rows_of c.args.matches.now) asked → option_map asked_of c.check_in.result ≡ Some asked
     go (format file n version mode sparse identity) range m = other (format file n version mode sparse identity) m refl
-    go (serve file batch pump strict) range m = other (serve file batch pump strict) m refl
+    go (serve file batch pump history strict) range m = other (serve file batch pump history strict) m refl
     go (check file strict) range m = c.check_in.ensures.meant file strict (met (check file strict) m).1
     go (repair file) range m = other (repair file) m refl
     go (copy file new n version identity) range m = other (copy file new n version identity) m refl
     go (upgrade file version identity) range m = other (upgrade file version identity) m refl
-    go (mem n) range m = other (mem n) m refl
+    go (mem n history) range m = other (mem n history) m refl
     go (deep file) range m = c.check_in.ensures.meant_deep file (met (deep file) m).1
     go (salvage file frames) range m = other (salvage file frames) m refl
     go (dump file) range m = other (dump file) m refl
@@ -143,12 +143,12 @@ returns-in-salvage-clause-meant c = go
 
     go : (asked : Asked) → InRange asked → Means (subcommand_rows_of c.args.matches.now) asked → option_map asked_of c.salvage_in.result ≡ Some asked
     go (format file n version mode sparse identity) range m = other (format file n version mode sparse identity) m refl
-    go (serve file batch pump strict) range m = other (serve file batch pump strict) m refl
+    go (serve file batch pump history strict) range m = other (serve file batch pump history strict) m refl
     go (check file strict) range m = other (check file strict) m refl
     go (repair file) range m = other (repair file) m refl
     go (copy file new n version identity) range m = other (copy file new n version identity) m refl
     go (upgrade file version identity) range m = other (upgrade file version identity) m refl
-    go (mem n) range m = other (mem n) m refl
+    go (mem n history) range m = other (mem n history) m refl
     go (deep file) range m = other (deep file) m refl
     go (salvage file frames) range m = c.salvage_in.ensures.meant file frames (met (salvage file frames) m).1
     go (dump file) range m = other (dump file) m refl
@@ -164,12 +164,12 @@ returns-in-dump-clause-meant c = go
 
     go : (asked : Asked) → InRange asked → Means (subcommand_rows_of c.args.matches.now) asked → option_map asked_of c.dump_in.result ≡ Some asked
     go (format file n version mode sparse identity) range m = other (format file n version mode sparse identity) m refl
-    go (serve file batch pump strict) range m = other (serve file batch pump strict) m refl
+    go (serve file batch pump history strict) range m = other (serve file batch pump history strict) m refl
     go (check file strict) range m = other (check file strict) m refl
     go (repair file) range m = other (repair file) m refl
     go (copy file new n version identity) range m = other (copy file new n version identity) m refl
     go (upgrade file version identity) range m = other (upgrade file version identity) m refl
-    go (mem n) range m = other (mem n) m refl
+    go (mem n history) range m = other (mem n history) m refl
     go (deep file) range m = other (deep file) m refl
     go (salvage file frames) range m = other (salvage file frames) m refl
     go (dump file) range m = c.dump_in.ensures.meant file (met (dump file) m).1

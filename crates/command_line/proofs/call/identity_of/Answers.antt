@@ -1,5 +1,4 @@
-use Rattle.std.proofs.Common.{◌≡◌, ◌∙◌, ℕ, List, Ok, Err, Result, Some, sym, ap}
-use Rattle.std.specs.Int.{w128, from_be_bytes}
+use Rattle.std.proofs.Common.{◌≡◌, ◌∙◌, Ok, Err, Some, sym, ap}
 use Rattle.command_line.proofs.call.identity_of.Goals as goal
 
 pub returns-in-Ok-clause-sound : goal.returns-in-Ok-clause-sound

@@ -1,7 +1,8 @@
 use Rattle.std.proofs.Common.{ap, ◌∙◌, map, subst, sym}
 use Rattle.clap.specs.Words.{FailsBy, fault_of, is_simple, is_simple_and_free, subcommand_of, takes}
 use Rattle.command_line.specs.Options.{Means, MeansWhy}
-use Rattle.command_line.proofs.Rows.{simple, simple_and_free, read_as_row, both_ways, of_err, of_ok}
+use Rattle.command_line.proofs.Readings.{simple, simple_and_free}
+use Rattle.command_line.proofs.Rows.{read_as_row, both_ways, of_err, of_ok}
 use Rattle.command_line.proofs.call.matches_of.Goals as goal
 
 pub returns : goal.returns

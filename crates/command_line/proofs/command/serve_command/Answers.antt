@@ -8,7 +8,8 @@ returns-clause-shape c =
     let file = c.in_ok-arg.ensures.shape c.file_argument.ensures.local ∙ ap₂ with_rule base c.file_argument.ensures.rule in
     let batch = c.in_ok-arg-2.ensures.shape c.batch_option.ensures.local ∙ ap₂ with_rule file c.batch_option.ensures.rule in
     let pump = c.in_ok-arg-3.ensures.shape c.pump_option.ensures.local ∙ ap₂ with_rule batch c.pump_option.ensures.rule in
-    let strict = c.in_ok-arg-4.ensures.shape c.strict_flag.ensures.local ∙ ap₂ with_rule pump c.strict_flag.ensures.rule in
+    let history = c.in_ok-arg-4.ensures.shape c.history_option.ensures.local ∙ ap₂ with_rule pump c.history_option.ensures.rule in
+    let strict = c.in_ok-arg-5.ensures.shape c.strict_flag.ensures.local ∙ ap₂ with_rule history c.strict_flag.ensures.rule in
     ap (λ a. a.top) (c.in_ok-serve.ensures.shape c.why_flag.ensures.local ∙ ap₂ with_rule strict c.why_flag.ensures.rule)
 
 pub returns-clause-local : goal.returns-clause-local
@@ -17,5 +18,6 @@ returns-clause-local c =
     let file = c.in_ok-arg.ensures.globals ∙ ap₂ (λ a b. a || b) base c.file_argument.ensures.local in
     let batch = c.in_ok-arg-2.ensures.globals ∙ ap₂ (λ a b. a || b) file c.batch_option.ensures.local in
     let pump = c.in_ok-arg-3.ensures.globals ∙ ap₂ (λ a b. a || b) batch c.pump_option.ensures.local in
-    let strict = c.in_ok-arg-4.ensures.globals ∙ ap₂ (λ a b. a || b) pump c.strict_flag.ensures.local in
+    let history = c.in_ok-arg-4.ensures.globals ∙ ap₂ (λ a b. a || b) pump c.history_option.ensures.local in
+    let strict = c.in_ok-arg-5.ensures.globals ∙ ap₂ (λ a b. a || b) history c.strict_flag.ensures.local in
     c.in_ok-serve.ensures.globals ∙ ap₂ (λ a b. a || b) strict c.why_flag.ensures.local

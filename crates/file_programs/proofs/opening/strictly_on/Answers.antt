@@ -1,4 +1,4 @@
-use Rattle.std.proofs.Common.{subst, sym}
+use Rattle.std.proofs.Common.{◌≡◌, subst, sym}
 use Rattle.std.proofs.lemmas.Result.{err_from_is_err_and}
 use Rattle.sector_device.specs.declared.history.History.{History}
 use Rattle.sector_device.specs.History.{seen_after, disk_after}
@@ -28,6 +28,18 @@ returns-clause-noticed c = λ held was.
     let notice : Notice = c.in_ok-open_with.field-0.1 in
     let e = c.in_ok-open_with.ensures in
     record { said = λ honest. subst (λ (p : History). IsSaidOf (seen_after p) notice) was (e.notice honest); taken = e.taken }
+
+pub returns-clause-read : goal.returns-clause-read
+returns-clause-read c = λ held was.
+    let store = c.in_ok-open_with.field-0.0 in
+    let read = c.in_ok-open_with.ensures.read in
+    record {
+      version = read.version;
+      version_fits = read.version_fits;
+      rides_fits = read.rides_fits;
+      holds = read.holds;
+      found = λ honest. subst (λ (p : History). (stands : Stands store.account.state (seen_after p)) × (stands.carried.bytes ≡ c.in_ok-open_with.field-0.2.items)) was (read.carried honest);
+    }
 
 pub returns-in_err-open_with-clause-refused : goal.returns-in_err-open_with-clause-refused
 returns-in_err-open_with-clause-refused c = λ held was.

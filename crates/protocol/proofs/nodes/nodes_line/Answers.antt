@@ -30,7 +30,7 @@ returns-then-len c =
     let l = c.loop-number in
     let line = c.in_ok-whole.whole in
     let is = line_done all l.number l.line.items line.items (omega (arith, c.len-number-end.ensures, c.loop-number-test.false)) l.invariant c.in_ok-whole.ensures in
-    inl (c.plain-then-len.ensures, line_over all line.items is (omega (arith, c.if-len.true, c.len-2.ensures, line.ok)))
+    inl (c.plain-then-len.ensures, line_over (nodes_reply all) line.items is (omega (arith, c.if-len.true, c.len-2.ensures, line.ok)))
 
 pub returns : goal.returns
 returns c =
@@ -38,4 +38,4 @@ returns c =
     let l = c.loop-number in
     let line = c.in_ok-whole.whole in
     let is = line_done all l.number l.line.items line.items (omega (arith, c.len-number-end.ensures, c.loop-number-test.false)) l.invariant c.in_ok-whole.ensures in
-    (is, line_within all line.items is (omega (arith, c.if-len.false, c.len-2.ensures, line.ok)))
+    (is, line_within (nodes_reply all) line.items is (omega (arith, c.if-len.false, c.len-2.ensures, line.ok)))

@@ -5,7 +5,7 @@ use Rattle.doc_tree.specs.TreeView.{elements_view}
 use Rattle.doc_tree.specs.declared.tree.Tree.{Tree}
 use Rattle.record_text.specs.Change.{change_of}
 use Rattle.protocol.specs.Request.{objects_of}
-use Rattle.protocol.proofs.Changes.{is_object, one_more}
+use Rattle.protocol.proofs.Objects.{is_object, one_more}
 use Rattle.protocol.proofs.several.commands_in.Goals as goal
 
 pub returns-in_default : goal.returns-in_default

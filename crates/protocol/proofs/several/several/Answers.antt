@@ -4,7 +4,7 @@ use Rattle.doc_tree.specs.Cursor.{ahead}
 use Rattle.doc_tree.specs.TreeView.{elements_view}
 use Rattle.protocol.specs.Read.{AreCommands, AreSeveral}
 use Rattle.protocol.specs.Request.{objects_of}
-use Rattle.protocol.proofs.Changes.{as_several, not_several}
+use Rattle.protocol.proofs.Objects.{as_several, not_several}
 use Rattle.protocol.proofs.several.several.Goals as goal
 
 pub returns-in_default : goal.returns-in_default

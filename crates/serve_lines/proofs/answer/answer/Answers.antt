@@ -1,5 +1,6 @@
 use Rattle.std.proofs.Common.{[], Err, Result, inl, inr, ap, refl, subst}
 use Rattle.doc_changes.specs.declared.refusal.Refusal.{Refusal}
+use Rattle.recorded_store.specs.Recorded.{recorded_of}
 use Rattle.protocol.specs.Read.{asked_by, ReadsRequest}
 use Rattle.protocol.specs.declared.request.Request.{Request}
 use Rattle.protocol.specs.Reply.{refusal_reply}
@@ -19,7 +20,7 @@ pub returns-in-Err : goal.returns-in-Err
 returns-in-Err g c = λ options line asks.
     let said = refusal_reply c.in-Err.refusal in
     let reads = subst (λ (a : Result Request Refusal). ReadsRequest line a) c.in-Err.is asks in
-    let other : AnswersOther c.args.store.now.account line [] [] said c.args.store.now.account = elim reads [
+    let other : AnswersOther (recorded_of c.args.store.now) line [] [] said (recorded_of c.args.store.now) = elim reads [
       | inl memory ↦ inl (ap refusal_reply memory, (refl, refl, refl))
       | inr none ↦ inr (Err none.0, none.2, (ap refusal_reply none.1, (refl, refl, refl)))
     ] in

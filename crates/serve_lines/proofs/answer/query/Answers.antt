@@ -5,6 +5,8 @@ use Rattle.doc_machine.specs.Queries.{nodes_at}
 use Rattle.path_eval.specs.NodeView.{listed_of}
 use Rattle.path_parse.specs.SyntaxView.{query_view}
 use Rattle.refusals.specs.declared.numbers.TheConstants.{PATH, PATH_LEFT_OUT, PATH_LONG}
+use Rattle.store_commits.specs.Account.{StoreView}
+use Rattle.recorded_store.specs.Recorded.{recorded_of}
 use Rattle.protocol.specs.Request as asked
 use Rattle.protocol.specs.Reply.{refusal_reply}
 use Rattle.serve_lines.specs.Session.{selected_reply}
@@ -29,14 +31,15 @@ pub returns-in-Ok-select : goal.returns-in-Ok-select
 returns-in-Ok-select g c =
     let nodes = listed_of c.in-Ok-select.nodes in
     let spelled = c.in-Ok.ensures.ok in
-    let found = sym c.in-Ok-select.ensures ∙ ap (λ (s : State). nodes_at s c.args.name.now (query_view c.in-Ok.query)) c.look.ensures.same in
-    shows c.args.store.now.account (asked.query c.args.name.now c.args.path.now) c.selected.result (selected_reply (Ok nodes))
+    let here = c.look.ensures.same ∙ ap (λ (v : StoreView g.row.D.Denot). v.account.state) c.store.ensures in
+    let found = sym c.in-Ok-select.ensures ∙ ap (λ (s : State). nodes_at s c.args.name.now (query_view c.in-Ok.query)) here in
+    shows (recorded_of c.args.store.now) (asked.query c.args.name.now c.args.path.now) c.selected.result (selected_reply (Ok nodes))
     (Ok nodes, inr (spelled.0, inr (inr (query_view c.in-Ok.query, spelled.1, found))), refl, (refl, refl, refl)) c.selected.ensures
 
 pub returns : goal.returns
 returns g c =
     let refusal = c.in-Err-select.refusal in
-    let here = ap (λ (s : State). nodes_at s c.args.name.now (query_view c.in-Ok.query)) c.look.ensures.same in
+    let here = ap (λ (s : State). nodes_at s c.args.name.now (query_view c.in-Ok.query)) (c.look.ensures.same ∙ ap (λ (v : StoreView g.row.D.Denot). v.account.state) c.store.ensures) in
     let spelled = c.in-Ok.ensures.ok in
     elim c.in-Err-select.ensures [
       | inl none ↦ (refusal_reply refusal, refl, inr (Err refusal, inr (spelled.0, inr (inr (query_view c.in-Ok.query, spelled.1, sym none ∙ here))), refl, (refl, refl, refl)))

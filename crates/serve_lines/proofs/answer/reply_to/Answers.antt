@@ -1,5 +1,6 @@
 use Rattle.std.proofs.Common.{rules, ap, ap₂, sym, ◌∙◌, subst, []}
 use Rattle.doc_tree.specs.Doc.{Doc}
+use Rattle.recorded_store.specs.Recorded.{recorded_of}
 use Rattle.protocol.specs.Read.{asked_by}
 use Rattle.protocol.specs.Request as asked
 use Rattle.protocol.specs.Says.{Says}
@@ -9,7 +10,7 @@ use Rattle.serve_lines.proofs.answer.reply_to.Goals as goal
 
 pub returns-in-Query : goal.returns-in-Query
 returns-in-Query g c =
-    let account = c.args.store.now.account in
+    let account = recorded_of c.args.store.now in
     let same = ap₂ asked.query c.as_str-in-Query.ensures.value c.as_str-in-Query-2.ensures.value ∙ sym (ap asked_by c.in-Query.is) in
     asks_nothing g.D.SectorDevice.disk c.args.store.now (asked_by c.args.request) c.query.result
     (subst (λ (r : asked.Request). (x : Doc) × Says c.query.result x × AnswersRequest account r [] [] x account) same c.query.ensures)
@@ -31,3 +32,6 @@ returns-in-List g c = asks_nothing g.D.SectorDevice.disk c.args.store.now (asked
 
 pub returns-in-Status : goal.returns-in-Status
 returns-in-Status g c = asks_nothing g.D.SectorDevice.disk c.args.store.now (asked_by c.args.request) c.status.result (search rules)
+
+pub returns-in-Changes : goal.returns-in-Changes
+returns-in-Changes g c = asks_nothing g.D.SectorDevice.disk c.args.store.now (asked_by c.args.request) c.changes.result (search rules)

@@ -2,11 +2,12 @@ use Rattle.std.proofs.Common.{◌≡◌, ◌<◌, ℕ, List, Option, String, Glo
 use Rattle.std.proofs.lemmas.List.{length-map, append-nil}
 use Rattle.doc_machine.specs.Transaction.{transaction_of}
 use Rattle.doc_changes.specs.Refusals.{plain}
-use Rattle.store_commits.specs.Account.{StoreView}
+use Rattle.recorded_store.specs.Recorded.{RecordedView}
 use Rattle.refusals.specs.declared.numbers.TheConstants.{MEMORY}
 use Rattle.protocol.specs.Reply.{refusal_reply}
 use Rattle.protocol.specs.declared.reply.Reply.TheVariants.{Refused}
 use Rattle.store_commits.specs.declared.event.Reply.{Reply as StoreReply}
+use Rattle.store_commits.specs.Account.{StoreView}
 use Rattle.store_commits.proofs.Modelled.{both_models}
 use Rattle.serve_lines.specs.LineReplies.{AllSay, BatchIsAnswered, FollowsBatch, key_in}
 use Rattle.serve_lines.specs.Session.{AreTold, key_of}
@@ -29,9 +30,11 @@ returns-in-Ok-clause-batch g c =
     let some : 0 < length cs = omega (arith, length-map c.args.waiting.now.items transaction_of, c.len-many.ensures, c.if-many-eq0.false) in
     let told = subst (λ (ks : List (Option (List ℕ))). AreTold mid.account.state ks said b.1) c.in-Ok.ensures.keys
     (subst (λ (l : List (Option (String Global))). AreTold mid.account.state (map key_in l) said b.1) c.as_slice-in-Ok.ensures.value
-    (subst (λ (l : List StoreReply). AreTold mid.account.state (map key_in c.as_slice-in-Ok.result.now) l b.1) c.as_slice.ensures.value b.4)) in
+    (subst (λ (l : List StoreReply). AreTold mid.account.state (map key_in c.as_slice-in-Ok.result.now) l b.1) c.as_slice.ensures.value
+    (subst (λ (v : StoreView g.row.D.Denot). AreTold v.account.state (map key_in c.as_slice-in-Ok.result.now) c.as_slice.result.now b.1) c.store.ensures b.4))) in
+    let recorded = c.in-Ok.ensures.recorded in
     let follows = subst (λ (l : List StoreReply). FollowsBatch disk c.args.options.now l mid c.follow.new.store) c.as_slice-in-Ok-2.ensures.value c.follow.ensures in
-    (b.0, b.1, b.2, b.3, inr (some, batch_behind disk c.args.options.now c.args.store.now mid cs said b.1 c.in-Ok.ensures.made told (both_models disk g.met.D.SectorDevice.coherent g.met.D.SectorDevice.torn_coherent) c.follow.new.store follows))
+    (b.0, b.1, b.2, b.3, inr (some, batch_behind disk c.args.options.now c.args.store.now mid cs said b.1 c.in-Ok.ensures.made recorded told (both_models disk g.met.D.SectorDevice.coherent g.met.D.SectorDevice.torn_coherent) c.follow.new.store follows))
 
 pub returns-in-Err-clause-batch : goal.returns-in-Err-clause-batch
 returns-in-Err-clause-batch g c =
@@ -45,7 +48,7 @@ returns-in-Err-clause-batch g c =
       subst (λ (n : ℕ). AllSay (replicate n (Refused (plain MEMORY))) docs) many (says_refused (plain MEMORY) cs),
       inr (
         some,
-        subst (λ (v : StoreView g.row.D.Denot). BatchIsAnswered g.D.SectorDevice.disk c.args.options.now c.args.store.now cs docs v) (sym c.in-Err.ensures.err)
+        subst (λ (v : RecordedView g.row.D.Denot). BatchIsAnswered g.D.SectorDevice.disk c.args.options.now c.args.store.now cs docs v) (sym c.in-Err.ensures.err)
             (batch_refused g.D.SectorDevice.disk c.args.options.now c.args.store.now cs),
       ),
     )

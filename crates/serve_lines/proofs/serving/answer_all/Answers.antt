@@ -1,6 +1,7 @@
 use Rattle.std.proofs.Common.{◌≡◌, ◌≤◌, ◌++◌, [], ℕ, List, take, length, length-append, arith, ap, subst, sym}
 use Rattle.std.specs.Io.KnownBytes.{Consumes}
 use Rattle.std.proofs.lemmas.List.{append-nil, length-take-le}
+use Rattle.store_commits.specs.Account.{IsStanding, StoreView}
 use Rattle.store_commits.proofs.Modelled.{both_models}
 use Rattle.serve_lines.specs.Serve.{BreaksOff}
 use Rattle.serve_lines.proofs.Hearing.{hears_start}
@@ -16,7 +17,7 @@ loop-init g c = record {
     consumes_none (g.R.Read.remaining c.args.reader.now),
     record {
       replies = [];
-      hears = hears_start g.D.SectorDevice.disk c.args.options.now (both_models g.D.SectorDevice.disk g.met.D.SectorDevice.coherent g.met.D.SectorDevice.torn_coherent) c.args.store.now c.in-Ok.progress.session [] c.know.ensures.standing c.in-Ok.ensures.options c.in-Ok.ensures.waiting c.in-Ok.ensures.taken c.in-Ok.ensures.line;
+      hears = hears_start g.D.SectorDevice.disk c.args.options.now (both_models g.D.SectorDevice.disk g.met.D.SectorDevice.coherent g.met.D.SectorDevice.torn_coherent) c.args.store.now c.in-Ok.progress.session [] (subst (λ (v : StoreView g.row.D.Denot). IsStanding (g.D.SectorDevice.disk v.device) v.account) c.store.ensures c.know.ensures.standing) c.in-Ok.ensures.options c.in-Ok.ensures.waiting c.in-Ok.ensures.taken c.in-Ok.ensures.line;
       told = record {
         tells = record { written = []; wrote = appends_none (g.W.Write.contents c.args.writer.now); whole = sym c.in-Ok.ensures.empty };
         counted = c.in-Ok.ensures.none;

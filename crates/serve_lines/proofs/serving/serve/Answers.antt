@@ -2,10 +2,10 @@ use Rattle.std.proofs.Common.{◌≡◌, ◌⊎◌, inl, inr, ⊎_elim, ℕ, Lis
 use Rattle.std.proofs.lemmas.List.{append-nil}
 use Rattle.std.specs.Io.KnownBytes.{Appends, Consumes}
 use Rattle.std.specs.Result.{IsErrOf}
-use Rattle.store_commits.specs.Account.{StoreView}
+use Rattle.recorded_store.specs.Recorded.{RecordedView, recorded_of}
 use Rattle.doc_store.specs.Promise.{KeepsPromise}
 use Rattle.protocol.specs.Lines.{lines_of}
-use Rattle.serve_lines.specs.Kept.{no_line}
+use Rattle.serve_lines.specs.Kept.{known_of, no_line}
 use Rattle.protocol.specs.declared.serve_fault.ServeFault.{ServeFault}
 use Rattle.serve_lines.specs.declared.serving.Served.{Served}
 use Rattle.protocol.specs.declared.serve_fault.ServeFault.TheVariants.{Reader, Writer, Turns, Memory}
@@ -31,15 +31,15 @@ ends_so f named is = let same : f ≡ named = cc is in ap (λ (x : ServeFault). 
 pub returns-in-Ok-clause-promise : goal.returns-in-Ok-clause-promise
 returns-in-Ok-clause-promise g c =
     let session = c.in-Ok.ensures.ok.3.told.session in
-    (session.events, session.said, c.runs_keep_the_promise.ensures.runs c.args.store.now c.answer_all-ended.new.store session.events session.said session.ran)
+    (session.events, session.said, c.runs_keep_the_promise.ensures.runs c.args.store.now.store c.answer_all-ended.new.store.store session.events session.said session.ran)
 
 pub returns-in-Ok-clause-promised : goal.returns-in-Ok-clause-promised
 returns-in-Ok-clause-promised g c =
-    λ lines replies was. c.runs_keep_the_promise.ensures.runs c.args.store.now c.answer_all-ended.new.store was.events was.said was.ran
+    λ lines replies was. c.runs_keep_the_promise.ensures.runs c.args.store.now.store c.answer_all-ended.new.store.store was.events was.said was.ran
 
 pub returns-in-Err-clause-promised : goal.returns-in-Err-clause-promised
 returns-in-Err-clause-promised g c =
-    λ lines replies was. c.runs_keep_the_promise.ensures.runs c.args.store.now c.answer_all-ended.new.store was.events was.said was.ran
+    λ lines replies was. c.runs_keep_the_promise.ensures.runs c.args.store.now.store c.answer_all-ended.new.store.store was.events was.said was.ran
 
 -- whatever ended it, what had been done until then was one run
 pub returns-in-Err-clause-promise : goal.returns-in-Err-clause-promise
@@ -47,10 +47,10 @@ returns-in-Err-clause-promise g c =
     let old = c.args.store.now in
     let new = c.answer_all-ended.new.store in
     let keep = c.runs_keep_the_promise.ensures in
-    ⊎_elim (λ is. (let session = (c.in-Err.ensures.reader is).2.writes.session in (session.events, session.said, keep.runs old new session.events session.said session.ran)))
-    (⊎_elim (λ is. (let session = (c.in-Err.ensures.writer is).2.session in (session.events, session.said, keep.runs old new session.events session.said session.ran)))
-    (⊎_elim (λ is. (let session = (c.in-Err.ensures.turns is).2.writes.session in (session.events, session.said, keep.runs old new session.events session.said session.ran)))
-    (λ is. (let same = (c.in-Err.ensures.memory is).0 in ([], [], subst (λ (v : StoreView g.row.D.Denot). KeepsPromise g.D.SectorDevice.disk v new [] []) same (keep.none new c.status-broken.ensures.standing)))))) (one_of c.in-Err.fault)
+    ⊎_elim (λ is. (let session = (c.in-Err.ensures.reader is).2.writes.session in (session.events, session.said, keep.runs old.store new.store session.events session.said session.ran)))
+    (⊎_elim (λ is. (let session = (c.in-Err.ensures.writer is).2.session in (session.events, session.said, keep.runs old.store new.store session.events session.said session.ran)))
+    (⊎_elim (λ is. (let session = (c.in-Err.ensures.turns is).2.writes.session in (session.events, session.said, keep.runs old.store new.store session.events session.said session.ran)))
+    (λ is. (let same = (c.in-Err.ensures.memory is).0 in ([], [], subst (λ (v : RecordedView g.row.D.Denot). KeepsPromise g.D.SectorDevice.disk v.store new.store [] []) same (keep.none new.store c.is_broken-broken.ensures.standing)))))) (one_of c.in-Err.fault)
 
 pub returns-in-Ok-clause-kept : goal.returns-in-Ok-clause-kept
 returns-in-Ok-clause-kept g c =
@@ -60,7 +60,7 @@ returns-in-Ok-clause-kept g c =
     let left_new = g.R.Read.remaining c.answer_all-ended.new.reader in
     let ok = c.in-Ok.ensures.ok in
     let told = ok.3.told in (
-      kept_so g.D.SectorDevice.disk c.args.options.now old new left left_new ok.0 ok.1 (c.runs_keep_the_promise.ensures.runs old new) (lines_of ok.0) [] told.replies told.session (sym (append-nil (lines_of ok.0))),
+      kept_so g.D.SectorDevice.disk c.args.options.now old new left left_new ok.0 ok.1 (c.runs_keep_the_promise.ensures.runs old.store new.store) (lines_of ok.0) [] told.replies told.session (sym (append-nil (lines_of ok.0))),
       λ is. (refl, ok.2),
       λ not_writer. told.wrote,
     )
@@ -77,9 +77,9 @@ returns-in-Err-clause-kept g c =
     let before = g.W.Write.contents c.args.writer.now in
     let after = g.W.Write.contents c.answer_all-ended.new.writer in
     let keep = c.runs_keep_the_promise.ensures in
-    ⊎_elim (λ is. (let r = c.in-Err.ensures.reader is in (kept_paused disk options old new left left_new r.0 r.1 (keep.runs old new) before after r.2, λ ok. absurd (cc ok), λ not_writer. r.2.writes.wrote)))
-    (⊎_elim (λ is. (let r = c.in-Err.ensures.writer is in (kept_broken_off disk options old new left left_new r.0 r.1 (keep.runs old new) r.2, λ ok. absurd (cc ok), λ not_writer. absurd (not_writer (ends_so c.in-Err.fault Writer is)))))
-    (⊎_elim (λ is. (let r = c.in-Err.ensures.turns is in (kept_paused disk options old new left left_new r.0 r.1 (keep.runs old new) before after r.2, λ ok. absurd (cc ok), λ not_writer. r.2.writes.wrote)))
+    ⊎_elim (λ is. (let r = c.in-Err.ensures.reader is in (kept_paused disk options old new left left_new r.0 r.1 (keep.runs old.store new.store) before after r.2, λ ok. absurd (cc ok), λ not_writer. r.2.writes.wrote)))
+    (⊎_elim (λ is. (let r = c.in-Err.ensures.writer is in (kept_broken_off disk options old new left left_new r.0 r.1 (keep.runs old.store new.store) r.2, λ ok. absurd (cc ok), λ not_writer. absurd (not_writer (ends_so c.in-Err.fault Writer is)))))
+    (⊎_elim (λ is. (let r = c.in-Err.ensures.turns is in (kept_paused disk options old new left left_new r.0 r.1 (keep.runs old.store new.store) before after r.2, λ ok. absurd (cc ok), λ not_writer. r.2.writes.wrote)))
     (λ is. (let same = c.in-Err.ensures.memory is in (
       record {
         read = [];
@@ -90,8 +90,8 @@ returns-in-Err-clause-kept g c =
         replies = [];
         done = [];
         hit = [];
-        replied = no_line old.account.state;
-        promise = subst (λ (v : StoreView g.row.D.Denot). KeepsPromise disk v new [] []) same.0 (keep.none new c.status-broken.ensures.standing);
+        replied = no_line (known_of (recorded_of old));
+        promise = subst (λ (v : RecordedView g.row.D.Denot). KeepsPromise disk v.store new.store [] []) same.0 (keep.none new.store c.is_broken-broken.ensures.standing);
       },
       λ ok. absurd (cc ok),
       λ not_writer. subst (λ (x : Option (List ℕ)). Appends before x []) (ap g.W.Write.contents (sym same.2)) (appends_none before),
