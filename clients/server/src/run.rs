@@ -3,7 +3,6 @@
 use crate::doors::places;
 use crate::ending::{ending, End, Ending};
 use crate::error::Error;
-use crate::history::file;
 use crate::http::guard::{token_in, Guard};
 use crate::http::reasons::Reasons;
 use crate::http::{self, App};
@@ -82,19 +81,12 @@ async fn serve(options: Options, workers: Workers) -> Result<(), Error> {
     }
     let path = program::find(options.program.as_deref())?;
     let program = tokio::select! {
-        program = program::start(&path, &options.store, options.wait) => program?,
+        program = program::start(&path, &options.store, options.pump, options.wait) => program?,
         // It serves nobody yet, and the program can be killed at any time.
         _ = signals.changed() => return Ok(()),
     };
     program::remove_leftovers(&options.store);
-    let (history, recorder) = match file::open(&options.store) {
-        Ok(opened) => opened,
-        Err(error) => {
-            program.ended().await;
-            return Err(error);
-        }
-    };
-    let (engine, store) = Engine::begin(program, history, recorder, Cache::new(options.cache), options.pump).await?;
+    let (engine, store) = Engine::begin(program, Cache::new(options.cache)).await?;
     let (end, ending) = ending();
     // Both doors are open before either is announced.
     let _listening = welcome(&options, &workers, store.clone(), ending.clone()).await?;

@@ -1,116 +1,24 @@
-//! The newest changes of the store, for those who follow them.
-//!
-//! They are in memory, each as the bytes that all followers are sent. `file` keeps them for the next start too.
+//! The newest changes of the store, in memory, for those who follow them: each as the bytes that all followers are sent.
 
-pub mod file;
-pub mod mark;
+mod event;
 pub mod name;
+mod naming;
 
-use bytes::Bytes;
-use mark::Mark;
+use crate::lines::replies::Status;
+use crate::lines::transactions::Transaction;
+use crate::lines::MOST_CHANGES as MOST_LINES;
+use event::line_of;
+use naming::Naming;
 use std::collections::VecDeque;
-use std::fs::File;
-use std::io::Read;
+use std::io;
 use std::sync::{RwLock, RwLockReadGuard, RwLockWriteGuard};
 use tokio::sync::watch;
 
+pub use event::{Event, HEAD};
+
 /// The most changes that are kept, and the most bytes of them. If there are more, the oldest quarter goes.
-pub const MOST_CHANGES: usize = 1 << 16;
-/// The most bytes of the changes that are kept.
-pub const MOST_BYTES: usize = 1 << 24;
-
-/// The most names that are kept.
-const MOST_NAMES: usize = 64;
-
-const AFTER_ID: &[u8] = b"\ndata: ";
-
-/// What is before the text of a change in its line.
-pub const HEAD: &[u8] = b"{\"change\":";
-
-/// A name of a history, and the number of its last change when it got this name.
-#[derive(Clone, Debug, PartialEq, Eq)]
-pub struct Name {
-    /// The name.
-    pub name: String,
-    /// The number.
-    pub begin: u64,
-}
-
-/// An accepted change.
-#[derive(Clone, Debug, PartialEq, Eq)]
-pub struct Change {
-    /// Its canonical text.
-    pub text: Vec<u8>,
-    /// The numbers of the first and the last change of its transaction, if that has several.
-    pub span: Option<(u64, u64)>,
-    /// The mark that was set with its transaction, if this is the last change of it, and was made since the start.
-    pub mark: Option<Mark>,
-}
-
-impl Change {
-    /// A change of which it isn't known that others were made with it.
-    pub fn alone(text: Vec<u8>) -> Change {
-        Change { text, span: None, mark: None }
-    }
-}
-
-/// A change as a server-sent event, in which its line and its text are too.
-#[derive(Clone, Debug)]
-pub struct Event {
-    bytes: Bytes,
-    /// Where the text begins and ends, and in it the name of the document.
-    text: (usize, usize),
-    name: (usize, usize),
-    /// Where the event ends, after which the mark is that was set with the change.
-    end: usize,
-}
-
-impl Event {
-    fn new(change: &Change, seq: u64, name: &str) -> Event {
-        let mut made = Vec::with_capacity(change.text.len() + name.len() + 120);
-        made.extend_from_slice(format!("id: {seq}-{name}").as_bytes());
-        made.extend_from_slice(AFTER_ID);
-        made.extend_from_slice(HEAD);
-        let begin = made.len();
-        made.extend_from_slice(&change.text);
-        let text = (begin, made.len());
-        if let Some((first, last)) = change.span {
-            made.extend_from_slice(format!(",\"first\":{first},\"last\":{last}").as_bytes());
-        }
-        made.extend_from_slice(format!(",\"seq\":{seq}}}\n\n").as_bytes());
-        let end = made.len();
-        change.mark.iter().for_each(|mark| made.extend(mark.text()));
-        Event { bytes: made.into(), text, name: name::place_in(&change.text), end }
-    }
-
-    /// The event, with the empty line after it.
-    pub fn bytes(&self) -> Bytes {
-        self.bytes.slice(..self.end)
-    }
-
-    /// The line `{"change":..,"seq":..}` with its LF. In a change of a transaction, `first` and `last` are between them.
-    pub fn line(&self) -> Bytes {
-        self.bytes.slice(self.text.0 - HEAD.len()..self.end - 1)
-    }
-
-    /// The line that makes the change again, and sets the mark that was set with it since the start.
-    pub fn command(&self) -> Vec<u8> {
-        let (text, mark) = (&self.bytes[self.text.0..self.text.1], &self.bytes[self.end..]);
-        if mark.is_empty() {
-            return [text, b"\n"].concat();
-        }
-        [b"{\"mark\":", mark, b",", &text[1..], b"\n"].concat()
-    }
-
-    /// The name of the document that is changed.
-    pub fn name(&self) -> &[u8] {
-        &self.bytes[self.text.0 + self.name.0..self.text.0 + self.name.1]
-    }
-
-    fn size(&self) -> usize {
-        self.bytes.len()
-    }
-}
+const MOST_CHANGES: usize = 1 << 16;
+const MOST_BYTES: usize = 1 << 24;
 
 /// The next changes of those that are wanted.
 #[derive(Debug, Default)]
@@ -127,17 +35,24 @@ pub struct Next {
 #[derive(Clone, Copy, Debug, PartialEq, Eq)]
 pub struct Gone(pub u64);
 
+/// What a follower begins with.
+#[derive(Debug, PartialEq, Eq)]
+pub struct Beginning {
+    /// The number after which the first change is told.
+    pub since: u64,
+    /// The text that names the history up to there.
+    pub history: String,
+    /// The number of the last change.
+    pub last: u64,
+}
+
 struct Kept {
-    /// The last one is sent to followers. Each start has its own, so that what was sent is known as such.
-    names: Vec<Name>,
+    naming: Naming,
     base: u64,
+    /// The text that names the history up to the base.
+    before: String,
     events: VecDeque<Event>,
     bytes: usize,
-    /// The last numbers of commits, after which no transaction goes on, and the one that was passed last.
-    ends: VecDeque<u64>,
-    passed: u64,
-    /// Up to this number it isn't known where a transaction goes on.
-    unknown: u64,
 }
 
 impl Kept {
@@ -145,16 +60,21 @@ impl Kept {
         self.base + self.events.len() as u64
     }
 
-    fn name(&self) -> &str {
-        self.names.last().map_or("", |name| &name.name)
+    /// The text that names the history up to a change, if that is known here.
+    fn name_at(&self, seq: u64) -> Option<&str> {
+        match seq.checked_sub(self.base)? {
+            0 => Some(&self.before),
+            place => self.events.get(place as usize - 1).map(Event::history),
+        }
     }
 
-    fn add(&mut self, change: &Change) {
-        let event = Event::new(change, self.last() + 1, self.name());
-        self.bytes += event.size();
-        self.events.push_back(event);
+    fn begin_after(&mut self, seq: u64) {
+        (self.base, self.bytes) = (seq, 0);
+        self.before = self.naming.of_number(seq);
+        self.events.clear();
     }
 
+    /// Drops the oldest if there are too many, up to the end of a transaction.
     fn trim(&mut self) {
         if self.events.len() <= MOST_CHANGES && self.bytes <= MOST_BYTES {
             return;
@@ -164,20 +84,11 @@ impl Kept {
             left -= self.events[drop].size();
             drop += 1;
         }
-        let drop = self.end_of_commit(self.base + drop as u64) - self.base;
-        for event in self.events.drain(..drop as usize) {
-            self.bytes -= event.size();
-        }
-        self.base += drop;
-    }
-
-    /// The greatest number up to this one after which no transaction goes on, as far as that is known.
-    fn end_of_commit(&mut self, seq: u64) -> u64 {
-        while let Some(end) = self.ends.front().copied().filter(|end| *end <= seq) {
-            self.passed = end;
-            self.ends.pop_front();
-        }
-        self.passed.max(seq.min(self.unknown))
+        let end = self.events.get(drop).map_or(self.last(), |first| first.span().0 - 1);
+        self.before = self.name_at(end).unwrap_or_default().to_owned();
+        let dropped = self.events.drain(..(end - self.base) as usize);
+        self.bytes -= dropped.map(|event| event.size()).sum::<usize>();
+        self.base = end;
     }
 }
 
@@ -187,31 +98,12 @@ pub struct History {
     news: watch::Sender<u64>,
 }
 
-/// A name that no other history has.
-fn new_name() -> std::io::Result<String> {
-    let mut random = [0; 16];
-    File::open("/dev/urandom")?.read_exact(&mut random)?;
-    Ok(random.iter().map(|byte| format!("{byte:02x}")).collect())
-}
-
 impl History {
-    /// A history with these changes after number `base`.
-    pub fn new(base: u64, changes: &[Change]) -> std::io::Result<History> {
-        let name = Name { name: new_name()?, begin: base };
-        let mut kept = Kept {
-            names: vec![name],
-            base,
-            events: VecDeque::new(),
-            bytes: 0,
-            ends: VecDeque::new(),
-            passed: 0,
-            unknown: base,
-        };
-        changes.iter().for_each(|change| kept.add(change));
-        kept.unknown = kept.last();
-        kept.trim();
-        let news = watch::channel(kept.last()).0;
-        Ok(History { kept: RwLock::new(kept), news })
+    /// That of a store that was opened, without any change yet.
+    pub fn new(opened: &Status) -> io::Result<History> {
+        let (naming, events) = (Naming::new(opened)?, VecDeque::new());
+        let kept = Kept { before: naming.of_number(0), naming, base: 0, events, bytes: 0 };
+        Ok(History { kept: RwLock::new(kept), news: watch::channel(0).0 })
     }
 
     fn kept(&self) -> RwLockReadGuard<'_, Kept> {
@@ -222,40 +114,27 @@ impl History {
         self.kept.write().unwrap_or_else(std::sync::PoisonError::into_inner)
     }
 
-    /// Tells this history from that of another store, and from that of this store before it was put back.
-    pub fn name(&self) -> String {
-        self.kept().name().to_owned()
-    }
-
-    /// The names, the last of which is `name`.
-    pub fn names(&self) -> Vec<Name> {
-        self.kept().names.clone()
-    }
-
-    /// The number before the first change that is kept.
-    pub fn base(&self) -> u64 {
-        self.kept().base
-    }
-
     /// The number of the last change.
     pub fn last(&self) -> u64 {
         self.kept().last()
     }
 
-    /// Whether all changes up to this one that were sent under a name are of this history.
-    pub fn has(&self, seq: u64, name: &str) -> bool {
-        let kept = self.kept();
-        let ends = kept.names.iter().skip(1).map(|name| name.begin).chain([kept.last()]);
-        kept.names.iter().zip(ends).any(|(known, end)| known.name == name && seq <= end)
+    /// The text that names the history up to a change, if that is kept.
+    pub fn name_at(&self, seq: u64) -> Option<String> {
+        self.kept().name_at(seq).map(str::to_owned)
     }
 
-    /// Goes on with the history that had these names; what was sent after number `until` may be of another.
-    pub fn follow(&self, names: &[Name], until: u64) {
-        let mut kept = self.kept_mut();
-        let own = Name { name: kept.name().to_owned(), begin: until };
-        let mut all: Vec<Name> = names.iter().filter(|name| name.begin <= until).cloned().chain([own]).collect();
-        all.drain(..all.len().saturating_sub(MOST_NAMES));
-        kept.names = all;
+    /// What a follower begins with that has all changes up to a number, or wants the next one; it may tell the text that
+    /// names the history up to there.
+    pub fn begin(&self, from: Option<u64>, theirs: Option<&str>) -> Result<Beginning, Gone> {
+        let kept = self.kept();
+        let last = kept.last();
+        let since = from.unwrap_or(last);
+        let ours = kept.name_at(since).ok_or(Gone(kept.base))?;
+        if theirs.map_or(false, |theirs| !kept.naming.agree(theirs, ours)) {
+            return Err(Gone(kept.base));
+        }
+        Ok(Beginning { since, history: ours.to_owned(), last })
     }
 
     /// The next changes after a number: at most so many bytes, but one if there is one.
@@ -290,26 +169,58 @@ impl History {
         Ok(some)
     }
 
-    /// Adds the changes of a commit. Those who wait are woken by `tell`.
-    pub fn add(&self, changes: &[Change]) {
-        let mut kept = self.kept_mut();
-        changes.iter().for_each(|change| kept.add(change));
-        if !changes.is_empty() {
-            let last = kept.last();
-            kept.ends.push_back(last);
+    /// The lines that make the transactions after a number again, each with the number of its last change: no more than one
+    /// group may have, and none after the one with which they have `most` bytes. A transaction ends with the number.
+    pub fn lines_after(&self, seq: u64, most: usize) -> Result<Vec<(u64, Vec<u8>)>, Gone> {
+        let kept = self.kept();
+        if seq < kept.base || seq > kept.last() {
+            return Err(Gone(kept.base));
         }
+        let (mut lines, mut size) = (Vec::new(), 0);
+        let mut rest = kept.events.range((seq - kept.base) as usize..).peekable();
+        while let Some((first, last)) = rest.peek().map(|event| event.span()) {
+            if size >= most || lines.len() >= MOST_LINES {
+                break;
+            }
+            let line = line_of(&rest.by_ref().take((last - first + 1) as usize).collect::<Vec<_>>());
+            size += line.len();
+            lines.push((last, line));
+        }
+        Ok(lines)
+    }
+
+    /// The events of these transactions, which come next.
+    pub fn events_of(&self, transactions: &[Transaction]) -> Vec<Event> {
+        let kept = self.kept();
+        let named = |each: &Transaction| Event::of(each, &kept.naming.of_transaction(each.text));
+        transactions.iter().flat_map(named).collect()
+    }
+
+    /// Adds the events of whole transactions, and wakes those who wait for further changes.
+    pub fn add(&self, events: Vec<Event>) {
+        let mut kept = self.kept_mut();
+        kept.bytes += events.iter().map(Event::size).sum::<usize>();
+        kept.events.extend(events);
         kept.trim();
+        self.tell(kept);
     }
 
-    /// Wakes those who wait for further changes.
-    pub fn tell(&self) {
-        let last = self.last();
+    /// Forgets all changes: the next one comes after this number. Those who follow learn that some are gone.
+    pub fn begin_after(&self, seq: u64) {
+        let mut kept = self.kept_mut();
+        kept.begin_after(seq);
+        self.tell(kept);
+    }
+
+    /// Goes on in another file of the store, which has the same changes.
+    pub fn go_on(&self, opened: &Status) {
+        self.kept_mut().naming.go_on(opened);
+    }
+
+    fn tell(&self, kept: RwLockWriteGuard<'_, Kept>) {
+        let last = kept.last();
+        drop(kept);
         self.news.send_replace(last);
-    }
-
-    /// The lines of the changes from the one after this number on.
-    pub fn lines_after(&self, seq: u64) -> Vec<Bytes> {
-        self.after(seq, usize::MAX).map_or_else(|_| Vec::new(), |events| events.iter().map(Event::line).collect())
     }
 
     /// Tells when there are further changes.
@@ -319,83 +230,4 @@ impl History {
 }
 
 #[cfg(test)]
-mod tests {
-    use super::{Change, Gone, History, Mark, Name, MOST_CHANGES};
-    use std::collections::HashSet;
-
-    fn alone(text: &str) -> Change {
-        Change::alone(text.as_bytes().to_vec())
-    }
-
-    #[test]
-    fn an_event_has_its_line() {
-        let history = History::new(4, &[alone("{\"a\":1}")]).unwrap();
-        let event = history.after(4, 1).unwrap().remove(0);
-        assert_eq!(&event.line()[..], b"{\"change\":{\"a\":1},\"seq\":5}\n");
-        let whole = format!("id: 5-{}\ndata: {{\"change\":{{\"a\":1}},\"seq\":5}}\n\n", history.name());
-        assert_eq!(event.bytes(), whole.as_bytes());
-        assert_eq!(event.command(), b"{\"a\":1}\n");
-        assert_eq!(history.after(3, 1).unwrap_err(), Gone(4));
-        assert_eq!(history.after(6, 1).unwrap_err(), Gone(4));
-        assert!(history.after(5, 1).unwrap().is_empty());
-    }
-
-    #[test]
-    fn a_mark_is_no_part_of_the_event() {
-        let mut line = serde_json::json!({"a": 1, "mark": {"key": "k", "value": "v"}});
-        let mark = Mark::taken_out(&mut line);
-        let history = History::new(4, &[Change { mark, ..alone("{\"a\":1}") }]).unwrap();
-        let event = history.after(4, 1).unwrap().remove(0);
-        assert_eq!(&event.line()[..], b"{\"change\":{\"a\":1},\"seq\":5}\n");
-        assert!(event.bytes().ends_with(b"\"seq\":5}\n\n"));
-        assert_eq!(event.command(), b"{\"mark\":{\"key\":\"k\",\"value\":\"v\"},\"a\":1}\n");
-    }
-
-    #[test]
-    fn the_changes_of_some_documents_are_found() {
-        let history = History::new(0, &[]).unwrap();
-        for name in ["a", "b", "ab", "b"] {
-            history.add(&[alone(&format!("{{\"cmd\":\"delete\",\"name\":\"{name}\"}}"))]);
-        }
-        let found = |seq: u64, most: usize, looks: usize, name: &[u8]| {
-            let next = history.wanted_after(seq, most, looks, |event| event.name() == name).unwrap();
-            (next.events.len(), next.last, next.until)
-        };
-        assert_eq!(found(0, 1000, 1000, b"b"), (2, 4, 4));
-        assert_eq!(found(0, 1, 1000, b"b"), (1, 2, 3));
-        assert_eq!(found(0, 1000, 3, b"b"), (1, 2, 3));
-        assert_eq!(found(2, 1000, 1000, b"a"), (0, 0, 4));
-    }
-
-    #[test]
-    fn a_change_of_a_transaction_tells_its_first_and_last_number() {
-        let history = History::new(0, &[]).unwrap();
-        history.add(&[Change { span: Some((1, 2)), ..alone("{}") }, Change { span: Some((1, 2)), ..alone("{}") }]);
-        let event = history.after(1, 1).unwrap().remove(0);
-        assert_eq!(&event.line()[..], b"{\"change\":{},\"first\":1,\"last\":2,\"seq\":2}\n");
-        assert_eq!(event.command(), b"{}\n");
-    }
-
-    #[test]
-    fn it_is_cut_between_commits_alone() {
-        let history = History::new(0, &[]).unwrap();
-        let mut ends = HashSet::from([0]);
-        for size in [7, 1000, 1024, 3] {
-            for _ in 0..70_000 / size {
-                history.add(&vec![alone("1"); size]);
-                ends.insert(history.last());
-                assert!(ends.contains(&history.base()) && history.last() - history.base() <= MOST_CHANGES as u64);
-            }
-            assert!(history.last() - history.base() >= 49152);
-        }
-        assert_eq!(History::new(0, &vec![alone("1"); 70_000]).unwrap().base(), 70_000 - 49152);
-    }
-
-    #[test]
-    fn a_name_is_that_of_the_changes_which_were_sent_under_it() {
-        let history = History::new(2, &[alone("1"), alone("2")]).unwrap();
-        history.follow(&[Name { name: "old".to_owned(), begin: 2 }, Name { name: "lost".to_owned(), begin: 9 }], 3);
-        assert!(history.has(3, "old") && !history.has(4, "old") && !history.has(2, "lost"));
-        assert!(history.has(4, &history.name()) && !history.has(5, &history.name()));
-    }
-}
+mod tests;

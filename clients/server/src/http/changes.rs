@@ -5,8 +5,8 @@ use super::problem::Problem;
 use super::response::{Body, Response};
 use super::target::parameters;
 use crate::history::name::name_in;
-use crate::history::{Gone, History, HEAD};
-use crate::json::quoted;
+use crate::history::{Beginning, Gone, History, HEAD};
+use crate::json::{members_in, quoted};
 use crate::lines::replies::is_name;
 use crate::other::LineStream;
 use crate::program::room::Taken;
@@ -154,12 +154,11 @@ impl Events {
         let (source, since, name) = match &store.which {
             Which::Own(handle) => {
                 let history = handle.history.clone();
-                let (news, own) = (history.news(), history.name());
-                let since = since.unwrap_or_else(|| history.last());
-                if !history.has(since, name.as_deref().unwrap_or(&own)) || since < history.base() {
-                    return Err(gone(since, history.base()));
-                }
-                (Source::Own { history, news, since }, since, own)
+                let news = history.news();
+                let begun = history.begin(since, name.as_deref());
+                let Beginning { since, history: name, .. } =
+                    begun.map_err(|Gone(from)| gone(since.unwrap_or(from), from))?;
+                (Source::Own { history, news, since }, since, name)
             }
             Which::Other(other) => {
                 let mut followed = Followed { path: other.path.clone(), since, name, stream: None };
@@ -210,7 +209,7 @@ async fn own_events(
 ) -> Result<Option<Bytes>, Gone> {
     loop {
         let last = *news.borrow_and_update();
-        let next = history.wanted_after(*since, PIECE, LOOKS, |event| wanted.has(event.name()))?;
+        let next = history.wanted_after(*since, PIECE, LOOKS, |event| wanted.has(event.name().as_bytes()))?;
         *since = next.until;
         match &next.events[..] {
             [] if *since < last && told.at.elapsed() < LAG => tokio::task::yield_now().await,
@@ -218,7 +217,10 @@ async fn own_events(
                 biased;
                 () = told.is_late(*since) => {
                     *told = Told::now(*since);
-                    return Ok(Some(number_alone(*since, &history.name())));
+                    // If it is gone by now, the next look finds that.
+                    if let Some(name) = history.name_at(*since) {
+                        return Ok(Some(number_alone(*since, &name)));
+                    }
                 }
                 changed = news.changed() => if changed.is_err() {
                     return Ok(None);
@@ -308,14 +310,28 @@ impl Followed {
     fn told(&mut self, line: &Bytes) -> Bytes {
         let seq = self.since.map_or(0, |since| since + 1);
         self.since = Some(seq);
+        self.name = history_in(line).or_else(|| self.name.take());
         let head = format!("id: {seq}-{}\ndata: ", self.name.as_deref().unwrap_or_default());
         [head.as_bytes(), line, b"\n"].concat().into()
     }
 }
 
+/// The text in a line of a change that names the history up to there.
+fn history_in(line: &[u8]) -> Option<String> {
+    serde_json::from_str(members_in(line)?.get("history")?.get()).ok()
+}
+
 #[cfg(test)]
 mod tests {
-    use super::Wanted;
+    use super::{history_in, Wanted};
+
+    #[test]
+    fn the_history_is_that_of_the_line_and_of_no_document() {
+        let line =
+            br#"{"change":{"cmd":"create","doc":{"history":"x"},"name":"d","schema":true},"history":"a.1.b","seq":3}"#;
+        assert_eq!(history_in(line).as_deref(), Some("a.1.b"));
+        assert_eq!(history_in(br#"{"change":{"history":"x"},"seq":3}"#), None);
+    }
 
     #[test]
     fn documents_are_wanted_by_their_names() {

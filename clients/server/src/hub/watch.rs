@@ -1,8 +1,7 @@
 //! The answer to `watch`: each change after a number, and each further one when it is made.
 
 use super::client::Client;
-use crate::history::{Event, Gone, History};
-use crate::json::quoted;
+use crate::history::{Beginning, Event, Gone, History};
 use crate::lines::replies::{gone, refusal};
 use crate::refusals::WATCHING;
 use std::io;
@@ -25,16 +24,14 @@ pub(super) async fn tell(
     name: Option<String>,
 ) -> io::Result<()> {
     let mut news = history.news();
-    let mut since = from.unwrap_or_else(|| history.last());
-    let own = history.name();
-    if !history.has(since, name.as_deref().unwrap_or(&own)) {
-        return client.write(&gone(history.base())).await;
-    }
-    if since >= history.base() {
-        let (last, name) = (history.last(), quoted(&own));
-        let begin = format!("{{\"from\":{since},\"history\":{name},\"ok\":true,\"seq\":{last}}}\n");
-        client.write(begin.as_bytes()).await?;
-    }
+    let mut since = match history.begin(from, name.as_deref()) {
+        Ok(Beginning { since, history, last }) => {
+            let begin = format!("{{\"from\":{since},\"history\":\"{history}\",\"ok\":true,\"seq\":{last}}}\n");
+            client.write(begin.as_bytes()).await?;
+            since
+        }
+        Err(Gone(from)) => return client.write(&gone(from)).await,
+    };
     loop {
         news.borrow_and_update();
         let events = match history.after(since, PIECE) {

@@ -1,7 +1,6 @@
 //! The kinds of lines, which decide in which part of a round a line is done.
 
-use super::MOST_CHANGES;
-use crate::json::compact;
+use crate::json::{compact, members_in};
 use memchr::memmem;
 use serde_json::value::RawValue;
 use std::collections::BTreeMap;
@@ -60,11 +59,6 @@ pub fn kind_of(line: &[u8]) -> Kind {
     word.map_or(Kind::Question, |word| kind_of_word(word.as_bytes()))
 }
 
-/// The members of an object, as texts: values would take a hundred times the memory of a long line.
-fn members_in(text: &[u8]) -> Option<BTreeMap<String, &RawValue>> {
-    serde_json::from_slice(text).ok()
-}
-
 fn text_of(members: &BTreeMap<String, &RawValue>, name: &str) -> Option<String> {
     serde_json::from_str(members.get(name)?.get()).ok()
 }
@@ -95,19 +89,6 @@ fn plain_word(line: &[u8]) -> Option<&[u8]> {
     Some(&word[..memchr::memchr(b'"', word)?])
 }
 
-/// How many changes a line has at most. Each change of a transaction is an object in that of the line.
-pub fn most_changes(line: &[u8]) -> usize {
-    if is_plain(line) {
-        return 1;
-    }
-    memchr::memchr_iter(b'{', line).count().saturating_sub(1).clamp(1, MOST_CHANGES)
-}
-
-/// Whether a line may set a mark with its changes.
-pub fn may_have_mark(line: &[u8]) -> bool {
-    memmem::find(line, b"\"mark\"").is_some() || memchr::memchr(b'\\', line).is_some()
-}
-
 /// The command of the server's own that a line is. The program refuses what only looks like one.
 pub fn own_command(line: &[u8]) -> Option<Own> {
     let made = compact(line).ok()?;
@@ -129,7 +110,7 @@ pub fn own_command(line: &[u8]) -> Option<Own> {
 
 #[cfg(test)]
 mod tests {
-    use super::{kind_of, most_changes, own_command, Kind, Own};
+    use super::{kind_of, own_command, Kind, Own};
     use serde_json::{json, Value};
 
     #[test]
@@ -212,21 +193,6 @@ mod tests {
             }
         }
         assert!(seen.iter().all(|count| *count > 100), "{seen:?}");
-    }
-
-    #[test]
-    fn changes_are_not_counted_too_low() {
-        assert_eq!(most_changes(br#"{"cmd":"create","doc":{"a":{}},"name":"d","schema":{}}"#), 1);
-        let two = br#"{"changes":[{"cmd":"delete","name":"a"},{"cmd":"delete","name":"b"}],"cmd":"transaction"}"#;
-        assert_eq!(most_changes(two), 2);
-        assert_eq!(most_changes("{\\".repeat(5000).as_bytes()), 1024);
-        for change in [r#"{"cmd":"create","doc":{"cmd":["{\"\\"]},"name":"d"}"#, r#"{"c\u006dd":"delete","name":"d"}"#]
-        {
-            for count in [1, 2, 1000, 1024] {
-                let line = format!("{{\"changes\":[{}],\"cmd\":\"transaction\"}}", vec![change; count].join(","));
-                assert!((count..=1024).contains(&most_changes(line.as_bytes())), "{count} of {change}");
-            }
-        }
     }
 
     #[test]

@@ -3,6 +3,7 @@
 pub mod framing;
 pub mod kinds;
 pub mod replies;
+pub mod transactions;
 
 use bytes::Bytes;
 
@@ -15,14 +16,11 @@ pub const MOST_CHANGES: usize = 1024;
 /// A line with its LF. One without any byte stands for a line that is too long.
 pub type Line = Bytes;
 
-/// The line that asks for the status, and ends a group of changes.
+/// The line that asks for the status.
 pub const STATUS: &[u8] = b"{\"cmd\":\"status\"}\n";
 
 /// The line that asks for the names.
 pub const LIST: &[u8] = b"{\"cmd\":\"list\"}\n";
-
-/// The line that makes a snapshot.
-pub const SNAPSHOT: &[u8] = b"{\"cmd\":\"snapshot\"}\n";
 
 /// The line that makes all slots of a store in format 3 hold what was committed last. In the others it does nothing.
 pub const SEAL: &[u8] = b"{\"cmd\":\"seal\"}\n";

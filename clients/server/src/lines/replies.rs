@@ -113,11 +113,6 @@ pub fn query(name: &str, path: &str) -> String {
     format!("{{\"cmd\":\"query\",\"name\":{},\"path\":{}}}\n", quoted(name), quoted(path))
 }
 
-/// The line that makes a step of a copied snapshot.
-pub fn pump(most: u64) -> String {
-    format!("{{\"cmd\":\"pump\",\"max\":{most}}}\n")
-}
-
 /// The names in the reply to `list`.
 pub fn names_in(reply: &[u8]) -> Option<Vec<String>> {
     let value: serde_json::Value = serde_json::from_slice(reply).ok()?;

@@ -75,9 +75,14 @@ impl Cache {
     }
 
     /// The names of those of these documents, which have changed, whose copies were read. Other copies go.
-    pub fn changed(&self, names: impl Iterator<Item = String>) -> Vec<String> {
+    pub fn changed<'n>(&self, names: impl Iterator<Item = &'n str>) -> Vec<String> {
         let mut copies = self.copies.write().unwrap_or_else(std::sync::PoisonError::into_inner);
-        names.filter(|name| copies.was_read(name)).collect()
+        names.filter(|name| copies.was_read(name)).map(str::to_owned).collect()
+    }
+
+    /// Takes all copies away.
+    pub fn clear(&self) {
+        *self.copies.write().unwrap_or_else(std::sync::PoisonError::into_inner) = Copies::default();
     }
 
     /// Takes the copy of a document away.
@@ -117,11 +122,15 @@ mod tests {
         cache.put("a", document(1, 10));
         cache.put("b", document(2, 10));
         assert_eq!(cache.get("a").unwrap().rev, 1);
-        let names = ["a", "b", "c"].map(str::to_owned);
-        assert_eq!(cache.changed(names.into_iter()), ["a"]);
+        assert_eq!(cache.changed(["a", "b", "c"].into_iter()), ["a"]);
         assert!(cache.get("a").is_some() && cache.get("b").is_none());
         cache.remove("a");
         assert!(cache.get("a").is_none());
+        cache.put("d", document(3, 10));
+        cache.clear();
+        assert!(cache.get("d").is_none());
+        (0..100).for_each(|number| cache.put(&number.to_string(), document(number, 0)));
+        assert_eq!((0..100).filter(|number| cache.get(&number.to_string()).is_some()).count(), 10_000 / BESIDE);
     }
 
     #[test]

@@ -11,14 +11,13 @@ use super::handle::{Handle, Message};
 use super::job::{send, Job, Pending};
 use super::start::Program;
 use crate::error::Error;
-use crate::history::file::Recorder;
 use crate::history::History;
-use crate::lines::replies::{is_failure, Status};
-use crate::lines::{SEAL, STATUS};
+use crate::lines::replies::is_failure;
+use crate::lines::transactions::{changes_after, Told};
+use crate::lines::SEAL;
 use bytes::Bytes;
 use std::collections::VecDeque;
 use std::io;
-use std::path::Path;
 use std::sync::Arc;
 use tokio::sync::mpsc::{unbounded_channel, UnboundedReceiver};
 use tokio::sync::watch;
@@ -31,66 +30,61 @@ const ROUND_BYTES: usize = 1 << 22;
 /// How long no line comes after a change before the store is sealed.
 pub(super) const REST: Duration = Duration::from_secs(1);
 
-/// How often a status is asked for if the program is out of memory.
-const TRIES: usize = 5;
-
 /// The program with what is known of its store.
 pub struct Engine {
     pub(super) program: Program,
-    pub(super) status: Status,
     pub(super) history: Arc<History>,
-    pub(super) recorder: Recorder,
     pub(super) cache: Arc<Cache>,
     queue: UnboundedReceiver<Message>,
     pub(super) waiting: VecDeque<Job>,
     exports: VecDeque<Wanted>,
     turns: VecDeque<Turn>,
     growths: Growths,
-    pub(super) pump: u64,
-    /// How many bytes were used when a snapshot was last made, or tried.
-    pub(super) tried: Option<u64>,
-    pub(super) copying: bool,
     pub(super) broken: bool,
     /// When the store is to be sealed, if it was changed since it was.
     pub(super) seal_at: Option<Instant>,
 }
 
 impl Engine {
-    /// The engine over a program that has opened a store, and the way to it.
-    pub async fn begin(
-        mut program: Program,
-        history: History,
-        recorder: Recorder,
-        cache: Cache,
-        pump: u64,
-    ) -> Result<(Engine, Handle), Error> {
-        let first = program.pipes.exchange(STATUS, 1).await;
-        let status = match first.as_ref().ok().and_then(|replies| Status::of(&replies[0])) {
-            Some(status) => status,
-            None => return Err(Error::new(program.ended().await.to_string())),
-        };
+    /// The engine over a program that has opened a store, with the changes that it knows, and the way to it.
+    pub async fn begin(program: Program, cache: Cache) -> Result<(Engine, Handle), Error> {
+        let history = History::new(&program.opened).map_err(|error| Error::of_path("/dev/urandom", error))?;
         let (messages, queue) = unbounded_channel();
         let (history, cache) = (Arc::new(history), Arc::new(cache));
-        let growths = Growths::of(program.store.clone(), program.path.clone(), messages.clone());
+        let growths = Growths::of(&program, messages.clone());
         let handle = Handle { messages, cache: cache.clone(), history: history.clone() };
-        let engine = Engine {
+        let mut engine = Engine {
             program,
-            status,
             history,
-            recorder,
             cache,
             queue,
             waiting: VecDeque::new(),
             exports: VecDeque::new(),
             turns: VecDeque::new(),
             growths,
-            pump,
-            tried: None,
-            copying: false,
             broken: false,
             seal_at: None,
         };
-        Ok((engine, handle))
+        match engine.take_known().await {
+            Ok(()) => Ok((engine, handle)),
+            Err(error) if error.kind() == io::ErrorKind::InvalidData => Err(Error::new(error.to_string())),
+            Err(_) => Err(Error::new(engine.program.ended().await.to_string())),
+        }
+    }
+
+    /// Takes the changes that the program knows when it has opened the store.
+    async fn take_known(&mut self) -> io::Result<()> {
+        let first = self.exchange(changes_after(0).as_bytes(), 1).await?.swap_remove(0);
+        match Told::of(&first, 0) {
+            Some(Told::Gone { from, .. }) => {
+                self.history.begin_after(from);
+                self.clients_lines(Vec::new(), 0).await?;
+            }
+            _ => self.take_changes(first).await?,
+        }
+        // What was known before needs no seal.
+        self.seal_at = None;
+        Ok(())
     }
 
     /// Does round after round until it is stopped; an error if the program ends by itself, or the device fails.
@@ -195,34 +189,11 @@ impl Engine {
             };
             let all = if pending.is_full() { Vec::new() } else { std::mem::take(&mut pending.job.lines.snapshots) };
             for line in all {
-                let reply = self.snapshot(&line).await?;
-                pending.add_done(&reply);
+                let replies = self.clients_lines(line.to_vec(), 1).await?;
+                replies.iter().for_each(|reply| pending.add_done(reply));
             }
             send(pending);
         }
-        Ok(())
-    }
-
-    /// Checks that this is the number of the last of this many changes after those of the history.
-    pub(super) fn check_number(&self, number: u64, count: usize) -> io::Result<()> {
-        let last = self.history.last();
-        if number == last + count as u64 {
-            return Ok(());
-        }
-        let told = format!("the program answered {number} for change {count} after {last}");
-        Err(io::Error::new(io::ErrorKind::InvalidData, told))
-    }
-
-    pub(super) async fn take_status(&mut self, reply: Option<Bytes>) -> io::Result<()> {
-        let mut status = reply.as_deref().and_then(Status::of);
-        for _ in 0..TRIES {
-            if status.is_some() {
-                break;
-            }
-            status = Status::of(&self.exchange(STATUS, 1).await?[0]);
-        }
-        let told = format!("the program refused {TRIES} times to tell its status");
-        self.status = status.ok_or_else(|| io::Error::new(io::ErrorKind::InvalidData, told))?;
         Ok(())
     }
 
@@ -233,19 +204,6 @@ impl Engine {
         Ok(replies)
     }
 
-    /// The reply to a line that makes a snapshot, or a step of one.
-    pub(super) async fn snapshot(&mut self, line: &[u8]) -> io::Result<Bytes> {
-        self.recorder.leave(&self.status);
-        let mut replies = self.exchange(&[line, STATUS].concat(), 2).await?;
-        let status = replies.pop();
-        let reply = replies.pop().unwrap_or_default();
-        self.copying = memchr::memmem::find(&reply, b"\"copy\":\"running\"").is_some();
-        self.take_status(status).await?;
-        self.check_number(self.status.seq, 0)?;
-        self.recorder.record(&self.history, &[], &self.status);
-        Ok(reply)
-    }
-
     /// Has the program seal what was changed. Nobody waits for it.
     async fn seal(&mut self) -> io::Result<()> {
         self.seal_at = None;
@@ -253,15 +211,9 @@ impl Engine {
         Ok(())
     }
 
-    /// Notes, for a server after a kill, that another file is about to take the place of the store's.
-    pub(super) fn announce(&mut self, path: &Path, inode: u64, status: &Status) {
-        self.recorder.announce(path, inode, status);
-    }
-
     /// Goes on with the program of another file, which has taken the place of the store's; the program of the other.
-    pub(super) fn go_on(&mut self, program: Program, inode: u64, status: Status) -> Program {
-        (self.status, self.tried, self.copying) = (status, None, false);
-        self.recorder.go_on(&self.history, inode, &status);
+    pub(super) fn go_on(&mut self, program: Program) -> Program {
+        self.history.go_on(&program.opened);
         std::mem::replace(&mut self.program, program)
     }
 }

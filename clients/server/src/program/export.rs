@@ -3,8 +3,8 @@
 use super::engine::Engine;
 use super::room::Room;
 use super::spool::Spool;
-use crate::lines::replies::{self, names_in, rev_in, text_in, Status, OK};
-use crate::lines::{LIST, STATUS};
+use crate::lines::replies::{self, names_in, rev_in, text_in, OK};
+use crate::lines::LIST;
 use crate::say;
 use bytes::Bytes;
 use std::io;
@@ -38,11 +38,10 @@ pub async fn export(engine: &mut Engine, wanted: Wanted) -> io::Result<()> {
 
 /// Writes the answer: the outer error is that of the program, the inner one that of the file.
 async fn read(engine: &mut Engine, wanted: &Wanted, spool: &mut Spool) -> io::Result<io::Result<()>> {
-    let told = engine.exchange(&[LIST, STATUS].concat(), 2).await?;
-    let (names, seq) = match (names_in(&told[0]), Status::of(&told[1])) {
-        (Some(names), Some(status)) => (names, status.seq),
-        (None, _) => return Ok(spool.write(&told[0])),
-        (_, None) => return Ok(spool.write(&told[1])),
+    let told = engine.exchange(LIST, 1).await?;
+    let (names, seq) = match names_in(&told[0]) {
+        Some(names) => (names, engine.history.last()),
+        None => return Ok(spool.write(&told[0])),
     };
     let names: Vec<String> = names.into_iter().filter(|name| name.starts_with(&wanted.prefix)).collect();
     let mut written = spool.write(format!("{{\"documents\":{},\"ok\":true,\"seq\":{seq}}}\n", names.len()).as_bytes());

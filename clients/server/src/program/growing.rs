@@ -11,7 +11,7 @@ use super::start::{self, Program};
 use crate::error::Error;
 use crate::history::History;
 use crate::lines::replies::{names_in, not_grown, rev, seq_in, Status};
-use crate::lines::{LIST, MOST_CHANGES, STATUS};
+use crate::lines::{LIST, STATUS};
 use crate::say;
 use bytes::Bytes;
 use std::io;
@@ -74,6 +74,10 @@ fn refused(told: impl Into<String>) -> Stuck {
     Stuck::Fault(Fault::Refused(told.into()))
 }
 
+fn shown(reply: &[u8]) -> std::borrow::Cow<'_, str> {
+    String::from_utf8_lossy(reply.strip_suffix(b"\n").unwrap_or(reply))
+}
+
 /// What is done of a growth between two rounds.
 #[derive(Clone, Copy)]
 enum Step {
@@ -95,7 +99,7 @@ impl Turn {
     pub async fn take(self, engine: &mut Engine) -> io::Result<()> {
         let mut growing = self.growing.lock().await;
         let done = match self.step {
-            Step::Take => growing.take().map(|()| Bytes::new()),
+            Step::Take => growing.take(engine).await.map(|()| Bytes::new()),
             Step::Finish => growing.finish(engine).await,
             Step::AtOnce => growing.at_once(engine).await,
         };
@@ -115,6 +119,7 @@ impl Turn {
 pub struct Growths {
     file: PathBuf,
     program: PathBuf,
+    pump: u64,
     messages: UnboundedSender<Message>,
     one: Arc<Mutex<()>>,
     stop: watch::Sender<bool>,
@@ -122,9 +127,10 @@ pub struct Growths {
 }
 
 impl Growths {
-    /// Those of the store in a file, whose copies are made by this program.
-    pub fn of(file: PathBuf, program: PathBuf, messages: UnboundedSender<Message>) -> Growths {
-        Growths { file, program, messages, one: Arc::default(), stop: watch::channel(false).0, task: None }
+    /// Those of the store that this program serves.
+    pub fn of(serving: &Program, messages: UnboundedSender<Message>) -> Growths {
+        let (file, program, stop) = (serving.store.clone(), serving.path.clone(), watch::channel(false).0);
+        Growths { file, program, pump: serving.pump, messages, one: Arc::default(), stop, task: None }
     }
 
     /// Begins a growth beside the rounds, unless there is one.
@@ -132,9 +138,8 @@ impl Growths {
         let Wanted { sectors, reply } = wanted;
         let begun = self.one.clone().try_lock_owned().map_err(|_| "it grows already".to_owned()).and_then(|alone| {
             let larger = Larger::beside(&self.file, sectors).map_err(|error| error.to_string())?;
-            let program = self.program.clone();
-            let stop = self.stop.subscribe();
-            Ok((alone, Growing { larger, program, serving: None, seq: 0, history, stop }))
+            let (program, pump, stop) = (self.program.clone(), self.pump, self.stop.subscribe());
+            Ok((alone, Growing { larger, program, pump, serving: None, seq: 0, history, stop }))
         });
         match begun {
             Ok((alone, growing)) => {
@@ -216,6 +221,7 @@ async fn turn(growing: &Arc<Mutex<Growing>>, messages: &UnboundedSender<Message>
 struct Growing {
     larger: Larger,
     program: PathBuf,
+    pump: u64,
     /// The program that serves the larger file; after the change the other's.
     serving: Option<Program>,
     /// The last change that the larger file has.
@@ -225,15 +231,18 @@ struct Growing {
 }
 
 impl Growing {
-    fn take(&mut self) -> Result<(), Stuck> {
-        self.seq = self.larger.take()?;
+    async fn take(&mut self, engine: &mut Engine) -> Result<(), Stuck> {
+        let told = engine.exchange(STATUS, 1).await?.swap_remove(0);
+        let status = Status::of(&told).ok_or_else(|| refused(format!("the store answered {}", shown(&told))))?;
+        self.larger.take(&status)?;
+        self.seq = status.seq;
         Ok(())
     }
 
     /// Makes the larger file of the copy, and has it served.
     async fn make(&mut self) -> Result<(), Stuck> {
         self.larger.copy(&self.program, &mut self.stop).await?;
-        self.serving = Some(start::start(&self.program, &self.larger.path(), Duration::ZERO).await?);
+        self.serving = Some(start::start(&self.program, &self.larger.path(), self.pump, Duration::ZERO).await?);
         Ok(())
     }
 
@@ -251,19 +260,16 @@ impl Growing {
 
     async fn catch_up(&mut self, last: u64) -> Result<(), Stuck> {
         while self.seq < last {
-            let mut events = self.history.after(self.seq, PIECE).map_err(|_| Stuck::Behind)?;
-            events.truncate(MOST_CHANGES);
-            let mut lines = Vec::new();
-            events.iter().for_each(|event| lines.extend(event.command()));
-            lines.extend_from_slice(STATUS);
-            let replies = self.exchange(&lines, events.len() + 1).await?;
-            for (seq, reply) in (self.seq + 1..).zip(&replies[..events.len()]) {
-                if seq_in(reply) != Some(seq) {
-                    let told = String::from_utf8_lossy(reply);
-                    return Err(refused(format!("the larger file answered {} to change {seq}", told.trim_end())));
+            let lines = self.history.lines_after(self.seq, PIECE).map_err(|_| Stuck::Behind)?;
+            let mut input: Vec<u8> = lines.iter().flat_map(|(_, line)| line.iter().copied()).collect();
+            input.extend_from_slice(STATUS);
+            let replies = self.exchange(&input, lines.len() + 1).await?;
+            for ((seq, _), reply) in lines.iter().zip(&replies) {
+                if seq_in(reply) != Some(*seq) {
+                    return Err(refused(format!("the larger file answered {} to change {seq}", shown(reply))));
                 }
+                self.seq = *seq;
             }
-            self.seq += events.len() as u64;
         }
         Ok(())
     }
@@ -271,24 +277,22 @@ impl Growing {
     /// Makes the last changes, and goes on with the larger file, while all others wait.
     async fn finish(&mut self, engine: &mut Engine) -> Result<Bytes, Stuck> {
         self.catch_up(self.history.last()).await?;
-        let status = self.compare(engine).await?;
-        let inode = self.larger.inode()?;
-        engine.announce(&self.larger.path(), inode, &status);
+        self.compare(engine).await?;
         self.larger.replace()?;
         if let Some(serving) = self.serving.take() {
-            self.serving = Some(engine.go_on(serving, inode, status));
+            self.serving = Some(engine.go_on(serving));
         }
         Ok(engine.exchange(STATUS, 1).await?.swap_remove(0))
     }
 
     async fn at_once(&mut self, engine: &mut Engine) -> Result<Bytes, Stuck> {
-        self.take()?;
+        self.take(engine).await?;
         self.make().await?;
         self.finish(engine).await
     }
 
-    /// The status of the larger file, which has the same documents at the same revisions.
-    async fn compare(&mut self, engine: &mut Engine) -> Result<Status, Stuck> {
+    /// Checks that the larger file has the same documents at the same revisions.
+    async fn compare(&mut self, engine: &mut Engine) -> Result<(), Stuck> {
         let lines = [LIST, STATUS].concat();
         let (here, there) = (engine.exchange(&lines, 2).await?, self.exchange(&lines, 2).await?);
         let names = names_in(&here[0]).unwrap_or_default();
@@ -299,7 +303,7 @@ impl Growing {
             (Some(ours), Some(theirs))
                 if here[0] == there[0] && same_revs && (ours.seq, ours.documents) == (theirs.seq, theirs.documents) =>
             {
-                Ok(theirs)
+                Ok(())
             }
             _ => Err(refused("the larger file has other documents than the store")),
         }

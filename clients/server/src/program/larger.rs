@@ -5,7 +5,7 @@
 
 use super::start::said_by;
 use crate::error::{system_words, Error};
-use crate::history::file::{Committed, SECTOR};
+use crate::lines::replies::Status;
 use std::fs::{self, DirBuilder, File, OpenOptions, Permissions};
 use std::io::{self, Read};
 use std::os::unix::ffi::OsStrExt;
@@ -15,6 +15,10 @@ use std::path::{Path, PathBuf};
 use std::process::Stdio;
 use tokio::process::Command;
 use tokio::sync::watch;
+
+/// The bytes of a sector.
+const SECTOR: u64 = 512;
+const PIECE: u64 = 1 << 20;
 
 /// The folder is called as the store's file, with this and what makes the name its own.
 const FOLDER: &str = ".growing-";
@@ -42,11 +46,10 @@ pub struct Larger {
     old: File,
     folder: PathBuf,
     sectors: u64,
-    format: u64,
-    /// The identity of the store, in hexadecimal; format 2 has none.
-    identity: String,
+    /// The identity of a store of format 3; format 2 has none.
+    identity: Option<u128>,
     /// How many bytes at the beginning of the other file say what is committed.
-    head: usize,
+    head: u64,
 }
 
 impl Larger {
@@ -59,7 +62,7 @@ impl Larger {
         check(&file, &old, sectors)?;
         remove_leftovers(&file);
         let folder = new_folder(&file).map_err(told)?;
-        Ok(Larger { file, old, folder, sectors, format: 0, identity: String::new(), head: 0 })
+        Ok(Larger { file, old, folder, sectors, identity: None, head: 0 })
     }
 
     /// The larger file, until it has the other's name.
@@ -71,24 +74,18 @@ impl Larger {
         self.folder.join(NAMES[0])
     }
 
-    /// The larger file, as the system numbers it.
-    pub fn inode(&self) -> Result<u64, Error> {
-        fs::metadata(self.path()).map(|found| found.ino()).map_err(|error| Error::of_path(self.path(), error))
-    }
-
-    /// Copies what the store has now, while nobody writes it; the number of its last change.
-    pub fn take(&mut self) -> Result<u64, Error> {
-        let old = self.old.try_clone().map_err(|error| Error::of_path(&self.file, error))?;
-        let found = Committed::in_file(old, &self.file)?;
-        (self.format, self.head) = (found.format, found.head.len());
-        self.identity = found.identity.iter().map(|byte| format!("{byte:02x}")).collect();
+    /// Copies what the store, which has this status, has now, while nobody writes it.
+    pub fn take(&mut self, status: &Status) -> Result<(), Error> {
+        let (head, begin) = begins_of(status);
+        (self.identity, self.head) = (status.identity, head);
         let base = self.base();
         let told = |error| Error::of_path(&base, error);
         remove_if_there(&base).map_err(told)?;
         let made = OpenOptions::new().write(true).create_new(true).mode(0o600).open(&base).map_err(told)?;
         give_rights(&self.old, &made).map_err(told)?;
-        fill(&made, &found, &base)?;
-        Ok(found.seq)
+        made.set_len(status.sectors * SECTOR).map_err(told)?;
+        copy_bytes(&self.old, &made, 0, head).map_err(told)?;
+        copy_bytes(&self.old, &made, begin, begin + status.used).map_err(told)
     }
 
     /// Makes the larger file of that, in the same format, unless it is stopped. It is the same store, so it keeps its
@@ -98,8 +95,8 @@ impl Larger {
         let (from, to, sectors) = (self.base(), self.path(), self.sectors.to_string());
         let mut made = Command::new(program);
         made.arg("copy").arg(&from).arg(&to).args(["--sectors", &sectors, "--why"]);
-        if self.format > 2 {
-            made.args(["--format", &self.format.to_string(), "--id", &self.identity]);
+        if let Some(identity) = self.identity {
+            made.args(["--format", "3", "--id", &format!("{identity:032x}")]);
         }
         run(made, stop).await?;
         fs::remove_file(&from).map_err(|error| Error::of_path(&from, error))
@@ -119,7 +116,7 @@ impl Larger {
             return Err(Fault::Unsettled(told));
         }
         // If that fails, the other file keeps what it had, and no name leads to it.
-        let _ = self.old.write_all_at(&vec![0; self.head], 0);
+        let _ = self.old.write_all_at(&vec![0; self.head as usize], 0);
         Ok(())
     }
 }
@@ -193,17 +190,28 @@ fn give_rights(old: &File, made: &File) -> io::Result<()> {
     made.set_permissions(Permissions::from_mode(told.mode() & 0o777))
 }
 
-/// Writes the commit sector, or the slots, and the committed bytes to where they are in the other file.
-fn fill(made: &File, found: &Committed, path: &Path) -> Result<(), Error> {
-    let told = |error| Error::of_path(path, error);
-    made.set_len(found.sectors * SECTOR).map_err(told)?;
-    made.write_all_at(&found.head, 0).map_err(told)?;
-    let mut place = found.begin;
-    found.pieces(found.settled(), |piece| {
-        made.write_all_at(piece, place).map_err(told)?;
-        place += piece.len() as u64;
-        Ok(())
-    })
+/// The end of the commit sector, or of the slots, in the file of a store with this status, and the beginning of the half in
+/// force (`docs/inside/FORMAT.md`).
+fn begins_of(status: &Status) -> (u64, u64) {
+    let (first, unit) = if status.identity.is_some() { (128, 8) } else { (1, 1) };
+    let sectors_of_half = unit * (status.sectors.saturating_sub(first) / (2 * unit));
+    (SECTOR * first, SECTOR * (first + status.half * sectors_of_half))
+}
+
+/// Copies bytes of a file to the same place in another one, as far as there are some.
+fn copy_bytes(from: &File, to: &File, begin: u64, end: u64) -> io::Result<()> {
+    let mut piece = Vec::new();
+    let mut place = begin;
+    while place < end {
+        piece.resize(PIECE.min(end - place) as usize, 0);
+        let count = from.read_at(&mut piece, place)?;
+        if count == 0 {
+            return Ok(());
+        }
+        to.write_all_at(&piece[..count], place)?;
+        place += count as u64;
+    }
+    Ok(())
 }
 
 fn sync_folder(folder: &Path) -> io::Result<()> {
@@ -271,12 +279,23 @@ fn remove_folder(folder: &Path) {
 
 #[cfg(test)]
 mod tests {
-    use super::{is_own, with_commas};
+    use super::{begins_of, is_own, with_commas, Status};
 
     #[test]
     fn numbers_are_in_groups_of_three() {
         let told: Vec<String> = [0, 999, 1000, 123_456, 1_234_567].into_iter().map(with_commas).collect();
         assert_eq!(told, ["0", "999", "1,000", "123,456", "1,234,567"]);
+    }
+
+    #[test]
+    fn halves_begin_as_the_formats_lay_them_out() {
+        let begins = |identity: Option<u128>, sectors: u64, half: u64| {
+            begins_of(&Status { identity, sectors, half, ..Status::default() })
+        };
+        assert_eq!((begins(None, 9, 0), begins(None, 9, 1)), ((512, 512), (512, 2560)));
+        assert_eq!(begins(None, 10, 1), (512, 2560));
+        assert_eq!((begins(Some(0), 160, 0), begins(Some(0), 160, 1)), ((65536, 65536), (65536, 73728)));
+        assert_eq!(begins(Some(0), 175, 1), (65536, 73728));
     }
 
     #[test]

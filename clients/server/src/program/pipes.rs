@@ -39,16 +39,6 @@ impl Pipes {
 
     /// Writes lines, and reads this many replies, each with its LF. It fails if the program ends before.
     pub async fn exchange(&mut self, lines: &[u8], count: usize) -> io::Result<Vec<Bytes>> {
-        Ok(self.exchange_beside(lines, count, || ()).await?.0)
-    }
-
-    /// The same, and does something else while the program works.
-    pub async fn exchange_beside<T>(
-        &mut self,
-        lines: &[u8],
-        count: usize,
-        beside: impl FnOnce() -> T,
-    ) -> io::Result<(Vec<Bytes>, T)> {
         let Pipes { input, output, buffer, looked } = self;
         let input = input.as_mut().ok_or(io::ErrorKind::BrokenPipe)?;
         let written = async {
@@ -62,9 +52,8 @@ impl Pipes {
             }
             Ok(replies)
         };
-        // In this order, so that the program has its lines first.
-        let ((), replies, done) = tokio::try_join!(written, read, async { Ok(beside()) })?;
-        Ok((replies, done))
+        let ((), replies) = tokio::try_join!(written, read)?;
+        Ok(replies)
     }
 
     /// Says that no more lines come, and reads what the program still writes: else it would wait for that.

@@ -3,12 +3,12 @@
 use super::engine::Engine;
 use super::job::{document_in, finish, next_question, two_in, Job, Pending, Reply};
 use crate::lines::replies::refusal;
-use crate::lines::{Line, STATUS};
+use crate::lines::Line;
 use std::io;
 
-/// How much is asked before the replies are looked at: a query, whose reply may be long, weighs more than other questions.
+/// How much is asked before the replies are looked at: a question whose reply may be long weighs more than others.
 const WINDOW: usize = 64;
-const WEIGHT_OF_QUERY: usize = 32;
+const WEIGHT_OF_LONG: usize = 32;
 
 impl Engine {
     /// Asks the questions of a round, some at a time.
@@ -17,7 +17,7 @@ impl Engine {
         let mut weight = 0;
         for index in 0..round.len() {
             while let Some(line) = next_question(&mut round[index]) {
-                weight += if memchr::memmem::find(&line, b"\"query\"").is_some() { WEIGHT_OF_QUERY } else { 1 };
+                weight += if may_be_long(&line) { WEIGHT_OF_LONG } else { 1 };
                 window.push((index, line));
                 if weight >= WINDOW {
                     self.ask(&mut window, round).await?;
@@ -33,20 +33,19 @@ impl Engine {
         if window.is_empty() {
             return Ok(());
         }
-        let mut input: Vec<u8> = window.iter().flat_map(|(_, line)| line.iter().copied()).collect();
-        // If one was a change after all, it isn't waited for in vain.
-        input.extend_from_slice(STATUS);
+        let input: Vec<u8> = window.iter().flat_map(|(_, line)| line.iter().copied()).collect();
         let count = window.iter().filter(|(_, line)| !line.is_empty()).count();
-        let mut told = self.exchange(&input, count + 1).await?;
-        self.take_status(told.pop()).await?;
-        self.check_number(self.status.seq, 0)?;
-        let mut told = told.into_iter();
+        let before = self.history.last();
+        let mut told = self.clients_lines(input, count).await?.into_iter();
+        // If one was a change after all, others may have read what was there before it.
+        let may_be_kept = self.history.last() == before;
         for (index, line) in window.drain(..) {
             let reply = if line.is_empty() { refusal(10).into() } else { told.next().unwrap_or_default() };
             if let Some(pending) = &mut round[index] {
                 pending.add(&reply);
-                if let Reply::Document(name, _) = &pending.job.reply {
-                    self.keep(name, &pending.replies);
+                match &pending.job.reply {
+                    Reply::Document(name, _) if may_be_kept => self.keep(name, &pending.replies),
+                    _ => (),
                 }
             }
         }
@@ -73,5 +72,28 @@ impl Engine {
             return Ok(());
         }
         self.round(some).await
+    }
+}
+
+/// Whether the reply to a line may be longer than a document. A word with an escape may be any.
+fn may_be_long(line: &[u8]) -> bool {
+    let has = |word: &[u8]| memchr::memmem::find(line, word).is_some();
+    has(b"\"query\"") || has(b"\"changes\"") || has(b"\\")
+}
+
+#[cfg(test)]
+mod tests {
+    use super::may_be_long;
+
+    #[test]
+    fn only_a_document_is_short() {
+        assert!(!may_be_long(br#"{"cmd":"get","name":"d","path":""}"#));
+        for line in [
+            r#"{"cmd":"query","name":"d","path":"$"}"#,
+            r#"{"cmd":"changes","from":0,"max":4194304}"#,
+            r#"{"cmd":"ch\u0061nges","from":0,"max":4194304}"#,
+        ] {
+            assert!(may_be_long(line.as_bytes()), "{line}");
+        }
     }
 }

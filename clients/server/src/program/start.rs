@@ -3,6 +3,7 @@
 use super::complaints::{cause_in, what_to_do};
 use super::pipes::Pipes;
 use crate::error::{system_words, Error};
+use crate::lines::replies::Status;
 use crate::lines::STATUS;
 use crate::refusals::{by_number, Refusal};
 use std::os::unix::ffi::OsStrExt;
@@ -31,6 +32,10 @@ pub struct Program {
     pub path: PathBuf,
     /// The file of the store.
     pub store: PathBuf,
+    /// The sectors of a step that it makes of a snapshot after a group of changes.
+    pub pump: u64,
+    /// What it said of the store when it had opened it.
+    pub opened: Status,
     child: Child,
     words: String,
     said: JoinHandle<String>,
@@ -58,12 +63,14 @@ fn is_program(path: &Path) -> bool {
     path.metadata().map_or(false, |found| found.is_file() && found.permissions().mode() & 0o111 != 0)
 }
 
-/// The program, once it has opened the store. A file that is in use is waited for.
-pub async fn start(program: &Path, store: &Path, wait: Duration) -> Result<Program, Error> {
+/// The program, once it has opened the store. After each group of changes it makes a step of `pump` sectors of a snapshot,
+/// while a half fills. A file that is in use is waited for.
+pub async fn start(program: &Path, store: &Path, pump: u64, wait: Duration) -> Result<Program, Error> {
     let until = Instant::now() + wait;
     loop {
-        let mut started = spawn(program, store)?;
-        if started.pipes.exchange(STATUS, 1).await.is_ok() {
+        let mut started = spawn(program, store, pump)?;
+        if let Ok(told) = started.pipes.exchange(STATUS, 1).await {
+            started.opened = Status::of(&told[0]).ok_or_else(|| no_status(program, &told[0]))?;
             return Ok(started);
         }
         let ended = started.ended().await;
@@ -78,12 +85,19 @@ pub async fn start(program: &Path, store: &Path, wait: Duration) -> Result<Progr
     }
 }
 
-fn spawn(program: &Path, store: &Path) -> Result<Program, Error> {
+fn no_status(program: &Path, told: &[u8]) -> Error {
+    Error::new(format!("{} answered to `status`: {}", program.display(), String::from_utf8_lossy(told).trim_end()))
+}
+
+fn spawn(program: &Path, store: &Path, pump: u64) -> Result<Program, Error> {
     // A path that begins with a hyphen isn't taken for an option.
     let is_option = store.as_os_str().as_bytes().starts_with(b"-");
     let file = if is_option { Path::new(".").join(store) } else { store.to_owned() };
     let mut command = Command::new(program);
     command.arg("serve").arg(&file).args(["--batch", GROUP, "--why"]);
+    if pump > 0 {
+        command.args(["--pump", &pump.to_string()]);
+    }
     command.stdin(Stdio::piped()).stdout(Stdio::piped()).stderr(Stdio::piped()).kill_on_drop(true);
     set_apart(&mut command);
     let told = format!("{} serve {} --batch {GROUP} --why", program.display(), file.display());
@@ -94,7 +108,8 @@ fn spawn(program: &Path, store: &Path) -> Result<Program, Error> {
         _ => return Err(Error::new(format!("{told} has no pipes"))),
     };
     let (path, store, said) = (program.to_owned(), store.to_owned(), said_by(errors));
-    Ok(Program { pipes: Pipes::new(input, output), path, store, child, words: told, said })
+    let (pipes, opened) = (Pipes::new(input, output), Status::default());
+    Ok(Program { pipes, path, store, pump, opened, child, words: told, said })
 }
 
 /// Has a process begin in a session of its own, so that an interrupt at the terminal doesn't end it in its midst.
