@@ -1,7 +1,7 @@
 #!/usr/bin/env python3
 """Runs nodes of a replicated store over three members of etcd: single cases, a chaos of kills, and wrong nodes.
 
-    test_replicated.py PROGRAM [--rounds N] [--seed S] [--format N] [PART..]
+    test_replicated.py PROGRAM [--rounds N] [--seed S] [PART..]
 
 The parts, all of them if none is named:
 
@@ -11,8 +11,6 @@ The parts, all of them if none is named:
           write. Then the log is played by one program alone. All nodes must have what it has, all replies must be its, and
           the whole store must be linearizable.
   wrong   Nodes with one fault each, which the cases or the chaos must find.
-
-Each test draws the format of its files, and some run in both; with --format all have the one that is named.
 
 It needs Debian's etcd-server, pytest and openssl. As root it installs what is missing, else it names that. It makes its
 stores in the folder that TMPDIR names. The last line is `N passed, M failed`.
@@ -64,29 +62,8 @@ def prepare():
         os.execv(DEBIAN_PYTHON, [DEBIAN_PYTHON, *sys.argv])
 
 
-def tests_of(parts, program, rounds, seed, named=None):
+def tests_of(parts, program, rounds, seed):
     """The tests of these parts: what each is called, and a function of a folder."""
-    import replica_cases
-    tests = []
-    for what, test in tests_of_one_format(parts, program, rounds, seed):
-        drawn = named or random.Random(f"{seed} {what}").choice((2, 3))
-        tests.append((what, test, drawn))
-        if not named and what in replica_cases.IN_BOTH_FORMATS:
-            tests.append((what, test, 5 - drawn))
-    return [(f"{what}, format {number}", in_format(test, number)) for what, test, number in tests]
-
-
-def in_format(test, number):
-    """The test with the files of the nodes in this format."""
-    def run(folder):
-        import replicas
-        replicas.FORMAT[0] = number
-        return test(folder)
-    return run
-
-
-def tests_of_one_format(parts, program, rounds, seed):
-    """The tests of these parts, each once."""
     import replica_cases
     import replica_stops
     import replica_wrong
@@ -136,19 +113,17 @@ def main():
     parser.add_argument("parts", nargs="*", metavar="PART", help="cases, chaos, wrong")
     parser.add_argument("--rounds", type=int, default=30)
     parser.add_argument("--seed", type=int, default=random.randrange(1 << 32))
-    parser.add_argument("--format", type=int, choices=(2, 3), help="the format of all files")
     parser.add_argument("--lanes", type=int, default=3, help="how many tests run side by side")
     parser.add_argument("--only", type=int, help="only the test of this number")
     words = parser.parse_args()
     prepare()
     use_server()
     parts = words.parts or ["cases", "chaos", "wrong"]
-    tests = tests_of(parts, os.path.abspath(words.program), words.rounds, words.seed, words.format)
+    tests = tests_of(parts, os.path.abspath(words.program), words.rounds, words.seed)
     if words.only is not None:
         return int(not tried(*tests[words.only]))
     print(f"seed {words.seed}", flush=True)
     again = [sys.executable, os.path.abspath(__file__), words.program, *parts, "--rounds", str(words.rounds), "--seed", str(words.seed)]
-    again += ["--format", str(words.format)] if words.format else []
     with concurrent.futures.ThreadPoolExecutor(words.lanes) as lanes:
         passed = list(lanes.map(lambda number: in_a_process(again, number), range(len(tests))))
     print(f"{passed.count(True)} passed, {passed.count(False)} failed")

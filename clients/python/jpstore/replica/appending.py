@@ -6,6 +6,7 @@ from typing import Deque, Dict, List, NamedTuple, Optional, Sequence
 
 from ..errors import JpstoreError
 from ..refusals import NO_MAJORITY
+from ..wire.limits import MOST_CHANGES
 from ..wire.replies import refusal
 from ..wire.standard_streams import complain
 from ..wire.store_frames import length_of_frames
@@ -13,7 +14,7 @@ from .applying import Applier
 from .capacity import FULL, Room
 from .changes import LINES_OF_ENTRY
 from .engine import NoSpace, Rejected
-from .line_reader import MOST_CHANGES, MOST_TEXT
+from .line_reader import MOST_TEXT
 from .log import EntryKind, Log
 
 __all__ = ["Appending", "Lost"]
@@ -84,7 +85,7 @@ class Appending:
     async def run(self, log: Log) -> None:
         """Appends what waits, as long as it comes."""
         name = await self._registered(log)
-        if self._applier.note.version != self._applier.version:
+        if self._applier.place.version != self._applier.version:
             await self._append_version(log, name)
         while True:
             some = self._next()
@@ -113,8 +114,8 @@ class Appending:
     async def _append_version(self, log: Log, name: str) -> None:
         """Tells the log of this version of the program. The store must have done all that is for the one before."""
         for _ in range(_TRIES):
-            n = self._applier.note.n
-            if self._applier.note.version == self._applier.version:
+            n = self._applier.place.n
+            if self._applier.place.version == self._applier.version:
                 return
             if await log.append(f"{self._node}.{name}.v{n}", [], EntryKind.VERSION, self._applier.version, n):
                 return

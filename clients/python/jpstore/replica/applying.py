@@ -1,22 +1,22 @@
-"""The applier: a node does the log. Each entry is one transaction of its store, with a note of the place after it.
+"""The applier: a node does the log. Each entry is one transaction of its store, with the place after it as a mark.
 
 If a line of the entry is refused, nothing of it is done yet. The line has its answer, is left out, and the rest is
-tried again. After some refusals the rest is done line by line, each with a note that says how far the entry is. Which
-way an entry takes follows from the documents before it and from its lines alone, so every node takes the same way.
+tried again. After some refusals the rest is done line by line, each with a mark that says how far the entry is. Which
+way an entry takes follows from the documents before it and from its lines alone, so every node takes the same way. One
+that begins anew after the last accepted line tries those after it again, and they are refused again.
 """
 import json
-from typing import Deque, Dict, List, NamedTuple, Optional, Sequence, Tuple
+from typing import Any, Deque, Dict, List, NamedTuple, Optional, Sequence, Tuple
 
 from ..errors import JpstoreError
-from ..wire.commands import line_of_transaction
 from ..wire.replies import done, line_of_reply, refusal, seq_in
 from ..wire.values import canonical
 from .capacity import Need, Reckoning, Verdict
-from .changes import Line, line_in, places_in
+from .changes import Line, line_in
 from .errors import Astray, Changed
 from .history import History
-from .log import Entry, EntryKind
-from .note import Note
+from .log import Agreed, Entry, EntryKind
+from .place import Place, as_told, key_of, marked
 from .store import ReplicaStore
 
 __all__ = ["Applier", "Done", "OtherVersion"]
@@ -29,6 +29,9 @@ _MOST_TOGETHER, _MOST_BYTES = 64, 1 << 22
 
 # Refusals of a line's form, which name no change.
 _OF_FORM = (10, 11, 12, 14)
+
+# The refusal of a mark that is not the one before.
+_MARK = 25
 
 
 class OtherVersion(JpstoreError):
@@ -45,38 +48,44 @@ class Done(NamedTuple):
 class _Task:
     """An entry under way."""
 
-    def __init__(self, entry: Entry, lines: List[Line], verdict: Verdict) -> None:
+    def __init__(self, entry: Entry, lines: List[Line], out: Dict[int, int]) -> None:
         self.entry, self.lines = entry, lines
-        self.out, self.whole = verdict.out, verdict.whole
         self.answers: List[Optional[bytes]] = [None] * len(lines)
-        for place, number in self.out.items():
-            self.answers[place] = refusal(number)
-        #: The places that were refused by the store.
-        self.refused: List[int] = []
+        for at, number in out.items():
+            self.answers[at] = refusal(number)
+        #: Which lines go into its transaction, and how many the store has refused.
+        self.left, self.refused = [at for at in range(len(lines)) if at not in out], 0
 
-    def left(self) -> List[int]:
-        """The places of the lines that go into its transaction."""
-        return [place for place in range(len(self.lines)) if place not in self.out and place not in self.refused]
-
-    def texts(self, places: Sequence[int]) -> List[bytes]:
-        """The texts of the changes of these lines."""
-        return [self.lines[place].text for place in places]
+    def refuse(self, at: int, answer: bytes) -> None:
+        """Leaves out a line that was refused."""
+        self.answers[at] = answer
+        self.left.remove(at)
+        self.refused += 1
 
 
 class Applier:
     """Does the entries of the log, one after another, in a store."""
 
-    def __init__(self, store: ReplicaStore, note: Note, version: str, reckoning: Reckoning, history: History) -> None:
-        self._store, self._reckoning, self._history = store, reckoning, history
-        #: The version of the program, and the format of its file if that decides what is read.
+    def __init__(self, store: ReplicaStore, agreed: Agreed, stored: Optional[Place], place: Place,
+                 version: str) -> None:
+        self._store, self._log, self._reckoning = store, agreed.log, Reckoning(agreed.capacity)
+        #: The version of the program.
         self.version = version
-        #: The place of the store, and the number of its last change, which is that of the note.
-        self.note, self.seq = note, int(store.status["seq"])
+        #: The place of the store, and the number of its last change.
+        self.place, self.seq = place, int(store.status["seq"])
+        # The mark of the store, which is of the last entry or line that changed something.
+        self._stored = stored
+        #: The changes since this start. Every node numbers them in the same way, so a watcher may go on at another one.
+        self.history = History(self.seq, name=agreed.log)
         self._window = _MOST_TOGETHER
+
+    def told(self) -> Dict[str, Any]:
+        """What etcd is told of the place."""
+        return as_told(self.place, self._log, self.seq)
 
     async def apply(self, waiting: Deque[Entry]) -> List[Done]:
         """Does some of the entries that wait, at least one, and takes them away."""
-        if self.note.next >= 0:
+        if self.place.next >= 0:
             return [await self._resumed(waiting.popleft())]
         group = await self._group(waiting)
         if not group:
@@ -101,163 +110,153 @@ class Applier:
         for entry in list(waiting)[:self._window]:
             if entry.kind is not EntryKind.LINES:
                 break
+            self._check_version(entry)
             lines = [line_in(line) for line in entry.lines]
-            verdict = await self._verdict(lines, not group)
-            size += sum(map(len, entry.lines))
-            if verdict is None or not verdict.whole or group and size > _MOST_BYTES:
+            try:
+                verdict = self._reckoning.verdict(lines) if group else await self._verdict(lines)
+            except Need:
+                # The store isn't there yet.
                 break
-            self._check_version(entry, self.version)
-            group.append(_Task(entry, lines, verdict))
-            self._reckoning.count(lines)
+            task = _Task(entry, lines, verdict.out)
+            size += sum(map(len, entry.lines))
+            if not verdict.whole or not task.left or group and size > _MOST_BYTES:
+                break
+            group.append(task)
+            self._reckoning.count([lines[at] for at in task.left])
         return group
 
-    async def _verdict(self, lines: List[Line], here: bool) -> Optional[Verdict]:
-        """The verdict on an entry; None if something must be measured, and the store is not `here` yet."""
+    async def _verdict(self, lines: List[Line]) -> Verdict:
+        """The verdict on lines at the place of the store; what it needs is measured."""
         while True:
             try:
                 return self._reckoning.verdict(lines)
             except Need as need:
-                if not here:
-                    return None
                 await self._reckoning.measure(need, self._store)
 
     async def _alone(self, entry: Entry) -> Done:
         """Does an entry that is no transaction of changes, or none as a whole."""
-        if entry.kind is EntryKind.LINES:
-            lines = [line_in(line) for line in entry.lines]
-            verdict = await self._verdict(lines, True)
-            assert verdict is not None
-            self._check_version(entry, self.version)
-            self._reckoning.count(lines)
-            return await self._one_by_one(_Task(entry, lines, verdict), 0)
-        version = entry.version if entry.kind is EntryKind.VERSION else self.note.version
-        self._check_version(entry, version)
-        await self._note_alone(self.note.after(entry)._replace(version=version))
-        return Done(entry, [])
+        self._check_version(entry)
+        lines = [line_in(line) for line in entry.lines]
+        verdict = await self._verdict(lines) if lines else Verdict({}, True)
+        task = _Task(entry, lines, verdict.out)
+        return self._ended(task) if verdict.whole else await self._rest(task, 0)
 
-    def _check_version(self, entry: Entry, version: str) -> None:
-        if entry.kind is EntryKind.VERSION and version != self.version:
-            raise OtherVersion(f"from entry {entry.n} on the log is for {version}, and this is {self.version}: "
-                               "install that version here, or bring the file to that format by `upgrade`")
-        if entry.kind is EntryKind.LINES and self.note.version != self.version:
-            raise OtherVersion(f"entry {entry.n} of the log is for {self.note.version}, and this is {self.version}: "
+    def _check_version(self, entry: Entry) -> None:
+        if entry.kind is EntryKind.VERSION and entry.version != self.version:
+            raise OtherVersion(f"from entry {entry.n} on the log is for {entry.version}, and this is {self.version}: "
+                               "install that version here")
+        if entry.kind is EntryKind.LINES and self.place.version != self.version:
+            raise OtherVersion(f"entry {entry.n} of the log is for {self.place.version}, and this is {self.version}: "
                                "run that version here until they are done, or make the store anew by `replica join`")
+
+    def _ended(self, task: _Task) -> Done:
+        """Passes over an entry of which nothing more is to be made."""
+        self.place = self.place.after(task.entry)
+        return Done(task.entry, task.answers)
 
     async def _together(self, group: Sequence[_Task]) -> Tuple[int, bytes]:
         """Sends entries at once; returns how many are done, and what the next one was answered.
 
-        Each note asks for the revision of the one before. So if an entry is refused, all later ones are refused too.
+        Each asks for the mark of the one before. So if an entry is refused, all later ones are refused too.
         """
-        sent, numbers, notes, note, rev = [], [], [], self.note, self.seq
+        sent, places, before, place = [], [], self._stored, self.place
         for task in group:
-            places, note = task.left(), note.after(task.entry)
-            sent.append(line_of_transaction([*task.texts(places), note.patch(rev)]))
-            rev += sum(len(task.lines[place].changes) for place in places) + 1
-            numbers.append(rev)
-            notes.append(note)
+            place = place.after(task.entry)
+            sent.append(self._line(task, task.left, before, place))
+            places.append(place)
+            before = place
         replies = await self._store.change(sent)
         done = 0
         while done < len(group) and seq_in(replies[done]) is not None:
-            self._check_number(replies[done], numbers[done])
-            self._take(notes[done], group[done], group[done].left())
+            self._take(places[done], group[done], group[done].left, replies[done])
             done += 1
         if any(seq_in(reply) is not None for reply in replies[done:]):
             raise Astray("an entry was done after one that was refused")
         return done, replies[done] if done < len(group) else b""
 
-    def _check_number(self, reply: bytes, number: int) -> None:
-        if seq_in(reply) != number:
-            raise Astray(f"the store answered {reply.decode().strip()} for change {number}")
+    def _line(self, task: _Task, left: Sequence[int], before: Optional[Place], after: Place) -> bytes:
+        return marked([task.lines[at].text for at in left], key_of(self._log), before, after)
 
-    def _take(self, note: Note, task: Optional[_Task] = None, places: Sequence[int] = ()) -> None:
-        """Takes lines as accepted, and the note that was made after them."""
+    def _take(self, after: Place, task: _Task, left: Sequence[int], reply: bytes) -> None:
+        """Takes lines as accepted by this reply, and the place after them."""
         texts: List[bytes] = []
         sizes: List[int] = []
-        if task is not None:
-            for place in places:
-                some = _texts_of(task.lines[place])
-                texts += some
-                sizes.append(len(some))
-                task.answers[place] = done(self.seq + len(texts))
-        texts.append(note.patch(None))
+        for at in left:
+            some = _texts_of(task.lines[at])
+            texts += some
+            sizes.append(len(some))
+            task.answers[at] = done(self.seq + len(texts))
+        if seq_in(reply) != self.seq + len(texts):
+            raise Astray(f"the store answered {reply.decode().strip()} for change {self.seq + len(texts)}")
         self.seq += len(texts)
-        self._history.add(texts, sizes)
-        self.note = note
+        self.history.add(texts, sizes)
+        self.place = self._stored = after
 
     async def _settle(self, task: _Task, reply: bytes) -> Done:
         """Goes on with an entry that was refused as a whole by this reply."""
-        while seq_in(reply) is None:
-            told = json.loads(reply)
+        while True:
+            told = _refusal_in(reply)
             if "change" not in told:
                 if told["number"] not in _OF_FORM:
                     raise Astray(f"the store answered {reply.decode().strip()} to entry {task.entry.n}")
-                return await self._one_by_one(task, 0)
-            place, answer = self._refused_in(task, told)
-            task.answers[place] = answer
-            task.refused.append(place)
-            if len(task.refused) == MOST_REFUSED:
-                return await self._one_by_one(task, place + 1)
+                return await self._rest(task, 0)
+            index, begin = _line_of_change(task, told["change"])
+            at = task.left[index]
+            task.refuse(at, _as_alone(told, task.lines[at], begin))
+            if task.refused == MOST_REFUSED:
+                # The lines before it are sure to be accepted.
+                if index and await self._attempt(task, task.left[:index], at + 1):
+                    raise Astray(f"lines of entry {task.entry.n} were refused that had been accepted")
+                return await self._rest(task, at + 1)
+            if not task.left:
+                return self._ended(task)
             done, reply = await self._together([task])
             if done:
-                break
-        return Done(task.entry, task.answers)
-
-    def _refused_in(self, task: _Task, told: Dict[str, int]) -> Tuple[int, bytes]:
-        """The line to which a refusal of the transaction belongs, and the refusal as if it had been sent alone."""
-        left = task.left()
-        places = places_in([task.lines[place] for place in left])
-        change = told["change"]
-        if change >= places[-1]:
-            raise Changed("somebody else changed the file of this node: make it anew by `replica join`")
-        index = max(index for index, begin in enumerate(places[:-1]) if begin <= change)
-        return left[index], _as_alone(told, task.lines[left[index]], places[index])
-
-    async def _note_alone(self, note: Note, task: Optional[_Task] = None, places: Sequence[int] = ()) -> None:
-        """Makes the note, after lines that are sure to be accepted."""
-        texts = task.texts(places) if task else []
-        reply, = await self._store.change([line_of_transaction([*texts, note.patch(self.seq)])])
-        many = sum(len(task.lines[place].changes) for place in places) if task else 0
-        if seq_in(reply) is None:
-            raise Changed(f"the file of this node was changed by somebody else: {reply.decode().strip()}")
-        self._check_number(reply, self.seq + many + 1)
-        self._take(note, task, places)
-
-    async def _one_by_one(self, task: _Task, begin: int) -> Done:
-        """Does the lines before `begin` at once, since they are sure to be accepted, and then one after another."""
-        before = [place for place in task.left() if place < begin]
-        out = tuple(sorted((place, number) for place, number in task.out.items() if place >= begin))
-        await self._note_alone(self.note._replace(next=begin, out=out), task, before)
-        return await self._rest(task, begin)
+                return Done(task.entry, task.answers)
 
     async def _resumed(self, entry: Entry) -> Done:
         """Goes on with an entry that an earlier start has begun to do line by line."""
-        self._check_version(entry, self.version)
-        lines = [line_in(line) for line in entry.lines]
-        task = _Task(entry, lines, Verdict(dict(self.note.out), False))
-        self._reckoning.count(lines)
-        return await self._rest(task, self.note.next)
+        self._check_version(entry)
+        return await self._rest(_Task(entry, [line_in(line) for line in entry.lines], {}), self.place.next)
 
     async def _rest(self, task: _Task, begin: int) -> Done:
-        places = [place for place in range(begin, len(task.lines)) if place not in task.out]
-        # Each is sent alone: of several at once a later one could be done after one that had a fault.
-        for place in places:
-            note = self.note._replace(next=place + 1)
-            reply, = await self._store.change([line_of_transaction([task.lines[place].text, note.patch(None)])])
-            self._take_one(task, place, note, reply)
-        await self._note_alone(self.note.after(task.entry))
-        return Done(task.entry, task.answers)
+        """Does the lines from `begin` on, each alone, and judges it by the documents as they are then.
 
-    def _take_one(self, task: _Task, place: int, note: Note, reply: bytes) -> None:
-        line = task.lines[place]
-        number = seq_in(reply)
-        if number is not None:
-            self._check_number(reply, self.seq + len(line.changes) + 1)
-            self._take(note, task, [place])
-            return
-        told = json.loads(reply)
-        if told.get("change", 0) >= len(line.changes):
-            raise Changed("somebody else changed the file of this node: make it anew by `replica join`")
-        task.answers[place] = _as_alone(told, line, 0)
+        What was said of their room before counts no more: a start that goes on here doesn't know it.
+        """
+        for at in range(begin, len(task.lines)):
+            out = (await self._verdict([task.lines[at]])).out
+            told = None if out else await self._attempt(task, [at], at + 1)
+            if out or told:
+                task.answers[at] = _as_alone(told, task.lines[at], 0) if told else refusal(out[0])
+        return self._ended(task)
+
+    async def _attempt(self, task: _Task, left: Sequence[int], next: int) -> Optional[Dict[str, Any]]:
+        """Does some lines of an entry, after which it goes on at `next`; returns the refusal if there is one."""
+        after = self.place._replace(next=next)
+        reply, = await self._store.change([self._line(task, left, self._stored, after)])
+        if seq_in(reply) is None:
+            return _refusal_in(reply)
+        self._take(after, task, left, reply)
+        self._reckoning.count([task.lines[at] for at in left])
+        return None
+
+
+def _refusal_in(reply: bytes) -> Dict[str, Any]:
+    """A refusal of the store; `Changed` if its mark was not the one before."""
+    told: Dict[str, Any] = json.loads(reply)
+    if told["number"] == _MARK:
+        raise Changed(f"the file of this node was changed by somebody else: {reply.decode().strip()}")
+    return told
+
+
+def _line_of_change(task: _Task, change: int) -> Tuple[int, int]:
+    """Which of the lines that are left has this change of their transaction, and the number of its first one."""
+    index = begin = 0
+    while begin + len(task.lines[task.left[index]].changes) <= change:
+        begin += len(task.lines[task.left[index]].changes)
+        index += 1
+    return index, begin
 
 
 def _as_alone(told: Dict[str, int], line: Line, begin: int) -> bytes:

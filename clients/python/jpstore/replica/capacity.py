@@ -14,9 +14,9 @@ The lengths are measured only if bounds that are easily kept don't decide. That 
 from typing import Dict, List, NamedTuple, Sequence, Set
 
 from ..wire import limits
-from ..wire.store_frames import length_of_frames
+from ..wire.store_frames import MOST_MARK, length_of_frames
 from .changes import Change, Line
-from .line_reader import MOST_CHANGES, MOST_TEXT
+from .line_reader import MOST_TEXT
 from .store import ReplicaStore
 
 __all__ = ["LEAST_CAPACITY", "Reckoning", "Room", "Verdict", "room_of"]
@@ -27,12 +27,9 @@ FULL, HEAVY = 60, 65
 #: The least capacity that may be agreed on, in bytes.
 LEAST_CAPACITY = 65_536
 
-# The most bytes that the changes of a line take, and those that a note may take, with what it is longer than before.
+# The most bytes that the changes of a line take, and that the mark takes in a transaction and more in a snapshot.
 _MOST_CHANGES = length_of_frames(limits.MOST_LINE_BYTES, limits.MOST_CHANGES)
-_NOTES = 16_384
-
-# The most bytes that the lines of a transaction may copy: the note gets some.
-_MOST_WEIGHT = limits.MOST_TRANSACTION_BYTES - limits.MOST_DOCUMENT_BYTES
+_MARKS = 2 * MOST_MARK
 
 # A patch counts its document if it takes values from among more members and elements than these.
 _MOST_SIBLINGS = 500_000
@@ -50,8 +47,8 @@ class Room(NamedTuple):
 
 def room_of(capacity: int) -> Room:
     """How an agreed capacity is divided. A store of this capacity never refuses such changes for its own room."""
-    changes = min(_MOST_CHANGES + _NOTES, capacity // 2)
-    return Room(capacity - changes, changes - _NOTES)
+    changes = min(_MOST_CHANGES + _MARKS, capacity // 2)
+    return Room(capacity - changes, changes - _MARKS)
 
 
 class Verdict(NamedTuple):
@@ -87,7 +84,8 @@ class Reckoning:
     def _without_room(self, lines: Sequence[Line]) -> Dict[int, int]:
         growth = sum(line.growth for line in lines)
         out = {place: FULL for place, line in enumerate(lines) if line.cost > self._room.changes}
-        if self._known and self._total + growth <= self._room.documents:
+        # The mark may be longer than it was when the snapshot was measured.
+        if self._known and self._total + growth + MOST_MARK <= self._room.documents:
             return out
         if not self._exact:
             raise Need(True, set())
@@ -107,15 +105,15 @@ class Reckoning:
                 weights[place] = sum(self._weight(change, lengths) for change in line.changes)
         # A node makes no larger entries, so this holds unless one has a fault.
         fits = (sum(lines[place].cost for place in weights) <= min(self._room.changes, MOST_TEXT)
-                and sum(len(lines[place].changes) for place in weights) <= MOST_CHANGES)
-        if sum(weights.values()) <= _MOST_WEIGHT:
+                and sum(len(lines[place].changes) for place in weights) <= limits.MOST_CHANGES)
+        if sum(weights.values()) <= limits.MOST_TRANSACTION_BYTES:
             return Verdict(out, fits)
         missing = lengths.keys() - self._measured
         if missing:
             raise Need(False, missing)
-        heavy = {place: HEAVY for place, weight in weights.items() if weight > _MOST_WEIGHT}
+        heavy = {place: HEAVY for place, weight in weights.items() if weight > limits.MOST_TRANSACTION_BYTES}
         left = sum(weight for place, weight in weights.items() if place not in heavy)
-        return Verdict({**out, **heavy}, fits and left <= _MOST_WEIGHT)
+        return Verdict({**out, **heavy}, fits and left <= limits.MOST_TRANSACTION_BYTES)
 
     def _weight(self, change: Change, lengths: Dict[str, int]) -> int:
         """The bytes that a change counts for 65, at most; the lengths after it are noted."""
@@ -137,7 +135,7 @@ class Reckoning:
             self._measured |= need.names
 
     def count(self, lines: Sequence[Line]) -> None:
-        """Takes lines into account that are done, whatever they were answered."""
+        """Takes lines into account that are done, or at most these."""
         changes: List[Change] = [change for line in lines for change in line.changes]
         if changes:
             self._exact = False

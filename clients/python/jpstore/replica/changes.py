@@ -1,6 +1,6 @@
 """The lines of an entry as the changes that a store is sent, and what they may cost."""
 import json
-from typing import Any, Dict, List, NamedTuple, Sequence, Tuple
+from typing import Any, Dict, List, NamedTuple, Tuple
 
 from ..wire.commands import changes_in, texts_in_transaction
 from ..wire.forms import TRANSACTION
@@ -8,7 +8,7 @@ from ..wire.limits import MOST_DOCUMENT_BYTES
 from ..wire.store_frames import length_of_frames
 from ..wire.values import canonical
 
-__all__ = ["Change", "Line", "LINES_OF_ENTRY", "line_in", "places_in"]
+__all__ = ["Change", "Line", "LINES_OF_ENTRY", "line_in"]
 
 #: The most lines of an entry.
 LINES_OF_ENTRY = 256
@@ -68,11 +68,3 @@ def _change(command: Dict[str, Any], length: int) -> Change:
 
 def _operations(spelled: Any) -> List[Any]:
     return [each.get("op") for each in spelled if isinstance(each, dict)] if isinstance(spelled, list) else []
-
-
-def places_in(lines: Sequence[Line]) -> List[int]:
-    """How many changes come before each line, and then how many there are."""
-    places = [0]
-    for line in lines:
-        places.append(places[-1] + len(line.changes))
-    return places

@@ -3,7 +3,7 @@ import json
 import os
 import socket
 import tempfile
-from typing import IO, NamedTuple
+from typing import IO, NamedTuple, Tuple
 
 from ..errors import Ended, JpstoreError, accessing
 from ..wire.commands import COPY
@@ -22,7 +22,7 @@ class Copy(NamedTuple):
     """The bytes that begin a store's file, and the committed ones in its half.
 
     How many bytes these are together, how many of them begin the file, where the others belong, and a file with both.
-    `mode` are the permission bits of the store's file.
+    `mode` are the permission bits of the store's file, and `place` is the text of its place in the log.
     """
 
     length: int
@@ -32,15 +32,16 @@ class Copy(NamedTuple):
     seq: int
     spool: IO[bytes]
     mode: int
+    place: str
 
     def line(self) -> bytes:
         """The line that comes before the bytes."""
         told = {"begin": self.begin, "bytes": self.length, "head": self.head, "mode": self.mode, "ok": True,
-                "sectors": self.sectors, "seq": self.seq}
+                "place": self.place, "sectors": self.sectors, "seq": self.seq}
         return line_of_reply(told)
 
 
-def copy_of(file: str) -> Copy:
+def copy_of(file: str, place: str) -> Copy:
     """The bytes of a store that nobody writes now."""
     spool: IO[bytes] = tempfile.SpooledTemporaryFile(_IN_MEMORY)
     with accessing(file), open(file, "rb") as opened:
@@ -51,11 +52,12 @@ def copy_of(file: str) -> Copy:
             spool.write(piece)
     length = spool.tell()
     spool.seek(0)
-    return Copy(length, len(found.head), found.begin, found.sectors, found.seq, spool, mode)
+    return Copy(length, len(found.head), found.begin, found.sectors, found.seq, spool, mode, place)
 
 
-def receive_copy(path: str, target: str) -> int:
-    """Makes the file `target`, which must not exist, with the store of the node at a socket; returns its sectors.
+def receive_copy(path: str, target: str) -> Tuple[int, str]:
+    """Makes the file `target`, which must not exist, with the store of the node at a socket; returns its sectors and
+    the text of its place.
 
     Before its first byte it has the permission bits of that node's file.
     """
@@ -79,7 +81,7 @@ def receive_copy(path: str, target: str) -> int:
                 left -= len(piece)
             made.flush()
             os.fsync(made.fileno())
-    return int(told["sectors"])
+    return told["sectors"], told["place"]
 
 
 def _fill(made: IO[bytes], length: int) -> None:

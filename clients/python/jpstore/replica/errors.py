@@ -1,7 +1,12 @@
 """The errors that end a node for good: what it has isn't what the log makes."""
 from ..errors import JpstoreError
 
-__all__ = ["Astray", "Changed", "MustBeMadeAnew", "WrongLog"]
+__all__ = ["Astray", "Changed", "MustBeMadeAnew", "OLDER", "WrongLog"]
+
+#: What to do with the stores of nodes that kept their place in a document.
+OLDER = ("stop all nodes, bring the file of the one that is furthest to format 3 by `jpstore upgrade`, delete the "
+         "document `_log` from it by `jpstore serve`, make a new log of it by `replica init` with another --log, and "
+         "the others' files by `replica join`")
 
 
 class MustBeMadeAnew(JpstoreError):
@@ -13,8 +18,9 @@ class Astray(MustBeMadeAnew):
 
 
 class Changed(MustBeMadeAnew):
-    """The store was changed by somebody else, or is no node's."""
+    """The store was changed by somebody else."""
 
 
 class WrongLog(MustBeMadeAnew):
-    """The log is not the one that the store has done so far: it was made anew, or restored from an older copy."""
+    """The log is not that of the store: the file is no node's, or the log was made anew, or restored from an older
+    copy."""

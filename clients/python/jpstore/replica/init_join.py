@@ -1,21 +1,21 @@
 """The beginnings: a log is made from a file, and a node's file from that of another node."""
 import asyncio
 import contextlib
-import hashlib
+import json
 import os
 import uuid
 from typing import Any, Dict, Optional, Sequence
 
 from ..dump import give_name, sync_folder
 from ..errors import JpstoreError
-from ..wire.commands import get, get_schema, line_of
+from ..wire.commands import get, line_of
 from ..wire.program import check_file, copy_file
-from ..wire.replies import seq_in
 from .capacity import LEAST_CAPACITY, room_of
 from .copying import receive_copy
 from .engine import Member
-from .log import Agreed, Log
-from .note import NAME, Note
+from .errors import OLDER
+from .log import PATIENCE, Agreed, Log
+from .place import as_told, place_in
 from .store import ReplicaStore, judge_of
 
 __all__ = ["init", "join"]
@@ -23,22 +23,28 @@ __all__ = ["init", "join"]
 
 async def init(file: str, members: Sequence[Member], name: str, capacity: Optional[int], program: Optional[str],
                wait: float) -> Agreed:
-    """Makes a log whose first state is that of the store in `file`; returns what is agreed on.
+    """Makes a log whose first state is that of the store in `file`, which stays as it is; returns what is agreed on.
 
-    If it was broken off, it may be called again, as long as nothing was appended.
+    It may be called again, as long as nothing was appended.
     """
     store = await ReplicaStore.open(file, program, wait=wait)
     try:
+        await _check_older(store)
         capacity = store.status["capacity"] if capacity is None else capacity
         await _check_capacity(store, capacity)
-        digest = await _state_digest(store)
-        agreed = await _agree(Log(members, name), Agreed(uuid.uuid4().hex, capacity, digest))
-        await _take(store, Note(agreed.log, judge_of(file, program)))
+        wanted = Agreed(uuid.uuid4().hex, capacity, await store.digest(), judge_of(program))
     finally:
         ended = await store.close()
     if ended.status != 0:
         raise ended
-    return agreed
+    return await _agree(Log(members, name), wanted)
+
+
+async def _check_older(store: ReplicaStore) -> None:
+    """Refuses the file of a node that kept its place in a document."""
+    reply, = await store.ask([line_of(get("_log", "/chain"))])
+    if json.loads(reply)["ok"]:
+        raise JpstoreError(f"{store.file} is of an older node: {OLDER}")
 
 
 async def _check_capacity(store: ReplicaStore, capacity: int) -> None:
@@ -64,23 +70,6 @@ async def _agree(log: Log, wanted: Agreed) -> Agreed:
     return agreed
 
 
-async def _take(store: ReplicaStore, note: Note) -> None:
-    """Makes the note in a store, if it isn't there."""
-    reply, = await store.change([note.create() + b"\n"])
-    if seq_in(reply) is None and await store.note() != note:
-        raise JpstoreError(f"{store.file} has a document {NAME} that is not of this log")
-
-
-async def _state_digest(store: ReplicaStore) -> str:
-    """A digest of all documents, their schemas, their order and their revisions."""
-    made = hashlib.sha256()
-    for name, rev in await store.revisions():
-        if name != NAME:
-            doc, schema = await store.exchange([line_of(get(name)), line_of(get_schema(name))])
-            made.update(b"%b %d\n%b%b" % (name.encode(), rev, doc, schema))
-    return made.hexdigest()
-
-
 def join(new: str, node: str, source: str, members: Sequence[Member], name: str, sectors: Optional[int],
          program: Optional[str]) -> Dict[str, Any]:
     """Makes the file `new`, which must not exist, for a node, from that of the node at the socket `source`.
@@ -93,39 +82,39 @@ def join(new: str, node: str, source: str, members: Sequence[Member], name: str,
             raise JpstoreError(f"{path} exists already, and is left as it is: remove it, or choose another name")
     asyncio.run(_hold(members, name, node))
     try:
-        size = receive_copy(source, part)
+        size, place = receive_copy(source, part)
         copy_file(part, whole, sectors or size, program)
         status = check_file(whole, program)
-        place = asyncio.run(_place(whole, program, members, name))
+        asyncio.run(_begin(whole, program, members, name, node, place))
         give_name(whole, new)
         sync_folder(new)
     finally:
         for path in (part, whole):
             with contextlib.suppress(FileNotFoundError):
                 os.unlink(path)
-    return {"entry": place.n, "sectors": status.sectors, "seq": status.seq}
+    return {"entry": place_in(place).n, "sectors": status.sectors, "seq": status.seq}
 
 
 async def _hold(members: Sequence[Member], name: str, node: str) -> None:
-    """Keeps the log from its beginning on, until the node writes its own place."""
+    """Keeps the log from its beginning on, until it is known from which place the node needs it."""
     log = Log(members, name)
     try:
         await log.agreed()
-        await log.publish(node, {"n": 0, "r": 0}, 10.0)
+        await log.publish(node, {"n": 0, "r": 0}, PATIENCE)
     finally:
         log.close()
 
 
-async def _place(file: str, program: Optional[str], members: Sequence[Member], name: str) -> Note:
-    """The place of a file in the log; an error if it belongs to another log, or too small."""
+async def _begin(file: str, program: Optional[str], members: Sequence[Member], name: str, node: str,
+                 place: str) -> None:
+    """Keeps the log from the place of a copy on; an error if the file belongs to another log, or is too small."""
     log, store = Log(members, name), await ReplicaStore.open(file, program)
     try:
-        agreed, note = await log.agreed(), await store.note()
+        agreed = await log.agreed()
+        await store.place(agreed)
+        if store.status["capacity"] < agreed.capacity:
+            raise JpstoreError(f"the nodes have agreed on halves of {agreed.capacity:,} bytes: choose more sectors")
+        await log.publish(node, as_told(place_in(place), agreed.log, store.status["seq"]), PATIENCE)
     finally:
         log.close()
         await store.close()
-    if note.log != agreed.log:
-        raise JpstoreError(f"the node is of the log {note.log}, and {name} is {agreed.log}")
-    if store.status["capacity"] < agreed.capacity:
-        raise JpstoreError(f"the nodes have agreed on halves of {agreed.capacity:,} bytes: choose more sectors")
-    return note

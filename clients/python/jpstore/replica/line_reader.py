@@ -8,19 +8,15 @@ import json
 from typing import Any, Dict, List, NamedTuple, Optional, Tuple
 
 from ..wire import limits
-from ..wire.forms import FORMS, TRANSACTION, Kind, has_form
+from ..wire.forms import FORMS, Kind, has_form
 from ..wire.line_splitter import TOO_LONG
 from ..wire.replies import refusal
 from ..wire.values import LEAST, MOST, canonical
-from .note import NAME
 
-__all__ = ["Asked", "MOST_CHANGES", "MOST_DEPTH", "MOST_TEXT", "read_line"]
+__all__ = ["Asked", "MOST_DEPTH", "MOST_TEXT", "read_line"]
 
-#: The longest text of a change, so that one transaction has room for it and for the note.
-MOST_TEXT = limits.MOST_LINE_BYTES - 8192
-
-#: The most changes of a transaction, so that there is room for the note.
-MOST_CHANGES = limits.MOST_CHANGES - 1
+#: The longest text of a change, so that one transaction has room for it and for the mark, and the one before.
+MOST_TEXT = limits.MOST_LINE_BYTES - 512
 
 #: How deep a change may nest: its transaction puts two levels around it.
 MOST_DEPTH = limits.MOST_DEPTH - 2
@@ -108,26 +104,15 @@ def read_line(line: bytes) -> Asked:
     except UnicodeEncodeError:
         # Half of a surrogate pair is no character.
         return _refused(11)
-    if doubled or not has_form(command) or len(command.get("changes", ())) > MOST_CHANGES:
+    if doubled or not has_form(command):
         return _refused(14)
     kind = FORMS[command["cmd"]].kind
-    return _change(command, text) if kind is Kind.CHANGE else _other(kind, command, text)
-
-
-def _refused(number: int, **members: int) -> Asked:
-    return Asked(None, refusal(number, **members), {})
-
-
-def _change(command: Dict[str, Any], text: bytes) -> Asked:
-    if len(text) > MOST_TEXT:
+    if kind is Kind.CHANGE and len(text) > MOST_TEXT:
         return _refused(10)
-    if text.count(b"[") + text.count(b"{") > MOST_DEPTH and _depth(command) > MOST_DEPTH:
+    if kind is Kind.CHANGE and text.count(b"[") + text.count(b"{") > MOST_DEPTH and _depth(command) > MOST_DEPTH:
         return _refused(11)
-    if command["cmd"] == TRANSACTION:
-        place = next((place for place, each in enumerate(command["changes"]) if each["name"] == NAME), None)
-        return Asked(Kind.CHANGE, text, command) if place is None else _refused(15, change=place)
-    return Asked(Kind.CHANGE, text, command) if command["name"] != NAME else _refused(15)
+    return Asked(kind, text, command)
 
 
-def _other(kind: Kind, command: Dict[str, Any], text: bytes) -> Asked:
-    return Asked(kind, text, command) if command.get("name") != NAME else _refused(15)
+def _refused(number: int) -> Asked:
+    return Asked(None, refusal(number), {})

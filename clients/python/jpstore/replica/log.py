@@ -4,6 +4,7 @@ Each entry is a put of the key `NAME/log`. The version that etcd gives to the ke
 and its modification revision r is the place from which a watch finds the entry again. To trim the log is to compact.
 """
 import asyncio
+import hashlib
 import json
 import uuid
 from enum import Enum
@@ -11,7 +12,7 @@ from typing import Any, AsyncGenerator, Dict, List, NamedTuple, Optional, Sequen
 
 from ..errors import JpstoreError
 from .engine import Engine, Member, NoAnswer, Rejected, Trimmed, packed, unpacked
-from .errors import WrongLog
+from .errors import OLDER, WrongLog
 from .tasks import end_tasks, started
 
 __all__ = ["Agreed", "Entry", "EntryKind", "Head", "Log", "TakenOver"]
@@ -24,6 +25,9 @@ _PAUSE = 0.05
 
 # How often an entry may be left out by a member before the log counts as broken.
 _MOST_GAPS = 5
+
+# How many letters the digest of an entry's name has.
+_DIGEST = 10
 
 
 class TakenOver(JpstoreError):
@@ -51,6 +55,11 @@ class Entry(NamedTuple):
     version: str
     lines: List[bytes]
 
+    @property
+    def digest(self) -> str:
+        """A short digest of its name."""
+        return hashlib.sha256(self.id.encode()).hexdigest()[:_DIGEST]
+
     @classmethod
     def of(cls, n: int, r: int, value: bytes) -> "Entry":
         """The entry that the key's value is; `WrongLog` if it is none."""
@@ -64,11 +73,13 @@ class Entry(NamedTuple):
 
 
 class Agreed(NamedTuple):
-    """What was agreed when the log was made: its identity, the capacity that each file has, and the first state."""
+    """What was agreed when the log was made: its identity, the capacity that each file has, and the first state, by a
+    digest and the version of the program that judges from there on."""
 
     log: str
     capacity: int
     digest: str
+    version: str
 
 
 class Head(NamedTuple):
@@ -106,7 +117,10 @@ class Log:
         found = await self._read("agreed", patience)
         if found is None:
             raise JpstoreError(f"etcd has no log {self._name}: make it by `python3 -m jpstore replica init`")
-        return Agreed(**json.loads(unpacked(found["value"])))
+        told = json.loads(unpacked(found["value"]))
+        if "version" not in told:
+            raise WrongLog(f"{self._name} is a log of older nodes: {OLDER}")
+        return Agreed(**told)
 
     async def head(self, patience: Optional[float] = None) -> Head:
         """The last entry, as a majority has it now: a linearizable read."""
@@ -233,20 +247,20 @@ class Watched:
         if self._reading is not None:
             self._reading.cancel()
 
-    async def entries(self, n: int, r: int, id: str) -> AsyncGenerator[Entry, None]:
-        """Each entry after number n, which must have this revision and this name; from the first one on if n is 0.
+    async def entries(self, n: int = 0, r: int = 0, digest: str = "") -> AsyncGenerator[Entry, None]:
+        """Each entry after number n, which must have this revision and digest; from the first one on if n is 0.
 
         On every connection the last entry comes first once more, since etcd may have been put back meanwhile.
         """
-        last, gaps = (n, r, id), 0
+        last, gaps = (n, r, digest), 0
         while True:
             told, known = self._told(max(last[1], 1)), last[0] == 0
             async for entry in told:
-                place = (entry.n, entry.r, entry.id)
+                place = (entry.n, entry.r, entry.digest)
                 if (not known or entry.n == last[0]) and place != last:
-                    raise WrongLog(f"the log has entry {entry.n} ({entry.id}) at revision {entry.r}, and the store has "
-                                   f"entry {last[0]} ({last[2]}) at {last[1]}: it is another log, or an older copy of "
-                                   "it")
+                    raise WrongLog(f"the log has entry {entry.n} ({entry.digest}) at revision {entry.r}, and the store "
+                                   f"has entry {last[0]} ({last[2]}) at {last[1]}: it is another log, or an older copy "
+                                   "of it")
                 known = True
                 if entry.n > last[0] + 1:
                     gaps += 1

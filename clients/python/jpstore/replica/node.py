@@ -3,18 +3,17 @@ import asyncio
 import contextlib
 import time
 from collections import deque
-from typing import IO, Any, Awaitable, Callable, Deque, Dict, NamedTuple, Optional, TypeVar
+from typing import IO, Any, Awaitable, Callable, Deque, Dict, List, NamedTuple, Optional, TypeVar
 
 from ..errors import JpstoreError
 from .appending import Appending
-from .applying import Applier, Done
+from .applying import Applier, Done, OtherVersion
 from .capacity import Room
 from .copying import Copy, copy_of
 from .digest import Comparing, digest_of
-from .engine import NoSpace, Rejected, Trimmed
+from .engine import NoAnswer, NoSpace, Rejected, Trimmed
 from .export import export
-from .history import History
-from .log import Entry, EntryKind, Head, Log
+from .log import PATIENCE, Entry, EntryKind, Head, Log
 from .questions import Asking
 from .store import Faulty, ReplicaStore
 from .tasks import apart, end_tasks
@@ -45,20 +44,20 @@ class Settings(NamedTuple):
 class Node:
     """The tasks of a node. They run until one of them fails, or the node is stopped."""
 
-    def __init__(self, settings: Settings, store: ReplicaStore, applier: Applier, room: Room, history: History,
+    def __init__(self, settings: Settings, store: ReplicaStore, applier: Applier, room: Room,
                  logs: Callable[[], Log]) -> None:
         self._settings, self._store, self._applier, self._logs = settings, store, applier, logs
         #: The changes that the node has made since it started, and those who wait for further ones.
-        self.history, self.news = history, News()
+        self.history, self.news = applier.history, News()
         self._woken, self._space = asyncio.Event(), asyncio.Event()
         self._entries: Deque[Entry] = deque()
         self._jobs: Deque[Callable[[], Awaitable[None]]] = deque()
         #: Changes and questions on their way.
         self.appending = Appending(settings.node, room, applier)
-        self.asking = Asking(Head(applier.note.n, applier.note.r), self._woken.set)
+        self.asking = Asking(Head(applier.place.n, applier.place.r), self._woken.set)
         self._comparing = Comparing(settings.node, settings.compare, logs)
         self._watched = logs().watch()
-        self._received = Head(applier.note.n, applier.note.r)
+        self._received = Head(applier.place.n, applier.place.r)
         self._held = 0
         # When the store had all that a majority had, and since when the watch shows nothing new.
         self._current: Optional[float] = None
@@ -80,7 +79,8 @@ class Node:
     async def copy(self) -> Copy:
         """The committed bytes of the file, between two changes."""
         async def do() -> Copy:
-            return await apart(lambda: copy_of(self._store.file))
+            place = self._applier.place.text
+            return await apart(lambda: copy_of(self._store.file, place))
         return await self._between(do)
 
     async def _between(self, do: Callable[[], Awaitable[T]]) -> T:
@@ -104,7 +104,7 @@ class Node:
     def told(self) -> Dict[str, Any]:
         """The status of the node; `age` is for how many seconds it may have missed changes."""
         age = None if self._current is None else round(time.monotonic() - self._current, 3)
-        return {"age": age, "applied": self._applier.note.n, "head": self.asking.head.n, "name": self._settings.node,
+        return {"age": age, "applied": self._applier.place.n, "head": self.asking.head.n, "name": self._settings.node,
                 "seq": self._applier.seq}
 
     # The tasks.
@@ -132,7 +132,7 @@ class Node:
         while True:
             self._woken.clear()
             if self._entries:
-                for done in await self._applier.apply(self._entries):
+                for done in await self._applied():
                     await self._finish(done)
                 self._space.set()
                 self.news.tell()
@@ -140,8 +140,18 @@ class Node:
             self._comparing.check()
             if self._jobs:
                 await self._jobs.popleft()()
-            elif not self._entries and not self.asking.is_due(self._applier.note.n):
+            elif not self._entries and not self.asking.is_due(self._applier.place.n):
                 await self._woken.wait()
+
+    async def _applied(self) -> List[Done]:
+        """Does some entries."""
+        try:
+            return await self._applier.apply(self._entries)
+        except OtherVersion:
+            # Of what was refused nothing is stored, and the other version must not judge it again.
+            with contextlib.suppress(NoAnswer, Rejected):
+                await self._publish(self._logs(), PATIENCE)
+            raise
 
     async def _finish(self, done: Done) -> None:
         self._held -= sum(map(len, done.entry.lines))
@@ -150,14 +160,14 @@ class Node:
             self._current = max(self._current or 0.0, self.asking.asked_at)
         if done.entry.kind is EntryKind.COMPARE:
             revisions = await self._store.revisions()
-            digest = digest_of(self._applier.seq, self._applier.note.chain, revisions)
+            digest = digest_of(self._applier.seq, self._applier.place.chain, revisions)
             self._comparing.compare(done.entry.n, digest, self._woken.set)
 
     async def _answer_due(self) -> None:
         """Answers the questions whose entries are done."""
-        due = self.asking.due(self._applier.note.n)
+        due = self.asking.due(self._applier.place.n)
         if due:
-            for question, reply in zip(due, await self._store.shown([question.text for question in due])):
+            for question, reply in zip(due, await self._store.exchange([question.text for question in due])):
                 if not question.answer.done():
                     question.answer.set_result(reply)
 
@@ -171,8 +181,8 @@ class Node:
             raise
 
     async def _take_entries(self) -> None:
-        note = self._applier.note
-        async for entry in self._watched.entries(note.n, note.r, note.id):
+        place = self._applier.place
+        async for entry in self._watched.entries(place.n, place.r, place.digest):
             while len(self._entries) >= _MOST_ENTRIES or self._held > _MOST_BYTES:
                 self._space.clear()
                 await self._space.wait()
@@ -183,7 +193,7 @@ class Node:
 
     def _seen(self, n: int) -> None:
         """The log has entry n: watches at another member if the present one shows it too late."""
-        if self._applier.note.n >= n:
+        if self._applier.place.n >= n:
             self._current = self.asking.asked_at
         if self._received.n >= n or self._entries:
             self._missing = None
@@ -209,9 +219,8 @@ class Node:
             with contextlib.suppress(Rejected):
                 await self._publish(log)
 
-    async def _publish(self, log: Log) -> None:
-        note, status = self._applier.note, self._store.status
+    async def _publish(self, log: Log, patience: Optional[float] = None) -> None:
+        status = self._store.status
         await log.publish(self._settings.node, {
-            "n": note.n, "r": note.r, "seq": self._applier.seq, "version": self._applier.version,
-            "time": int(time.time()), "used": status["used"], "capacity": status["capacity"],
-            "documents": status["documents"] - 1})
+            **self._applier.told(), "version": self._applier.version, "time": int(time.time()), "used": status["used"],
+            "capacity": status["capacity"], "documents": status["documents"]}, patience)

@@ -9,13 +9,13 @@ from typing import Any, Awaitable, Dict, List, NamedTuple, Optional, Sequence
 from ..errors import JpstoreError
 from ..wire.standard_streams import announce
 from .applying import Applier
-from .capacity import Reckoning, room_of
+from .capacity import room_of
 from .clients import Clients
 from .engine import Member
-from .errors import Astray, Changed, WrongLog
-from .history import History
+from .errors import Astray, Changed
 from .log import Log
 from .node import Node, Settings
+from .place import begin_of, furthest
 from .store import ReplicaStore, judge_of
 from .tasks import end_tasks
 from .unix_socket import Listening, check_free
@@ -74,18 +74,14 @@ async def _made(serving: Serving, settings: Settings, store: ReplicaStore) -> No
     """The node, after its file was found to be one of the log."""
     def logs() -> Log:
         return Log(serving.members, serving.log, serving.first)
-    note = await store.note()
-    agreed = await logs().agreed(None)
-    if note.log != agreed.log:
-        raise WrongLog(f"{serving.file} is of the log {note.log}, and {serving.log} is {agreed.log}")
+    agreed, nodes = await logs().agreed(None), await logs().nodes(None)
+    stored = await store.place(agreed)
     if store.status["capacity"] < agreed.capacity:
         raise JpstoreError(f"{serving.file} has halves of {store.status['capacity']:,} bytes, and the nodes have "
                            f"agreed on {agreed.capacity:,} at least: make the store in a larger file by `replica join`")
-    # Every node numbers the changes in the same way, so a watcher may go on at another one.
-    history = History(store.status["seq"], name=note.log)
-    judge = judge_of(serving.file, serving.program)
-    applier = Applier(store, note, judge, Reckoning(agreed.capacity), history)
-    return Node(settings, store, applier, room_of(agreed.capacity), history, logs)
+    place = furthest(stored or begin_of(agreed), nodes.get(settings.node, {}), agreed.log, store.status["seq"])
+    applier = Applier(store, agreed, stored, place, judge_of(serving.program))
+    return Node(settings, store, applier, room_of(agreed.capacity), logs)
 
 
 async def _run(serving: Serving, settings: Settings, store: ReplicaStore) -> None:
@@ -95,8 +91,8 @@ async def _run(serving: Serving, settings: Settings, store: ReplicaStore) -> Non
 
     async def begun() -> None:
         await sockets.open()
-        note = f"entry {node.told()['applied']}"
-        announce(f"{serving.file} is served as node {settings.node} at {serving.socket}, from {note} on")
+        place = f"entry {node.told()['applied']}"
+        announce(f"{serving.file} is served as node {settings.node} at {serving.socket}, from {place} on")
     try:
         await node.run(begun)
     finally:

@@ -1,18 +1,20 @@
 """The program under a node, and what its replies mean."""
+import hashlib
 import json
-import os
 from asyncio.subprocess import Process
-from typing import Any, AsyncIterator, Dict, List, Optional, Sequence, Tuple
+from typing import Any, Dict, List, Optional, Sequence, Tuple
 
 from ..errors import Ended, JpstoreError
 from ..wire import commands
 from ..wire.commands import LIST, SNAPSHOT, STATUS, line_of
 from ..wire.limits import MOST_GROUP
 from ..wire.program import find_program, serve_words, version_of
-from ..wire.replies import REFUSED, text_in, without_document
+from ..wire.replies import REFUSED, text_in
 from ..wire.spawn import ended_serving, opened_serving
 from ..wire.store_file import format_of
-from .note import NAME, Note, note_in
+from .errors import Changed, WrongLog
+from .log import Agreed
+from .place import MOST_VERSION, Place, key_of, place_in
 
 __all__ = ["Faulty", "ReplicaStore", "judge_of"]
 
@@ -20,18 +22,20 @@ __all__ = ["Faulty", "ReplicaStore", "judge_of"]
 # change, and that of an entry as a whole (65), which the reckoning leaves to none.
 _FAULTS = (60, 61, 62, 63, 64, 65)
 
+# How many letters the digest of a long version has.
+_DIGEST = 16
+
 
 class Faulty(JpstoreError):
     """The store of this node had a fault of its own. What it has done is whole, and a new start may go on."""
 
 
-def judge_of(file: str, program: Optional[str]) -> str:
-    """By what the changes of a store are judged: the version of the program, and the format if it is over 2.
-
-    Only stores of format 3 read some keywords of schemas. So files of two formats would differ after the same log.
-    """
-    version, number = version_of(find_program(program)), format_of(file)
-    return version if number == 2 else f"{version}, format {number}"
+def judge_of(program: Optional[str]) -> str:
+    """By what the changes of a store are judged: the version of the program, if need be with a digest of its rest."""
+    version = version_of(find_program(program)).encode("ascii", "replace")
+    if len(version) > MOST_VERSION:
+        version = version[:MOST_VERSION - _DIGEST] + hashlib.sha256(version).hexdigest()[:_DIGEST].encode()
+    return version.decode()
 
 
 class ReplicaStore:
@@ -48,6 +52,9 @@ class ReplicaStore:
     @classmethod
     async def open(cls, file: str, program: Optional[str], pump: int = 0, wait: float = 0) -> "ReplicaStore":
         """Starts the program. `Ended` if it can't open the file."""
+        if format_of(file) != 3:
+            raise JpstoreError(f"{file} is of format 2, and nodes keep their place in format 3 alone: bring it to that "
+                               "by `jpstore upgrade`")
         path = find_program(program)
         words = serve_words(path, file, MOST_GROUP, pump)
         store = cls(file, words, await opened_serving(words, wait))
@@ -86,10 +93,30 @@ class ReplicaStore:
             raise Faulty("the program under this node ended")
         return reply
 
-    async def note(self) -> Note:
-        """The place of the store. `Changed` if somebody else changed it."""
-        rev, value = await self.ask([line_of(commands.rev(NAME)), line_of(commands.get(NAME))])
-        return note_in(json.loads(rev), json.loads(value), self.status)
+    async def place(self, agreed: Agreed) -> Optional[Place]:
+        """The place that is stored; None if the store is the first state of the log.
+
+        `WrongLog` if it is no store of this log, and `Changed` if somebody else changed it.
+        """
+        reply, = await self.ask([line_of(commands.mark_of(key_of(agreed.log)))])
+        told = json.loads(reply)
+        if told["mark"] is None:
+            if await self.digest() != agreed.digest:
+                raise WrongLog(f"{self.file} is of no node of the log {agreed.log}: make it by `replica join`")
+            return None
+        if told["seq"] != self.status["seq"]:
+            raise Changed(f"{self.status['seq'] - told['seq']} changes were made to the file beside the log, by "
+                          "somebody else: make it anew by `replica join`")
+        return place_in(told["mark"])
+
+    async def digest(self) -> str:
+        """A digest of all documents, their schemas, order and revisions, of the number of changes, and of the room that
+        all takes with clients' marks."""
+        made = hashlib.sha256(b"%d %d\n" % (await self.snapshot_length(), self.status["seq"]))
+        for name, rev in await self.revisions():
+            doc, schema = await self.exchange([line_of(commands.get(name)), line_of(commands.get_schema(name))])
+            made.update(b"%b %d\n%b%b" % (name.encode(), rev, doc, schema))
+        return made.hexdigest()
 
     async def snapshot_length(self) -> int:
         """Makes a snapshot, and returns its length: that of all documents, the same at every node."""
@@ -110,17 +137,3 @@ class ReplicaStore:
         names: List[str] = json.loads(listed)["names"]
         replies = await self.exchange([line_of(commands.rev(name)) for name in names])
         return [(name, json.loads(reply)["rev"]) for name, reply in zip(names, replies)]
-
-    async def shown(self, lines: Sequence[bytes]) -> List[bytes]:
-        """The replies to questions, without the note."""
-        return [without_document(reply, NAME) for reply in await self.exchange(lines)]
-
-    async def questions(self, lines: Sequence[bytes]) -> AsyncIterator[bytes]:
-        """The replies to questions, without the note, one after another."""
-        for reply in await self.shown(lines):
-            yield reply
-
-    @property
-    def inode(self) -> int:
-        """The file, as the system numbers it."""
-        return os.stat(self.file).st_ino

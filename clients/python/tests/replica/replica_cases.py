@@ -17,7 +17,7 @@ from jpstore.replica.engine import Engine, members_in, packed
 from jpstore.replica.log import Log
 from jpstore.replica.capacity import room_of
 from replica_check import played, state_of
-from replicas import FORMAT, LOG, NODES, Members, Replicas, crashing_program
+from replicas import LOG, NODES, Members, Replicas, crashing_program
 from support import PATIENCE, raised
 
 SECTORS, CAPACITY = (4096, 4096, 8192), 1_000_000
@@ -63,7 +63,7 @@ def entries_of(nodes):
 async def read_entries(nodes):
     log = Log(members_in(nodes.members.endpoints), LOG)
     count, entries = (await log.head()).n, []
-    async for entry in log.watch().entries(0, 0, ""):
+    async for entry in log.watch().entries():
         entries.append(entry)
         if len(entries) == count:
             return entries
@@ -149,17 +149,44 @@ def odd_lines(folder, program):
         assert head(nodes) == 1 and nodes.ask("a", {"cmd": "list"}) == [{"names": ["x"], "ok": True}]
 
 
-def hidden_note(folder, program):
-    """The note's document is no client's: it isn't listed, counted, read, changed or dumped."""
-    with cluster(folder, program) as nodes:
-        replies = nodes.ask("b", {"cmd": "list"}, {"cmd": "get", "name": "_log", "path": ""}, delete("_log"),
-                            several(create("x"), put("_log", 1)), create("x"), {"cmd": "status"}, local=False)
-        assert replies[0]["names"] == [] and [reply.get("number") for reply in replies[1:4]] == [15, 15, 15]
-        assert replies[3]["change"] == 1 and replies[5]["documents"] == 1
-        environment, socket_path = nodes.environment(), nodes.socket("b")
-        words = [sys.executable, "-m", "jpstore"]
-        dumped = subprocess.check_output([*words, "dump", socket_path], env=environment)
-        assert dumped.startswith(b'{"cmd":"create","doc":0,"name":"x","schema":true}\n{"end":true,"lines":1,'), dumped
+def one_number_a_change(folder, program):
+    """Each accepted change counts one, and nothing else does: no refused line, no comparing, and no new start."""
+    with cluster(folder, program, options=("--compare", "0.5")) as nodes:
+        assert nodes.ask("a", create("_log"), create("_log"), several(put("_log", 1), create("x")))[2]["seq"] == 3
+        assert nodes.ask("b", create("x"), delete("y"), local=False)[1]["number"] == 21
+        for node in NODES:
+            nodes.kill(node)
+            nodes.start(node)
+        rows, seq = are_same(nodes)
+        assert [row[:2] for row in rows] == [["_log", 2], ["x", 3]] and seq == 3, (rows, seq)
+        assert nodes.ask("c", put("x", 2))[0]["seq"] == 4
+        are_same(nodes)
+        words = [sys.executable, "-m", "jpstore", "dump", nodes.socket("b")]
+        dumped = subprocess.check_output(words, env=nodes.environment()).splitlines()
+        assert [json.loads(line).get("name") for line in dumped] == ["_log", "x", None], dumped
+
+
+def trimmed_without_changes(folder, program):
+    """What changes nothing is trimmed too: a node and a new one go on after it, though no store has it."""
+    with cluster(folder, program, options=("--compare", "0.3")) as nodes:
+        nodes.ask("a", create("x", 0))
+        states(nodes)
+        stored = entries_of(nodes)[0].r
+        time.sleep(3)
+        nodes.ask("b", create("x", 1))
+        states(nodes)
+        time.sleep(1.5)
+        until = json.loads(nodes.run("trim", "--json"))["revision"]
+        assert until > stored, (until, stored)
+        for node in NODES:
+            nodes.kill(node)
+            nodes.start(node)
+        nodes.wait("a")
+        nodes.run("join", nodes.file("d"), "--node", "d", "--from", nodes.socket("a"))
+        nodes.start("d")
+        nodes.wait("d")
+        assert nodes.ask("d", put("x", 2))[0]["seq"] == 2
+        are_same(nodes, "abcd")
 
 
 def clients_of_all_kinds(folder, program):
@@ -174,7 +201,7 @@ def clients_of_all_kinds(folder, program):
         assert subprocess.check_output([*words, "get", nodes.socket("c"), "d", "/v"], env=environment) == b"2\n"
         with Store.connect(nodes.socket("b")) as store:
             assert store.get("d") == {"v": 2}
-            # Nodes have no marks yet.
+            # Nodes take no marks of clients.
             assert "this store has no marks" in str(raised(JpstoreError, store.once, "key", [put("d", {"v": 3})]))
             assert store.update("d", lambda _: [{"op": "add", "path": "/w", "value": 4}]) and store.get("d", "/w") == 4
             assert store.snapshot() > 0
@@ -301,10 +328,11 @@ def trimmed_log(folder, program):
         nodes.start("c")
         assert nodes.ended("c") == 12 and "trimmed" in nodes.output("c")
         os.unlink(nodes.file("c"))
-        nodes.run("join", nodes.file("c"), "--node", "c", "--from", nodes.socket("a"), "--sectors", "5000")
+        with between(nodes, "a", lambda: trimmed_meanwhile(nodes)) as source:
+            nodes.run("join", nodes.file("c"), "--node", "c", "--from", source, "--sectors", "5000")
         nodes.ask("a", put("x", "after the copy"))
         time.sleep(1.5)
-        assert "nothing" in nodes.run("trim"), "the log is kept for a node that is being made"
+        nodes.run("trim")
         nodes.start("c")
         are_same(nodes)
         # A fourth node.
@@ -313,6 +341,39 @@ def trimmed_log(folder, program):
         nodes.wait("d")
         nodes.ask("d", create("four", 4))
         are_same(nodes, "abcd")
+
+
+def trimmed_meanwhile(nodes):
+    nodes.ask("a", put("x", "before the copy"))
+    time.sleep(1.5)
+    assert "nothing" in nodes.run("trim"), "the log is kept for a node that is being made"
+
+
+@contextlib.contextmanager
+def between(nodes, node, do):
+    """A socket to that of a node, at which something is done before the first client is handed on."""
+    path, failed = f"{nodes.folder}/between", []
+
+    def hand_on(listening):
+        client, _ = listening.accept()
+        with client, socket.socket(socket.AF_UNIX) as other:
+            try:
+                do()
+            except AssertionError as error:
+                failed.append(error)
+            other.connect(nodes.socket(node))
+            other.sendall(client.recv(1 << 16))
+            other.shutdown(socket.SHUT_WR)
+            for piece in iter(lambda: other.recv(1 << 16), b""):
+                client.sendall(piece)
+    with socket.socket(socket.AF_UNIX) as listening:
+        listening.bind(path)
+        listening.listen()
+        handing = threading.Thread(target=hand_on, args=(listening,))
+        handing.start()
+        yield path
+        handing.join()
+    assert not failed, failed
 
 
 def foreign_changes(folder, program):
@@ -326,20 +387,38 @@ def foreign_changes(folder, program):
         assert nodes.ended("c") == 12 and "somebody else" in nodes.output("c")
         nodes.start("c")
         assert nodes.ended("c") == 12
-        nodes.format("e", 4096)
-        nodes.start("e")
-        assert nodes.ended("e") == 12 and "of no node" in nodes.output("e")
+        # As many changes as one that is at the place of the others, and as the first state, have.
+        for name, changes in (("e", [create("x", 0)]), ("f", [create("x", 0), delete("x")])):
+            nodes.format(name, 4096)
+            served(program, nodes.file(name), *changes)
+            nodes.start(name)
+            assert nodes.ended(name) == 12 and "of no node" in nodes.output(name)
         assert "exists already" in nodes.run("init", nodes.file("e"), status=1)
-        engine = Engine(members_in(nodes.members.endpoints))
-        agreed = {"log": "another", "capacity": CAPACITY, "digest": ""}
-        value = packed(json.dumps(agreed).encode())
-        asyncio.run(engine.call("/kv/put", {"key": packed(f"{LOG}/agreed".encode()), "value": value}))
-        nodes.stop("b")
-        nodes.start("b")
-        assert nodes.ended("b") == 12 and "is of the log" in nodes.output("b")
+        for more, told in (({"version": "1"}, "of no node of the log another"), ({}, "log of older nodes: stop all")):
+            agreed = {"log": "another", "capacity": CAPACITY, "digest": "", **more}
+            value = packed(json.dumps(agreed).encode())
+            engine = Engine(members_in(nodes.members.endpoints))
+            asyncio.run(engine.call("/kv/put", {"key": packed(f"{LOG}/agreed".encode()), "value": value}))
+            nodes.kill("b")
+            nodes.start("b")
+            assert nodes.ended("b") == 12 and told in nodes.output("b")
         engine = Engine(members_in(nodes.members.endpoints))
         asyncio.run(engine.call("/kv/deleterange", {"key": packed(f"{LOG}/log".encode())}))
         assert nodes.ended("a") == 12
+
+
+def unfit_files(folder, program):
+    """Files of format 2 and those of older nodes are refused, with what to do."""
+    with cluster(folder, program) as nodes:
+        nodes.format("e", 4096, 2)
+        nodes.start("e")
+        assert nodes.ended("e") == 1
+        for told in (nodes.output("e"), nodes.run("init", nodes.file("e"), status=1)):
+            assert "format 2" in told and "`jpstore upgrade`" in told, told
+        note = {"chain": "", "entry": 0, "id": "", "log": "0", "next": -1, "out": [], "revision": 0, "version": "1"}
+        served(program, nodes.file("e"), create("_log", note))
+        subprocess.run([program, "upgrade", nodes.file("e")], check=True, stdout=subprocess.DEVNULL)
+        assert "delete the document `_log`" in nodes.run("init", nodes.file("e"), status=1)
 
 
 def older_log(folder, program):
@@ -432,7 +511,7 @@ def full_store(folder, program):
     capacity = 66_000
     room = room_of(capacity)
     # The first file has little more room than that.
-    with cluster(folder, program, ({2: 300, 3: 416}[FORMAT[0]], 600, 4096), capacity) as nodes:
+    with cluster(folder, program, (416, 600, 4096), capacity) as nodes:
         text, made = "x" * 3000, 0
         replies = nodes.ask("a", *[create(f"n{number}", text) for number in range(30)])
         made = sum(reply["ok"] for reply in replies)
@@ -572,24 +651,27 @@ def without_majority(folder, program):
 
 def differing_nodes(folder, program):
     """A node that has other documents than the others finds that by comparing, and does not start again."""
-    # Another order of the same documents, with the note as it was: a fault of a disk or of a program.
-    found_by_comparing(folder, program, rb'"name":"x"', b'"name":"w"')
+    found_by_comparing(folder, program, "w", lambda place: place)
 
 
 def differing_entries(folder, program):
     """A node that has done other entries than the others finds that by comparing, though its documents are the same."""
-    found_by_comparing(folder, program, rb'"chain":"[0-9a-f]{32}"', b'"chain":"' + b"0" * 32 + b'"')
+    found_by_comparing(folder, program, "x", lambda place: re.sub(" [0-9a-f]{16} ", " " + "0" * 16 + " ", place))
 
 
-def found_by_comparing(folder, program, old, new):
-    """A node whose file has something else finds that by comparing."""
+def found_by_comparing(folder, program, name, changed):
+    """A node whose file has something else, by a fault of a disk or of a program, finds that by comparing."""
     with cluster(folder, program) as nodes:
         nodes.ask("a", create("x", {"v": 1}), create("y", 1))
         states(nodes)
+        key = "log-" + json.loads(nodes.run("status", "--json"))["log"]
+        place = nodes.ask("c", {"cmd": "mark", "key": key})[0]["mark"]
         for node in NODES:
             nodes.stop(node)
-        with in_format_2(nodes, "c"):
-            changed_file(nodes.file("c"), old, new)
+        os.unlink(nodes.file("c"))
+        nodes.format("c", 4096)
+        served(program, nodes.file("c"), create(name, {"v": 1}),
+               {**create("y", 1), "mark": {"key": key, "value": changed(place)}})
         for node in NODES:
             nodes.start(node, "--compare", "1")
         assert nodes.ended("c") == 12, nodes.output("c")
@@ -597,27 +679,6 @@ def found_by_comparing(folder, program, old, new):
         assert [nodes.processes[node].poll() for node in "ab"] == [None, None]
         nodes.start("c")
         assert nodes.ended("c") == 12 and "has left the log" in nodes.output("c")
-
-
-@contextlib.contextmanager
-def in_format_2(nodes, node):
-    """A node's file is in format 2 meanwhile: in format 3 its bytes have checksums."""
-    words = [nodes.program, "upgrade", nodes.file(node), "--format"]
-    number = FORMAT[0]
-    if number != 2:
-        subprocess.run([*words, "2"], check=True, stdout=subprocess.DEVNULL)
-    yield
-    if number != 2:
-        subprocess.run([*words, str(number)], check=True, stdout=subprocess.DEVNULL)
-
-
-def changed_file(path, old, new):
-    """Changes bytes of a file, as a disk may that breaks its promises."""
-    with open(path, "rb+") as file:
-        text, count = re.subn(old, new, file.read())
-        assert count
-        file.seek(0)
-        file.write(text)
 
 
 def other_version(folder, program):
@@ -631,42 +692,28 @@ def other_version(folder, program):
         states(nodes)
         nodes.stop("c")
         nodes.ask("a", put("x", 2))
+        # What is refused is judged by the older version too, though nothing of it is stored.
+        nodes.ask("b", create("x", 3))
         nodes.start("c", program=script)
         assert nodes.ended("c") == 1 and "is for jpstore" in nodes.output("c"), nodes.output("c")
         nodes.start("c")
         states(nodes)
+        time.sleep(1.5)
         nodes.stop("c")
         nodes.start("c", program=script)
         nodes.wait("c")
         for node in "ab":
             assert nodes.ended(node) == 1 and "is for jpstore 99" in nodes.output(node)
             nodes.start(node, program=script)
-        for node in NODES:
-            nodes.wait(node)
+        for _ in range(2):
+            states(nodes)
+            time.sleep(1.5)
+            for node in NODES:
+                nodes.kill(node)
+                nodes.start(node, program=script)
+        states(nodes)
         assert nodes.ask("b", put("x", 3))[0]["ok"]
         are_same(nodes)
-
-
-def other_format(folder, program):
-    """A node whose file has another format tells the log so, the others end until theirs have it."""
-    FORMAT[0] = 2
-    with cluster(folder, program) as nodes:
-        newer = create("y", "a", {"pattern": "^a"})
-        assert nodes.ask("a", create("x", 1), newer)[1]["number"] == 41
-        states(nodes)
-        nodes.stop("c")
-        _bring_to_format_3(nodes, "c")
-        for node in "ab":
-            assert nodes.ended(node) == 1 and ", format 3" in nodes.output(node), nodes.output(node)
-            _bring_to_format_3(nodes, node)
-        assert nodes.ask("b", newer)[0]["ok"]
-        are_same(nodes)
-
-
-def _bring_to_format_3(nodes, node):
-    subprocess.run([nodes.program, "upgrade", nodes.file(node)], check=True, stdout=subprocess.DEVNULL)
-    nodes.start(node)
-    nodes.wait(node)
 
 
 def begun_with_documents(folder, program):
@@ -676,7 +723,8 @@ def begun_with_documents(folder, program):
         members.start_all()
         nodes = Replicas(folder, program, members, None, ["--compare", "100000"])
         nodes.format("a", 4096)
-        served(program, nodes.file("a"), create("x", [1]), create("y", {"v": 2}), put("x", [3]))
+        mark = {"key": "k", "value": "v" * 99}
+        served(program, nodes.file("a"), create("x", [1]), {**create("y", {"v": 2}), "mark": mark}, put("x", [3]))
         nodes.run("init", nodes.file("a"))
         # It may be called again, as after a stop in its midst.
         nodes.run("init", nodes.file("a"))
@@ -688,7 +736,8 @@ def begun_with_documents(folder, program):
         nodes.wait("b"), nodes.wait("c")
         nodes.ask("b", put("y", 5, if_rev=2))
         state = are_same(nodes)
-        assert [row[:3] for row in state[0]] == [["x", 3, [3]], ["y", 5, 5]], state
+        assert [row[:3] for row in state[0]] == [["x", 3, [3]], ["y", 4, 5]], state
+        assert nodes.ask("c", {"cmd": "mark", "key": "k"}) == [{"mark": "v" * 99, "ok": True, "seq": 2}]
         members_of_too_small_a_file(nodes)
     finally:
         if nodes:
@@ -756,12 +805,8 @@ def stopped_node(folder, program):
 
 
 CASES = [(case.__doc__.partition("\n")[0].rstrip("."), case) for case in (
-    refusals_in_one_entry, odd_lines, hidden_note, clients_of_all_kinds, one_order_in_a_connection,
-    reads_at_another_node, lost_answers, late_append_of_a_killed_node, trimmed_log, foreign_changes, older_log,
-    put_back_log, full_store, heavy_entries, stopped_line_by_line, without_space, without_majority, differing_nodes,
-    differing_entries, other_version, other_format, begun_with_documents, with_tls, stopped_node)]
-
-# The cases that run once more with the other format for each file: files are handed on, written anew, filled, or left
-# by a stop.
-IN_BOTH_FORMATS = {case.__doc__.partition("\n")[0].rstrip(".") for case in (
-    trimmed_log, full_store, stopped_line_by_line, begun_with_documents)}
+    refusals_in_one_entry, odd_lines, one_number_a_change, clients_of_all_kinds, one_order_in_a_connection,
+    reads_at_another_node, lost_answers, late_append_of_a_killed_node, trimmed_log, trimmed_without_changes,
+    foreign_changes, unfit_files, older_log, put_back_log, full_store, heavy_entries, stopped_line_by_line,
+    without_space, without_majority, differing_nodes, differing_entries, other_version, begun_with_documents, with_tls,
+    stopped_node)]

@@ -13,9 +13,6 @@ import json
 import re
 import subprocess
 
-# How many lines of an entry are refused before a node does the rest line by line, as docs/use/REPLICATED.md has it.
-MOST_REFUSED = 3
-
 ID = re.compile(r"#\d+-\d+")
 NOWHERE = 1 << 60
 
@@ -43,35 +40,15 @@ def played(program, entries):
     """What one program answers to each line of the log, and what it has in the end."""
     alone = Alone(program)
     try:
-        assert alone.ask({"cmd": "create", "name": "_log", "doc": 0, "schema": True})["ok"]
-        replies = [_played_entry(alone, lines) for lines in entries]
-        return replies, state_of(alone.ask)
+        return [[alone.ask(line) for line in lines] for lines in entries], state_of(alone.ask)
     finally:
         alone.close()
 
 
-def _played_entry(alone, lines):
-    note = {"cmd": "patch", "name": "_log", "ops": []}
-    replies, refused = [], 0
-    for line in lines:
-        replies.append(alone.ask(line))
-        refused += not replies[-1]["ok"]
-        alone_now = refused > MOST_REFUSED or refused == MOST_REFUSED and replies[-1]["ok"]
-        # The note that the rest is done line by line, and then one with each line that is accepted.
-        if refused == MOST_REFUSED and not replies[-1]["ok"] or alone_now and replies[-1]["ok"]:
-            assert alone.ask(note)["ok"]
-    assert alone.ask(note)["ok"]
-    return replies
-
-
 def state_of(ask):
-    """All documents but the note, in order, with revisions and schemas, and the number of changes."""
-    rows = []
-    for name in ask({"cmd": "list"})["names"]:
-        if name != "_log":
-            rows.append([name, ask({"cmd": "rev", "name": name})["rev"],
-                         ask({"cmd": "get", "name": name, "path": ""})["value"],
-                         ask({"cmd": "get-schema", "name": name})["value"]])
+    """All documents, in order, with revisions and schemas, and the number of changes."""
+    rows = [[name, ask({"cmd": "rev", "name": name})["rev"], ask({"cmd": "get", "name": name, "path": ""})["value"],
+             ask({"cmd": "get-schema", "name": name})["value"]] for name in ask({"cmd": "list"})["names"]]
     return [rows, ask({"cmd": "status"})["seq"]]
 
 

@@ -13,9 +13,6 @@ from support import PACKAGE, PATIENCE
 
 LOG = "test"
 
-# The format of the nodes' files.
-FORMAT = [2]
-
 # The folder of the package that nodes run; a wrong one takes its place.
 DEFAULT_PACKAGE = PACKAGE
 NODES = "abc"
@@ -178,11 +175,9 @@ class Replicas:
     def environment(self):
         return {**os.environ, "PYTHONPATH": self._package}
 
-    def format(self, node, sectors):
-        self._run_program("format", self.file(node), "--sectors", str(sectors), "--format", str(FORMAT[0]))
-
-    def _run_program(self, *words):
-        subprocess.run([self.program, *words], check=True, stdout=subprocess.DEVNULL)
+    def format(self, node, sectors, number=3):
+        words = [self.program, "format", self.file(node), "--sectors", str(sectors), "--format", str(number)]
+        subprocess.run(words, check=True, stdout=subprocess.DEVNULL)
 
     def make(self, sectors, capacity):
         """The first nodes: the first by `init`, the others from its file in files of other sizes, so that they make
@@ -255,7 +250,7 @@ class Replicas:
                 raise AssertionError(f"node {node} does not get to entry {n}:\n{self.output(node)[-2000:]}")
             time.sleep(0.02)
 
-    def ended(self, node, seconds=15):
+    def ended(self, node, seconds=45):
         """The status with which a node ends by itself."""
         return self.processes[node].wait(seconds)
 

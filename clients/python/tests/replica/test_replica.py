@@ -13,6 +13,7 @@ from jpstore.replica.line_reader import MOST_TEXT, read_line
 from jpstore.replica.capacity import LEAST_CAPACITY, Need, Reckoning, room_of
 from jpstore.replica.tasks import end_tasks
 from jpstore.wire.forms import Kind
+from jpstore.wire.store_frames import MOST_MARK
 from replica_check import Alone
 from replica_wrong import WRONG
 from support import raised
@@ -129,7 +130,8 @@ def test_no_change_adds_more_to_a_snapshot_than_is_reckoned(place):
 def test_a_store_of_the_agreed_capacity_has_room():
     for capacity in (LEAST_CAPACITY, 100_000, 1 << 20, 1 << 24):
         room = room_of(capacity)
-        assert room.documents + room.changes <= capacity - 16_384
+        # The mark of a transaction, and by how much that of a snapshot is longer than the one before.
+        assert room.documents + room.changes <= capacity - 2 * 253
         assert room.documents > 0 and room.changes > 0
 
 
@@ -139,11 +141,29 @@ def test_a_bound_that_does_not_decide_is_measured():
     assert raised(Need, reckoning.verdict, [line]).total
 
 
+def test_a_bound_that_a_longer_mark_could_pass_is_measured():
+    reckoning, room = Reckoning(LEAST_CAPACITY), room_of(LEAST_CAPACITY).documents
+    line = {"cmd": "create", "doc": "", "name": "x", "schema": True}
+    less = line_in(read_line(json.dumps(line).encode() + b"\n").text)
+    for room_left in (MOST_MARK, MOST_MARK - 1):
+        asyncio.run(reckoning.measure(Need(True, set()), Measured(room - 2 * less.growth - room_left)))
+        # It fits by what was measured.
+        assert reckoning.verdict([less, less]) == ({}, True)
+        reckoning.count([less])
+        if room_left == MOST_MARK:
+            assert reckoning.verdict([less]) == ({}, True)
+        else:
+            assert raised(Need, reckoning.verdict, [less]).total
+
+
 class Measured:
     """A store whose documents have 1,000 bytes each."""
 
+    def __init__(self, length=0):
+        self._length = length
+
     async def snapshot_length(self):
-        return 0
+        return self._length
 
     async def lengths(self, names):
         return {name: 1000 for name in names}
@@ -169,9 +189,9 @@ def test_lines_weigh_what_they_may_copy():
     # Copies of 1,000 bytes at most, and elements that go from lists of fewer than 500.
     assert verdict_of(together(*[patch(f"d{number}", copy) for number in range(1000)])) == ({}, True)
     assert verdict_of(together(*[patch(f"d{number}", *[take] * 30) for number in range(500)])) == ({}, True)
-    # Each may be doubled up to 1 MiB: 31 of them weigh 31 MiB, and 32 do not fit.
-    often = [patch(f"d{number}", *[copy] * 20) for number in range(32)]
-    assert verdict_of(*often[:31]) == ({}, True)
+    # Each may be doubled up to 1 MiB: 32 of them weigh 32 MiB, and 33 do not fit.
+    often = [patch(f"d{number}", *[copy] * 20) for number in range(33)]
+    assert verdict_of(*often[:32]) == ({}, True)
     assert verdict_of(*often) == ({}, False)
     assert verdict_of(together(*often), patch("e")) == ({0: 65}, True)
 
