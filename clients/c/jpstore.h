@@ -162,6 +162,9 @@ typedef struct jpstore_cause {
     int change;       /* the change of a transaction that is at fault, counted from 0; -1 if none is */
     int op;           /* the operation of a patch that is at fault, counted from 0; -1 if none is */
     uint64_t rev;     /* with JPSTORE_REFUSAL_REVISION the document's revision; else 0 */
+    const char *mark; /* with JPSTORE_REFUSAL_MARK the value of the present mark, a text of the store's; NULL if there is none */
+    size_t mark_length;
+    uint64_t mark_seq; /* with a mark the number of the last change made with it; else 0 */
     uint64_t reserved[2];
 } jpstore_cause;
 
@@ -267,6 +270,19 @@ int jpstore_list(jpstore *store, const char **names, size_t *length, jpstore_cau
 /* The revision of a document: the seq of the last creation, patch or schema of it. */
 int jpstore_rev(jpstore *store, const char *name, uint64_t *rev, jpstore_cause *cause);
 
+/* The mark of a key, in format 3: its value, and the number of the last change made with it; NULL and 0 if there is none. The value
+ * may have a character 0, if it was set by a line. */
+int jpstore_mark(jpstore *store, const char *key, const char **value, size_t *length, uint64_t *seq, jpstore_cause *cause);
+
+/* The transactions after the change `since`, the first max_bytes of them, 1 to 4194304, and one at least: a JSON list of
+ * {"changes":[..],"first":SEQ,"last":SEQ}, with a mark also "mark":{"key":KEY,"value":TEXT}, in order. An empty one says that
+ * nothing is newer. Ask next from the last "last".
+ *
+ * *transactions is NULL if the store doesn't know all of them. *from is then the lowest number from which it does, else 0: read the
+ * documents anew. */
+int jpstore_changes(jpstore *store, uint64_t since, uint64_t max_bytes, const char **transactions, size_t *length, uint64_t *from,
+                    jpstore_cause *cause);
+
 /* What the store tells of itself. */
 int jpstore_status(jpstore *store, jpstore_state *state, jpstore_cause *cause);
 
@@ -297,6 +313,15 @@ enum jpstore_change_kind {
     JPSTORE_TRANSACTION = 5 /* changes, changes_count */
 };
 
+/* A mark that is set with a change or a transaction, in format 3. Set all of it to 0 and then what you want. */
+typedef struct jpstore_marking {
+    const char *key;   /* which has the form of a name */
+    const char *value; /* at most 128 bytes */
+    int if_mark;       /* 1: the key must have the mark `before`, or none if that is NULL */
+    const char *before;
+    uint64_t reserved[2]; /* another number than 0 is answered JPSTORE_ARGUMENTS */
+} jpstore_marking;
+
 /* A change. Set all of it to 0 and then what its kind has. */
 typedef struct jpstore_change {
     int kind;
@@ -305,10 +330,15 @@ typedef struct jpstore_change {
     const char *name, *doc, *ops, *schema;
     const struct jpstore_change *changes;
     size_t changes_count;
+    const jpstore_marking *mark; /* what is set with it, or NULL; a change in a transaction has none */
     uint64_t reserved[4]; /* another number than 0 is answered JPSTORE_ARGUMENTS */
 } jpstore_change;
 
-/* Makes one change of any kind. */
+/* Makes one change of any kind.
+ *
+ * Its mark is set with it, or neither is. If the key has another mark than the one that is asked for: JPSTORE_REFUSED with
+ * JPSTORE_REFUSAL_MARK, and cause->mark. So a change whose answer was lost may be sent again: it was made if the present mark is its
+ * own. Format 2 refuses marks (JPSTORE_REFUSAL_COMMAND), and so does each format a value over 128 bytes. */
 int jpstore_apply(jpstore *store, const jpstore_change *change, uint64_t *seq, jpstore_cause *cause);
 
 /* Makes 1 to 1,024 changes, all or none, each judged after those before it. *seq is that of the last; cause->change tells which one
@@ -343,7 +373,7 @@ enum jpstore_step {
  * jpstore_step, *written how many it wrote. */
 int jpstore_pump(jpstore *store, uint64_t sectors, int *step, uint64_t *written, jpstore_cause *cause);
 
-/* Lines: what the program reads and writes. Marks are set and read by them alone. */
+/* Lines: what the program reads and writes. */
 
 /* Gives the store the next length bytes of its input: one line, many, or a part of one. Each line ends with LF. OWNED.
  *

@@ -4,8 +4,8 @@
     test_embedded.py PROGRAM [--long] [--object FILE] [--unproved] [--only WORD]
 
 PROGRAM is the built `jpstore`. The object is that of the gate, as `clients/c/build` has it; --object names another one for
-tests, and --unproved takes one that wasn't proved. --long kills the host 200 times and not 20, feeds every case of
-`stack.py`, and looks for races. What a machine lacks (Debian's rustc, valgrind, Python's headers) is installed from Debian's
+tests, and --unproved takes one that wasn't proved. --long kills the host 200 times and not 20, counts to 720 and not
+to 120, feeds every case of `stack.py`, and looks for races. What a machine lacks (Debian's rustc, valgrind, Python's headers) is installed from Debian's
 packages if this user may do so, and else fails. The last line is `N passed, M failed`.
 """
 import argparse
@@ -35,8 +35,8 @@ RUST_CLIENT = os.path.join(TOP, "clients", "rust")
 PAGE = os.path.join(TOP, "docs", "use", "EMBEDDING.md")
 
 STRICT = ["-std=c11", "-g", "-Wall", "-Wextra", "-Wconversion", "-Werror"]
-CALLS = ["apply", "check", "copy", "copy_in", "create", "delete", "fault_text", "feed", "finish", "format", "free", "get", "group", "list", "open",
-         "open_memory", "patch", "patch_if", "pump", "query", "refusal_name", "rev", "schema", "set_schema", "snapshot", "status",
+CALLS = ["apply", "changes", "check", "copy", "copy_in", "create", "delete", "fault_text", "feed", "finish", "format", "free", "get", "group", "list", "mark",
+         "open", "open_memory", "patch", "patch_if", "pump", "query", "refusal_name", "rev", "schema", "set_schema", "snapshot", "status",
          "system_error", "transaction", "upgrade", "version", "version_number"]
 
 # The functions that a test gives in the C library's place.
@@ -50,7 +50,7 @@ WANTED = {"cc": "gcc", "valgrind": "valgrind", "/usr/bin/cargo": "cargo", "/usr/
 # Debian's rustc, whatever comes before it on PATH: the oldest that the crates are for.
 DEBIAN_RUST = {"RUSTC": "/usr/bin/rustc", "RUSTDOC": "/usr/bin/rustdoc", "PATH": "/usr/bin:/bin"}
 
-SERDE_JSON = "/usr/share/cargo/registry/serde_json-1*"
+WANTED_CRATES = {"serde_json-1*": "librust-serde-json-dev", "sha2-0.10*": "librust-sha2-dev"}
 DEBIAN_CRATES = """[source.crates-io]
 replace-with = "debian"
 [source.debian]
@@ -83,8 +83,7 @@ def install_missing():
     packages = [package for command, package in WANTED.items() if not shutil.which(command)]
     if not os.path.exists(os.path.join(headers_of(sys.executable), "Python.h")):
         packages.append("python3-dev")
-    if not glob.glob(SERDE_JSON):
-        packages.append("librust-serde-json-dev")
+    packages += [package for crate, package in WANTED_CRATES.items() if not glob.glob("/usr/share/cargo/registry/" + crate)]
     install(packages)
 
 
@@ -193,6 +192,9 @@ class Embedded:
     def typed_calls(self):
         self.passes("typed", self.stores)
 
+    def marks(self):
+        self.passes("marks", self.stores)
+
     def numbers(self):
         """The header's version and refusals are those of the program, and so are the versions of all that is published."""
         with open(os.path.join(EMBED, "jpstore.h")) as file:
@@ -255,13 +257,13 @@ class Embedded:
     def no_leak(self):
         """By valgrind, whose exit status says that there is a leak or of a wrong access."""
         watched = ["valgrind", "-q", "--leak-check=full", "--errors-for-leak-kinds=all", "--error-exitcode=9"]
-        for test in ("calls", "typed", "disk"):
+        for test in ("calls", "typed", "marks", "disk"):
             self.passes(test, self.stores, before=watched)
 
     def sanitized(self):
         flags = "-fsanitize=address,undefined -fno-sanitize-recover=all"
         library = self.built("sanitized", flags)
-        for test in ("calls", "typed", "forks", "threads", "reasons", "disk"):
+        for test in ("calls", "typed", "marks", "forks", "threads", "reasons", "disk"):
             self.passes(test, self.stores, library=library, flags=flags.split())
 
     def no_races(self):
@@ -360,6 +362,50 @@ class Embedded:
         # The piece after the last line feed is no whole number.
         return int(lines[-2]) if len(lines) > 1 else None
 
+    def counting(self):
+        """Processes that share a file count in it, each order exactly once, though they are killed at random moments."""
+        counter = self.example(RUST_CLIENT, "target", "cargo", "counting", {})
+        share = 120 if self.words.long else 20
+        names = ["till-%d" % number for number in range(6)]
+        file = self.new_store("counted", "total", *names)
+        kills = kills_until_done({name: [counter, file, name, str(share)] for name in names})
+        print("%d counted by %d processes, over %d kills" % (share * len(names), len(names), kills))
+        if kills == 0:
+            raise Failed("no process was killed")
+        wanted = {"total": share * len(names), **dict.fromkeys(names, share)}
+        asked = [{"cmd": "get", "name": name, "path": ""} for name in wanted] + [{"cmd": "mark", "key": name} for name in names]
+        told = list(map(json.loads, run([self.program, "serve", file], given=lines_of(asked)).splitlines()))
+        same("the counts", [reply.get("value") for reply in told[:7]], list(wanted.values()))
+        same("the marks", [reply.get("mark") for reply in told[7:]], [str(share)] * len(names))
+
+    def new_store(self, name, *counters):
+        """A file of format 3, with documents that are 0."""
+        file = os.path.join(self.stores, name)
+        run([self.program, "format", file, "--sectors", "4096", "--format", "3"])
+        creations = [{"cmd": "create", "doc": 0, "name": counter, "schema": True} for counter in counters]
+        run([self.program, "serve", file], given=lines_of(creations))
+        return file
+
+    def once_in_rust_and_python(self):
+        """What one has made under a key, the other finds made."""
+        order = {"z": [-1, {}], "t": "a\x01\x7f\"\\/\né\u2028\U0001f600", "é": None, "\U0001f600": 1, "\uffff": 2 ** 63 - 1}
+        texts = [json.dumps(order), json.dumps(order, indent=1, ensure_ascii=False)]
+        made = self.example(os.path.join(RUST_CLIENT, "serde_json"), "target-debian", "/usr/bin/cargo", "once", self.debian_rust())
+        file = self.new_store("made-by-two", "total")
+        python, package = self.python_folder()
+        source = written(self.folder, "once.py", ONCE)
+        by_rust = [made, file]
+        by_python = [python, source, file]
+        for key, first, second in (("order-1", by_rust, by_python), ("order-2", by_python, by_rust)):
+            numbers = [run([*words, key, text], env={**os.environ, "PYTHONPATH": package}).decode().strip()
+                       for words, text in zip((first, second, first), (*texts, texts[0]))]
+            same(key, numbers, [{"order-1": "3", "order-2": "5"}[key]] * 3)
+
+    def example(self, crate, target, cargo, name, env):
+        """An example of a crate, built."""
+        self.cargo(crate, target, cargo, "build", ["--example", name], env)
+        return os.path.join(self.folder, target, "debug", "examples", name)
+
     def rust(self):
         self.crate_passes(RUST_CLIENT, "target", "cargo", {})
 
@@ -443,6 +489,50 @@ class Embedded:
         return [python, written(folder, "main.py", source)], {"PYTHONPATH": package}
 
 
+# What the example `once` in Rust does.
+ONCE = """import json
+import sys
+from jpstore import Store, create, patch
+
+file, key, order = sys.argv[1:]
+with Store(file, embedded=True) as store:
+    test = [{"op": "test", "path": "", "value": 0}]
+    print(store.once(key, [create(key, json.loads(order), {"type": "object"}), patch("total", test)]))
+"""
+
+
+def lines_of(commands):
+    return "".join(json.dumps(command) + "\n" for command in commands).encode()
+
+
+def kills_until_done(commands):
+    """Runs commands of these names at once, and kills one after another at random moments, until each has ended by itself.
+
+    One that was killed is run again. Answers how often that was.
+    """
+    kills, dice = 0, random.Random(time.time_ns())
+    running = {name: subprocess.Popen(words) for name, words in commands.items()}
+    try:
+        while running:
+            # Ever longer, so that it ends on a slow machine too.
+            time.sleep(dice.uniform(0.0, 0.04 * 1.01 ** kills))
+            name, process = dice.choice(list(running.items()))
+            process.kill()
+            code = process.wait()
+            if code == -signal.SIGKILL:
+                kills += 1
+                running[name] = subprocess.Popen(commands[name])
+            elif code == 0:
+                del running[name]
+            else:
+                raise Failed("%s ended with %d" % (name, code))
+    finally:
+        for process in running.values():
+            process.kill()
+            process.wait()
+    return kills
+
+
 def written(folder, name, text):
     path = os.path.join(folder, name)
     with open(path, "w") as file:
@@ -463,10 +553,10 @@ def sessions_of_transcripts():
                 yield b"".join(line + b"\n" for line in lines)
 
 
-TESTED = ["shows_only_its_calls", "refuses_other_objects", "refuses_a_small_stack", "calls", "typed_calls", "numbers", "unwind",
+TESTED = ["shows_only_its_calls", "refuses_other_objects", "refuses_a_small_stack", "calls", "typed_calls", "marks", "numbers", "unwind",
           "forks", "threads", "refused_allocations", "reasons", "disk", "stops", "old_processor", "two_copies", "sanitized", "no_leak",
-          "sessions", "sessions_of_files", "deepest_lines", "kills", "rust", "rust_of_debian", "rust_pages_and_lints",
-          "python", "page"]
+          "sessions", "sessions_of_files", "deepest_lines", "kills", "rust", "counting", "rust_of_debian",
+          "rust_pages_and_lints", "python", "once_in_rust_and_python", "page"]
 
 
 def main():

@@ -21,7 +21,7 @@ struct form {
 
 /* The value in a reply, which ends by 0. */
 struct value {
-    const char *text;
+    char *text;
     size_t length;
 };
 

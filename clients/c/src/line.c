@@ -39,13 +39,8 @@ static void add_escaped(struct line *line, char letter)
     line_add(line, escaped);
 }
 
-void line_add_text(struct line *line, const char *name, const char *value)
+static void add_quoted(struct line *line, const char *value)
 {
-    if (!value) {
-        line->lacks_a_member = true;
-        return;
-    }
-    begin_member(line, name);
     line_add(line, "\"");
     while (*value) {
         const char *end = value;
@@ -57,6 +52,16 @@ void line_add_text(struct line *line, const char *name, const char *value)
         value = end;
     }
     line_add(line, "\"");
+}
+
+void line_add_text(struct line *line, const char *name, const char *value)
+{
+    if (!value) {
+        line->lacks_a_member = true;
+        return;
+    }
+    begin_member(line, name);
+    add_quoted(line, value);
 }
 
 /* The end of the text that begins at this quote; NULL if it has none, or a line feed before. */
@@ -157,6 +162,23 @@ static bool add_members(struct line *line, const jpstore_change *change)
     }
 }
 
+static void add_mark(struct line *line, const jpstore_marking *mark)
+{
+    if (!mark->key || !ARE_UNSET(mark->reserved)) {
+        line->lacks_a_member = true;
+        return;
+    }
+    begin_member(line, "mark");
+    line_add(line, "{\"key\":");
+    add_quoted(line, mark->key);
+    line_add_text(line, "value", mark->value);
+    line_end(line);
+    if (mark->if_mark && mark->before)
+        line_add_text(line, "if_mark", mark->before);
+    else if (mark->if_mark)
+        line_add_json(line, "if_mark", "null");
+}
+
 void line_add_change(struct line *line, const jpstore_change *change)
 {
     if (!add_members(line, change) || !ARE_UNSET(change->reserved)) {
@@ -165,6 +187,8 @@ void line_add_change(struct line *line, const jpstore_change *change)
     }
     if (change->if_rev)
         line_add_number(line, "if_rev", change->rev);
+    if (change->mark)
+        add_mark(line, change->mark);
     line_end(line);
 }
 

@@ -6,6 +6,13 @@
 
 #include <stdbool.h>
 
+/* A mark, whose value is NULL if there is none. */
+struct mark {
+    const char *value;
+    size_t length;
+    uint64_t seq;
+};
+
 /* The number of a member of this name; false if the reply, which ends by 0, has none. */
 bool read_number(const char *reply, const char *name, uint64_t *number);
 
@@ -14,7 +21,10 @@ const char *read_member(const char *reply, const char *name);
 
 bool read_state(const char *reply, jpstore_state *state);
 
-/* Whether a reply is a refusal; *cause is set then. */
-bool read_refusal(const char *reply, jpstore_cause *cause);
+/* Reads a reply's mark, whose value is left in the reply's place, without escapes and ended by 0: so this comes last. */
+bool read_mark(char *reply, struct mark *mark);
+
+/* Whether a reply is a refusal; *cause is set then, and the reply is as after read_mark. */
+bool read_refusal(char *reply, jpstore_cause *cause);
 
 #endif

@@ -8,7 +8,8 @@
 
 static const struct form WHOLE = {"", ""}, SEQ = {"{\"ok\":true,\"seq\":", "}"}, VALUE = {"{\"ok\":true,\"value\":", "}"},
                          REV = {"{\"ok\":true,\"rev\":", "}"}, USED = {"{\"ok\":true,\"used\":", "}"},
-                         NODES = {"{\"nodes\":", ",\"ok\":true}"}, NAMES = {"{\"names\":", ",\"ok\":true}"};
+                         NODES = {"{\"nodes\":", ",\"ok\":true}"}, NAMES = {"{\"names\":", ",\"ok\":true}"},
+                         CHANGES = {"{\"changes\":", ""};
 
 static struct call begin_command(jpstore *store, const char *command)
 {
@@ -89,6 +90,60 @@ int jpstore_rev(jpstore *store, const char *name, uint64_t *rev, jpstore_cause *
     struct call call = begin_command(store, "rev");
     line_add_text(&call.line, "name", name);
     return answer_by_number(&call, &REV, rev, cause);
+}
+
+int jpstore_mark(jpstore *store, const char *key, const char **value, size_t *length, uint64_t *seq, jpstore_cause *cause)
+{
+    struct value reply = {0};
+    struct mark mark = {0};
+    struct call call = begin_command(store, "mark");
+    line_add_text(&call.line, "key", key);
+    int fault = answer(&call, &WHOLE, &reply, cause);
+    if (fault == JPSTORE_OK && !read_mark(reply.text, &mark))
+        fault = JPSTORE_UNKNOWN;
+    if (value)
+        *value = mark.value;
+    if (length)
+        *length = mark.length;
+    if (seq)
+        *seq = mark.seq;
+    call_end(&call);
+    return fault;
+}
+
+/* Leaves the list in a reply, which is the last one in it, and ends it by 0; false if there is none. */
+static bool read_list(const struct form *form, struct value *reply)
+{
+    const size_t before = strlen(form->before);
+    char *end = strrchr(reply->text, ']');
+    if (!end || strncmp(reply->text, form->before, before) != 0)
+        return false;
+    end[1] = 0;
+    reply->text += before;
+    reply->length = (size_t)(end + 1 - reply->text);
+    return true;
+}
+
+int jpstore_changes(jpstore *store, uint64_t since, uint64_t max_bytes, const char **transactions, size_t *length, uint64_t *from,
+                    jpstore_cause *cause)
+{
+    struct value reply = {0};
+    uint64_t lowest = 0;
+    struct call call = begin_command(store, "changes");
+    line_add_number(&call.line, "from", since);
+    line_add_number(&call.line, "max", max_bytes);
+    int fault = answer(&call, &WHOLE, &reply, cause);
+    const bool is_known = fault == JPSTORE_OK && read_list(&CHANGES, &reply);
+    if (fault == JPSTORE_OK && !is_known && !(read_member(reply.text, "gone") && read_number(reply.text, "from", &lowest)))
+        fault = JPSTORE_UNKNOWN;
+    if (transactions)
+        *transactions = is_known ? reply.text : NULL;
+    if (length)
+        *length = is_known ? reply.length : 0;
+    if (from)
+        *from = lowest;
+    call_end(&call);
+    return fault;
 }
 
 int jpstore_status(jpstore *store, jpstore_state *state, jpstore_cause *cause)

@@ -38,6 +38,15 @@ static inline int answers(jpstore *store, const char *input, const char *wanted)
     return 0;
 }
 
+/* Whether these are the same text, which may be NULL. */
+static inline int same(const char *found, const char *wanted)
+{
+    if (found && wanted && strcmp(found, wanted) == 0)
+        return 1;
+    printf("%s\n", found ? found : "NULL");
+    return 0;
+}
+
 /* A new file with an empty store, of which nothing was left from before. */
 static inline void new_file(const char *path, uint64_t sectors)
 {

@@ -6,15 +6,6 @@
 #include <sys/resource.h>
 #include <signal.h>
 
-/* Whether these are the same text, which may be NULL. */
-static int same(const char *found, const char *wanted)
-{
-    if (found && wanted && strcmp(found, wanted) == 0)
-        return 1;
-    printf("%s\n", found ? found : "NULL");
-    return 0;
-}
-
 #define SEVEN "[{\"op\":\"replace\",\"path\":\"/n\",\"value\":7}]"
 
 static void questions(jpstore *store)
@@ -179,6 +170,7 @@ static void nulls(const char *file)
     CHECK(jpstore_get(NULL, "d", "", &text, &length, NULL) == A && text == NULL && length == 0 && jpstore_query(NULL, "d", "$", NULL, NULL, NULL) == A);
     CHECK(jpstore_schema(NULL, "d", NULL, NULL, NULL) == A && jpstore_list(NULL, NULL, NULL, NULL) == A);
     CHECK(jpstore_rev(NULL, "d", &number, NULL) == A && number == 0 && jpstore_status(NULL, NULL, NULL) == A);
+    CHECK(jpstore_mark(NULL, "k", &text, &length, &number, NULL) == A && jpstore_changes(NULL, 0, 1, &text, NULL, NULL, NULL) == A);
     CHECK(jpstore_create(NULL, "d", "1", "true", NULL, NULL) == A && jpstore_patch(NULL, "d", "[]", NULL, NULL) == A);
     CHECK(jpstore_patch_if(NULL, "d", "[]", 1, NULL, NULL) == A && jpstore_set_schema(NULL, "d", "true", NULL, NULL) == A);
     CHECK(jpstore_delete(NULL, "d", NULL, NULL) == A && jpstore_transaction(NULL, NULL, 0, NULL, NULL) == A);
@@ -192,6 +184,7 @@ static void nulls(const char *file)
     CHECK(jpstore_get(store, NULL, "", NULL, NULL, NULL) == A && jpstore_get(store, "d", NULL, NULL, NULL, NULL) == A);
     CHECK(jpstore_query(store, NULL, "$", NULL, NULL, NULL) == A && jpstore_query(store, "d", NULL, NULL, NULL, NULL) == A);
     CHECK(jpstore_schema(store, NULL, NULL, NULL, NULL) == A && jpstore_rev(store, NULL, NULL, NULL) == A);
+    CHECK(jpstore_mark(store, NULL, NULL, NULL, NULL, NULL) == A);
     CHECK(jpstore_create(store, NULL, "1", "true", NULL, NULL) == A && jpstore_create(store, "e", NULL, "true", NULL, NULL) == A);
     CHECK(jpstore_create(store, "e", "1", NULL, NULL, NULL) == A && jpstore_patch(store, NULL, "[]", NULL, NULL) == A);
     CHECK(jpstore_patch(store, "d", NULL, NULL, NULL) == A && jpstore_patch_if(store, "d", NULL, 1, NULL, NULL) == A);
@@ -205,6 +198,7 @@ static void nulls(const char *file)
     CHECK(jpstore_get(store, "d", "", NULL, NULL, NULL) == JPSTORE_OK && jpstore_query(store, "d", "$", NULL, NULL, NULL) == JPSTORE_OK);
     CHECK(jpstore_schema(store, "d", NULL, NULL, NULL) == JPSTORE_OK && jpstore_list(store, NULL, NULL, NULL) == JPSTORE_OK);
     CHECK(jpstore_rev(store, "d", NULL, NULL) == JPSTORE_OK && jpstore_pump(store, 1, NULL, NULL, NULL) == JPSTORE_OK);
+    CHECK(jpstore_mark(store, "k", NULL, NULL, NULL, NULL) == JPSTORE_OK && jpstore_changes(store, 0, 1, NULL, NULL, NULL, NULL) == JPSTORE_OK);
     CHECK(jpstore_snapshot(store, NULL, NULL) == JPSTORE_OK && jpstore_feed(store, LIST, strlen(LIST), NULL, NULL) == JPSTORE_OK);
     CHECK(jpstore_finish(store, NULL, NULL) == JPSTORE_OK);
     jpstore_free(store);

@@ -1,5 +1,5 @@
 use crate::sys::Cause;
-use crate::{Refusal, SystemError};
+use crate::{Mark, Refusal, SystemError};
 use std::fmt;
 use std::os::raw::c_int;
 
@@ -40,7 +40,7 @@ pub enum Fault {
     Device(SystemError),
     /// Out of memory.
     Memory,
-    /// A number is out of its range, or a path is no UTF-8, or a path or place has a character 0.
+    /// A number is out of its range, or a path is no UTF-8, or a path, a place or a mark has a character 0.
     Arguments,
     /// The processor lacks what the program was built for (x86-64-v2).
     Processor,
@@ -60,7 +60,7 @@ impl Error {
     /// The refusal, if it is one.
     pub fn refusal(&self) -> Option<Refusal> {
         match self {
-            Error::Refused(refusal) => Some(*refusal),
+            Error::Refused(refusal) => Some(refusal.clone()),
             _ => None,
         }
     }
@@ -68,6 +68,14 @@ impl Error {
     /// The number of the refusal, if it is one: 21 if no document has the name.
     pub fn number(&self) -> Option<u16> {
         self.refusal().map(|refusal| refusal.reason.number())
+    }
+
+    /// The present mark, if the store refused a change that asked for another one ([`Reason::Mark`](crate::Reason::Mark)).
+    pub fn mark(&self) -> Option<&Mark> {
+        match self {
+            Error::Refused(refusal) => refusal.mark.as_ref(),
+            _ => None,
+        }
     }
 
     /// `Err` with what an `enum jpstore_fault` and its cause say, unless it is JPSTORE_OK.

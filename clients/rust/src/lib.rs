@@ -26,13 +26,15 @@
 //! - [`Store`]: an open store. [`Store::get`], [`Store::query`], [`Store::list`] and others ask; [`Store::create`],
 //!   [`Store::patch`], [`Store::transaction`] and others change; [`Store::feed`] sends lines of the program's own protocol.
 //! - [`Change`]: a change for [`Store::transaction`] (all or none) and [`Store::group`] (each by itself, in shared commits).
+//!   With a [`Mark`] it is made once, however often it is sent ([`Change::with_mark_if`]).
+//! - [`Store::changes`]: the transactions after a change, for whoever follows the store.
 //! - [`format()`], [`check`], [`copy`], [`copy_in`] and [`upgrade`]: files of stores that aren't open. [`Options`] and
 //!   [`FormatOptions`] say how one is opened and made.
 //! - [`Error`]: a [`Refusal`] of the store with its [`Reason`], or a [`Fault`] with the system's reason.
 //!
 //! Documents, schemas, patches and values are JSON texts. The crate `jpstore-serde-json`, beside this one, takes and gives
-//! whatever `serde` reads and writes. It is a crate of its own and no feature, since cargo looks up optional dependencies too:
-//! this crate has none, and builds without a registry.
+//! whatever `serde` reads and writes, and makes changes exactly once under a key (`once`). It is a crate of its own and no
+//! feature, since cargo looks up optional dependencies too: this crate has none, and builds without a registry.
 //!
 //! # Threads and forks
 //!
@@ -70,8 +72,11 @@
 )]
 
 mod change;
+mod changes;
 mod error;
 mod file;
+mod json;
+mod mark;
 mod meanings;
 mod options;
 mod refusal;
@@ -81,9 +86,11 @@ mod sys;
 mod system_error;
 mod text;
 
-pub use change::Change;
+pub use change::{Change, ChangeKind};
+pub use changes::{Changes, Transaction};
 pub use error::{Error, Fault};
 pub use file::{check, copy, copy_in, format, upgrade};
+pub use mark::Mark;
 pub use options::{FormatOptions, Options};
 pub use refusal::{Reason, Refusal};
 pub use status::{Status, Step};

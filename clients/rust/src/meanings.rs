@@ -172,7 +172,7 @@ pub(crate) const ROWS: [(u16, &str, &str); 45] = [
     (
         54,
         "the reply would have over 16,777,216 bytes without its LF",
-        "select less, or read the values one by one",
+        "select less, or read the values one by one; of `changes`, read the documents anew",
     ),
     (
         60,

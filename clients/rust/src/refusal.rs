@@ -1,5 +1,6 @@
 use crate::meanings::ROWS;
 use crate::sys::{self, Cause};
+use crate::Mark;
 use std::ffi::CStr;
 use std::fmt;
 use std::os::raw::c_int;
@@ -17,7 +18,7 @@ use std::os::raw::c_int;
 /// # Ok(())
 /// # }
 /// ```
-#[derive(Clone, Copy, Debug, PartialEq, Eq, Hash)]
+#[derive(Clone, Debug, PartialEq, Eq, Hash)]
 #[non_exhaustive]
 pub struct Refusal {
     /// Why.
@@ -28,6 +29,8 @@ pub struct Refusal {
     pub op: Option<u16>,
     /// The document's revision, with [`Reason::Revision`].
     pub rev: Option<u64>,
+    /// The present mark, with [`Reason::Mark`]; `None` if the key has none.
+    pub mark: Option<Mark>,
 }
 
 impl Refusal {
@@ -39,6 +42,8 @@ impl Refusal {
             change: u16::try_from(cause.change).ok(),
             op: u16::try_from(cause.op).ok(),
             rev: (reason == Reason::Revision).then_some(cause.rev),
+            // SAFETY: a cause is read before the next call on the store, whose text this is.
+            mark: unsafe { Mark::of(cause.mark, cause.mark_length, cause.mark_seq) },
         })
     }
 }
@@ -54,6 +59,9 @@ impl fmt::Display for Refusal {
         }
         if let Some(rev) = self.rev {
             write!(f, ", revision {rev}")?;
+        }
+        if let Some(mark) = &self.mark {
+            write!(f, ", mark {:?} of change {}", mark.value, mark.seq)?;
         }
         Ok(())
     }
@@ -88,7 +96,7 @@ pub enum Reason {
     TooLarge = 23,
     /// The document has another revision; [`Refusal::rev`] tells which.
     Revision = 24,
-    /// Changes ask for another mark than the present one.
+    /// Changes ask for another mark than the present one; [`Refusal::mark`] has it.
     Mark = 25,
     /// The patch is no list of operations of RFC 6902.
     PatchShape = 30,

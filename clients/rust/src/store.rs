@@ -1,6 +1,6 @@
 use crate::change::Words;
 use crate::text::{c_place, c_text};
-use crate::{sys, Change, Error, Fault, Options, Status, Step, SystemError};
+use crate::{sys, Change, Changes, Error, Fault, Mark, Options, Status, Step, SystemError};
 use std::os::raw::{c_char, c_int};
 use std::path::Path;
 use std::ptr::{self, NonNull};
@@ -166,7 +166,8 @@ impl Store {
         self.apply_words(&Words::of(slice::from_ref(change)))
     }
 
-    /// Makes 1 to 1,024 changes, all or none, each judged after those before it; answers the `seq` of the last.
+    /// Makes 1 to 1,024 changes, all or none, each judged after those before it; answers the `seq` of the last. With a mark,
+    /// [`Store::apply`] does so for [`Change::transaction`].
     ///
     /// # Errors
     ///
@@ -299,6 +300,67 @@ impl Store {
         })
     }
 
+    /// The mark of a key, in format 3, which a change has set ([`Change::with_mark`]).
+    ///
+    /// # Errors
+    ///
+    /// As all calls.
+    pub fn mark(&mut self, key: &str) -> Result<Option<Mark>, Error> {
+        let key = c_text(key);
+        let (mut value, mut length, mut seq) = (ptr::null(), 0, 0);
+        let (store, mut cause) = (self.called(), sys::Cause::NONE);
+        // SAFETY: the text ends by 0 and lives as long as the call, and the places for results are this call's.
+        let fault = unsafe {
+            let key = key.as_ptr();
+            sys::jpstore_mark(store, key, &mut value, &mut length, &mut seq, &mut cause)
+        };
+        Error::check(fault, &cause)?;
+        // SAFETY: the text is the store's until its next call.
+        Ok(unsafe { Mark::of(value, length, seq) })
+    }
+
+    /// The transactions after the change `since`, each whole: the first `max_bytes` of them, 1 to 4,194,304, and one at
+    /// least. Nothing is waited for.
+    ///
+    /// ```
+    /// use jpstore::{Changes, Store};
+    ///
+    /// # fn main() -> Result<(), jpstore::Error> {
+    /// let mut store = Store::in_memory(64)?;
+    /// store.create("shelf-1", r#"{"bolts":40}"#, "true")?;
+    /// let since = store.status()?.seq;
+    /// store.delete("shelf-1")?;
+    /// match store.changes(since, 1 << 20)? {
+    ///     Changes::Known(transactions) => {
+    ///         assert_eq!(transactions[0].changes, [r#"{"cmd":"delete","name":"shelf-1"}"#]);
+    ///         assert_eq!(transactions[0].last, 2);
+    ///     }
+    ///     other => panic!("read the documents anew: {other:?}"),
+    /// }
+    /// # Ok(())
+    /// # }
+    /// ```
+    ///
+    /// # Errors
+    ///
+    /// As all calls.
+    pub fn changes(&mut self, since: u64, max_bytes: u64) -> Result<Changes, Error> {
+        let (mut list, mut length, mut from) = (ptr::null(), 0, 0);
+        let (store, mut cause) = (self.called(), sys::Cause::NONE);
+        // SAFETY: the store and the places for results are this call's.
+        let fault = unsafe {
+            let (list, length, from) = (&mut list, &mut length, &mut from);
+            sys::jpstore_changes(store, since, max_bytes, list, length, from, &mut cause)
+        };
+        Error::check(fault, &cause)?;
+        if list.is_null() {
+            return Ok(Changes::Gone(from));
+        }
+        // SAFETY: the text has this length, and is the store's until its next call.
+        let list = text_of(unsafe { slice::from_raw_parts(list.cast(), length) })?;
+        Ok(Changes::of(list).ok_or(Fault::Unknown)?)
+    }
+
     /// What the store tells of itself.
     ///
     /// # Errors
@@ -339,7 +401,7 @@ impl Store {
     }
 
     /// Sends lines of `docs/use/PROTOCOL.md`, each with its line feed, and answers their replies: one line for each that isn't
-    /// blank, in order. Marks are set and read by lines alone.
+    /// blank, in order.
     ///
     /// With a batch, the changes among these lines share commits, and none waits for those of a later call. After a fault
     /// [`Store::replies_before_fault`] has what was answered.

@@ -1,7 +1,7 @@
 //! `jpstore.h`.
 
 use std::os::raw::{c_char, c_int, c_void};
-use std::ptr::NonNull;
+use std::ptr::{self, NonNull};
 
 #[repr(C)]
 pub struct Handle {
@@ -34,6 +34,9 @@ pub struct Cause {
     pub change: c_int,
     pub op: c_int,
     pub rev: u64,
+    pub mark: *const c_char,
+    pub mark_length: usize,
+    pub mark_seq: u64,
     pub reserved: [u64; 2],
 }
 
@@ -44,6 +47,9 @@ impl Cause {
         change: -1,
         op: -1,
         rev: 0,
+        mark: ptr::null(),
+        mark_length: 0,
+        mark_seq: 0,
         reserved: [0; 2],
     };
 }
@@ -65,6 +71,15 @@ pub struct State {
 }
 
 #[repr(C)]
+pub struct Marking {
+    pub key: *const c_char,
+    pub value: *const c_char,
+    pub if_mark: c_int,
+    pub before: *const c_char,
+    pub reserved: [u64; 2],
+}
+
+#[repr(C)]
 pub struct Change {
     pub kind: c_int,
     pub if_rev: c_int,
@@ -75,6 +90,7 @@ pub struct Change {
     pub schema: *const c_char,
     pub changes: *const Change,
     pub changes_count: usize,
+    pub mark: *const Marking,
     pub reserved: [u64; 4],
 }
 
@@ -150,6 +166,23 @@ extern "C" {
         store: *mut Handle,
         name: *const c_char,
         rev: *mut u64,
+        cause: *mut Cause,
+    ) -> c_int;
+    pub fn jpstore_mark(
+        store: *mut Handle,
+        key: *const c_char,
+        value: *mut *const c_char,
+        length: *mut usize,
+        seq: *mut u64,
+        cause: *mut Cause,
+    ) -> c_int;
+    pub fn jpstore_changes(
+        store: *mut Handle,
+        since: u64,
+        max_bytes: u64,
+        transactions: *mut *const c_char,
+        length: *mut usize,
+        from: *mut u64,
         cause: *mut Cause,
     ) -> c_int;
     pub fn jpstore_status(store: *mut Handle, state: *mut State, cause: *mut Cause) -> c_int;

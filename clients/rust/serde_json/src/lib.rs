@@ -27,6 +27,8 @@
 //! It is a crate of its own and no feature of `jpstore`, since cargo looks up optional dependencies too: `jpstore` has none,
 //! and builds without a registry.
 //!
+//! [`Once`] makes changes exactly once under a key.
+//!
 //! Numbers are whole: a value with a fraction is refused by the store ([`jpstore::Reason::Number`]).
 #![deny(
     missing_docs,
@@ -34,6 +36,10 @@
     rustdoc::broken_intra_doc_links
 )]
 #![forbid(unsafe_code)]
+
+mod once;
+
+pub use once::Once;
 
 use jpstore::{Change, Store};
 use serde::de::DeserializeOwned;
@@ -46,8 +52,8 @@ use std::fmt;
 pub enum Error {
     /// The store refuses it, or has a fault.
     Store(jpstore::Error),
-    /// A value can't be written as JSON, as a map whose keys are no texts: nothing was sent. Or what the store has isn't of the
-    /// type that was asked for.
+    /// A value can't be written as JSON, as a map whose keys are no texts, or a text is no JSON: nothing was sent. Or what the
+    /// store has isn't of the type that was asked for.
     Json(serde_json::Error),
 }
 
