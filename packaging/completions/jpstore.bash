@@ -8,14 +8,14 @@ _jpstore() {
         return
     fi
     case $prev in
-    --sectors | --format | --mode | --id | --batch | --pump) return ;;
+    --sectors | --format | --mode | --id | --batch | --pump | --history) return ;;
     esac
     case ${words[1]}$cur in
-    serve-*) COMPREPLY=($(compgen -W "--batch --pump --strict --why --help" -- "$cur")) ;;
+    serve-*) COMPREPLY=($(compgen -W "--batch --pump --history --strict --why --help" -- "$cur")) ;;
     format-*) COMPREPLY=($(compgen -W "--sectors --format --mode --id --sparse --why --help" -- "$cur")) ;;
     upgrade-*) COMPREPLY=($(compgen -W "--format --id --why --help" -- "$cur")) ;;
     copy-*) COMPREPLY=($(compgen -W "--sectors --format --id --why --help" -- "$cur")) ;;
-    mem-*) COMPREPLY=($(compgen -W "--sectors --help" -- "$cur")) ;;
+    mem-*) COMPREPLY=($(compgen -W "--sectors --history --help" -- "$cur")) ;;
     check-*) COMPREPLY=($(compgen -W "--strict --deep --why --help" -- "$cur")) ;;
     salvage-*) COMPREPLY=($(compgen -W "--frames --why --help" -- "$cur")) ;;
     dump-*) COMPREPLY=($(compgen -W "--read-only --why --help" -- "$cur")) ;;

@@ -25,6 +25,11 @@ CREATE = '{"cmd":"create","doc":{"a":1},"name":"d","schema":true}\n'
 SECTOR = 512
 
 
+def without_names(text):
+    """A text without the names of histories, which no two hubs have in common."""
+    return re.sub(r"\b[0-9a-f]{16}\.\d+\.[0-9a-f]{16}\b", "NAME", text)
+
+
 def sessions(text):
     """Each block of the page's session, without the line that finds the programs in a clone, and what it prints."""
     for words, output in re.findall(r"^```sh\n(.*?)^```$.*?^```\n(.*?)^```$", text, re.M | re.S):
@@ -58,8 +63,8 @@ def the_session_of_readme_prints_what_the_page_shows(place):
     for words, output in blocks:
         # As on a terminal, where both are shown.
         ended = place.run(words, errors=subprocess.STDOUT)
-        assert (ended.returncode, ended.stdout) == (0, output), ended
-    assert sorted(os.listdir(place.folder)) == ["counts.json", "demo", "demo.changes"]
+        assert (ended.returncode, without_names(ended.stdout)) == (0, without_names(output)), ended
+    assert sorted(os.listdir(place.folder)) == ["counts.json", "demo"]
 
 
 def the_commands_by_which_readme_builds_have_the_options_that_it_gives(place):

@@ -9,9 +9,11 @@ The parts, all of them if none is named, `kills` and `once` with N kills in each
           under it is, also while it starts; now and then it is ended by SIGTERM. The clients connect again by themselves. Two
           of them are processes that are killed too, and go on after what they had noted. Meanwhile the store grows again and
           again. One watcher lives through all of it, another is a process that is killed too and goes on after what it had
-          written. In the end each acknowledged change is stored under its number, and each watcher has each change once, those
-          of a transaction one after another and none of them alone. In format 3 each transaction sets the mark of its client,
-          which in the end is that of the last one that is stored.
+          written. If changes are gone, a watcher reads all documents and goes on from there: in format 2 after each start of a
+          hub, and in format 3 only if a snapshot took them out of the file. In the end each acknowledged change is stored under
+          its number. Each watcher has each change once, but for those that were gone, and those of a transaction one after
+          another and none of them alone. What it has makes the documents that are stored. In format 3 each transaction sets
+          the mark of its client, which in the end is that of the last one that is stored.
   once    8 clients count up by `once` while hubs and programs are killed as in `kills`: each a document of its own, and one of
           all. Two of them are processes that are killed too, and go on with the key that they had begun. In the end each count
           is the number of increments, exactly. It is done in format 3 alone, whose stores have marks.
@@ -19,10 +21,11 @@ The parts, all of them if none is named, `kills` and `once` with N kills in each
   pause   How long a change waits at most while 1,000 documents of 1 KB are exported.
   rates   How many changes 1 and 100 clients of a hub make in a second.
 
-It needs pytest, whose helpers it shares with the tests in clients/python/tests, and makes its stores in the folder that
-TMPDIR names. The last line is `N passed, M failed`.
+It needs jsonpatch, and pytest, whose helpers it shares with the tests in clients/python/tests. It makes its stores in the folder
+that TMPDIR names. The last line is `N passed, M failed`.
 """
 import argparse
+import collections
 import contextlib
 import json
 import os
@@ -36,13 +39,17 @@ import threading
 import time
 import traceback
 
-TOP = os.path.join(os.path.dirname(os.path.abspath(__file__)), "..", "..")
+HERE = os.path.dirname(os.path.abspath(__file__))
+TOP = os.path.join(HERE, "..", "..")
 CLIENTS = os.path.join(TOP, "clients", "python")
 sys.path[:0] = [CLIENTS, os.path.join(CLIENTS, "tests"), os.path.join(TOP, "tools")]
 sys.dont_write_bytecode = True
 
+import jsonpatch  # noqa: E402
 from hubs import Hub, Writers, check_moment, count_until_a_kill, counts_at  # noqa: E402
-from jpstore import Conflict, Ended, JpstoreError, NotFound, Outdated, Store, create, delete, patch, set_schema  # noqa: E402
+from jpstore import (  # noqa: E402
+    Conflict, Ended, Gone, JpstoreError, NotFound, Outdated, Store, create, delete, patch, set_schema,
+)
 from jpstore.moment import moment_of_hub  # noqa: E402
 from jpstore.once import Once  # noqa: E402
 from jpstore.watch import Watch  # noqa: E402
@@ -64,19 +71,20 @@ COUNTING_SECTORS = 512
 # A watcher in a process of its own: what it has written says where it goes on.
 WATCHER = """
 import json, os, sys
-from jpstore.watch import Watch
-path, log = sys.argv[1:]
+sys.path.insert(0, sys.argv[1])
+from kill_hubs import BEGIN, watched
+path, log = sys.argv[2:]
 with open(log, "ab+") as file:
     file.seek(0)
     whole = file.read()
     whole = whole[:whole.rfind(b"\\n") + 1]
     file.truncate(len(whole))
-    last = json.loads(whole.splitlines()[-1]) if whole else {"seq": 0, "history": None}
-    for watch in [Watch(path, last["seq"], history=last["history"], wait=600)]:
-        for change in watch:
-            line = {"seq": change.seq, "command": change.command, "history": watch.history}
-            os.write(file.fileno(), json.dumps(line).encode() + b"\\n")
+    for line in watched(path, json.loads(whole.splitlines()[-1]) if whole else BEGIN):
+        os.write(file.fileno(), json.dumps(line).encode() + b"\\n")
 """
+
+# What a watcher of an empty store has.
+BEGIN = {"seq": 0, "history": None}
 
 
 # A client that counts, in a process of its own: what it has begun and written down says with which key it goes on.
@@ -108,6 +116,26 @@ sys.path.insert(0, sys.argv[1])
 from kill_hubs import Client, StopFile
 Client(sys.argv[2], sys.argv[3], StopFile(sys.argv[4]), sys.argv[5], sys.argv[6] == "marks").join()
 """
+
+
+def watched(path, last):
+    """What a watcher gets after the line `last`, over all ends of hubs: changes, or all documents if some are gone."""
+    while True:
+        try:
+            for change in Watch(path, last["seq"], history=last["history"], wait=600):
+                last = {"seq": change.seq, "command": change.command, "history": change.history}
+                yield last
+        except Gone as gone:
+            last = {**read_anew(path), "gone": gone.since}
+            yield last
+
+
+def read_anew(path):
+    """All documents of one moment, of the hub that is there or comes."""
+    while True:
+        with contextlib.suppress(JpstoreError, OSError), moment_of_hub(path) as moment:
+            return {"seq": moment.seq, "documents": {each.name: each.doc for each in moment}, "history": None}
+        time.sleep(0.05)
 
 
 class StopFile:
@@ -267,7 +295,7 @@ class ClientProcess:
     def __init__(self, place, code, name, *words):
         self.name, self.kills = name, 0
         self._place, self._code = place, code
-        self._words = [os.path.dirname(os.path.abspath(__file__)), place.path("socket"), name, *words]
+        self._words = [HERE, place.path("socket"), name, *words]
         self._start()
 
     def _start(self):
@@ -412,14 +440,18 @@ def programs_of(hub):
 
 
 def kills(place, rounds, number):
+    with contextlib.ExitStack() as block:
+        kill_among_writers(place, rounds, number, block)
+
+
+def kill_among_writers(place, rounds, number, block):
     formatted(place, SECTORS, number)
     path, log = place.path("socket"), place.path("log")
     stop = threading.Event()
     first = start_hub(place, ())
     assert b"is served" in first.stdout.readline()
-    living, told = Watch(path, 0), []
-    reading = threading.Thread(target=lambda: told.extend(living), daemon=True)
-    reading.start()
+    told = []
+    threading.Thread(target=lambda: told.extend(watched(path, BEGIN)), daemon=True).start()
     clients = [Client(path, index, stop, has_marks=number > 2) for index in range(CLIENT_COUNT)]
     growths = []
     threading.Thread(target=grow_again, args=(path, stop, growths), daemon=True).start()
@@ -430,6 +462,9 @@ def kills(place, rounds, number):
     files = [place.path(f"notes-{index}") for index in range(WRITING_PROCESSES)]
     words = ["marks" if number > 2 else ""]
     processes = [ClientProcess(place, WRITER, f"p{index}", place.path("stop"), file, *words) for index, file in enumerate(files)]
+    for process in processes:
+        block.callback(process.end)
+    block.callback(lambda: watcher and watcher.kill())
     while len(ends) - ends.count("term") < rounds:
         if random.random() < 0.3:
             random.choice(processes).kill()
@@ -438,7 +473,7 @@ def kills(place, rounds, number):
                 watcher.kill()
                 watcher.wait()
                 watchers += 1
-            watcher = subprocess.Popen([sys.executable, "-c", WATCHER, path, log], env=place.environment())
+            watcher = subprocess.Popen([sys.executable, "-c", WATCHER, HERE, path, log], env=place.environment())
         ends.append(one_life(place))
     hub = start_hub(place, ())
     assert b"is served" in hub.stdout.readline()
@@ -451,21 +486,24 @@ def kills(place, rounds, number):
         seq = store.status().seq
         documents = {name: store.get(name) for name in store.names()}
         marks = {name: store.mark(name) for name in names_of(notes)} if number > 2 else {}
-    until(lambda: living.since == seq and len(told) == seq, "the last change at the watcher that lives")
-    until(lambda: (logged(log) or [{"seq": 0}])[-1]["seq"] == seq, "the last change at the other watcher")
+    until(lambda: (told or [BEGIN])[-1]["seq"] == seq, "the last change at the watcher that lives")
+    until(lambda: (logged(log) or [BEGIN])[-1]["seq"] == seq, "the last change at the other watcher")
     watcher.kill()
     watcher.wait()
     hub.send_signal(signal.SIGTERM)
     assert hub.wait() == 0
-    judge([(change.seq, change.command) for change in told], seq, notes, documents)
-    judge([(line["seq"], line["command"]) for line in logged(log)], seq, notes, documents)
-    judge_marks([(change.seq, change.command) for change in told], notes, marks)
+    lines = [told, logged(log)]
+    for each in lines:
+        judge(*changes_in(each, seq, documents, number), notes)
+    judge_marks(changes_in(told, seq, documents, number)[0], notes, marks)
     acknowledged, lost = sum(len(each.acknowledged) for each in notes), sum(client.lost for client in clients)
     print(f"{rounds} kills ({ends.count('hub')} of the hub, {ends.count('start')} of the hub while it started, "
           f"{ends.count('program')} of its program), and {ends.count('term')} ends by SIGTERM; {watchers} kills of a watcher, "
           f"{sum(each.kills for each in processes)} of clients")
-    print(f"{seq} changes, {acknowledged} acknowledged, {lost} replies lost, {len(growths)} growths answered: each acknowledged change is stored under its "
-          "number, and both watchers were told each change once, in order")
+    gone = [sum("documents" in line for line in each) for each in lines]
+    had = [len(each) - count for each, count in zip(lines, gone)]
+    print(f"{seq} changes, {acknowledged} acknowledged, {lost} replies lost, {len(growths)} growths answered: each acknowledged change is "
+          f"stored under its number, and both watchers were told {had} changes, each once, in order; {gone} times some were gone")
 
 
 def grow_again(path, stop, growths):
@@ -485,31 +523,51 @@ def logged(log):
     return [json.loads(line) for line in whole[:whole.rfind(b"\n") + 1].splitlines()]
 
 
-def judge(told, seq, clients, documents):
-    """What a watcher was sent is each change once, in order, as it was sent, and makes the documents that are stored."""
-    assert [number for number, _ in told] == list(range(1, seq + 1)), "the numbers have gaps, or come twice"
-    told = dict(told)
+def changes_in(lines, seq, documents, number):
+    """The changes that a watcher was sent, by their numbers, and the numbers after which some were gone. With the documents that
+    it read then, they make those that are stored; the numbers have no gaps, and none comes twice."""
+    changes, ends, made, last = {}, set(), {}, 0
+    for line in lines:
+        if "documents" in line:
+            # In format 3 a watcher goes on as long as the file has the change that it had last.
+            assert line["seq"] >= last and (number == 2 or line["gone"] >= last), f"after {last} come the documents of {line['seq']}"
+            ends.add(last)
+            made = dict(line["documents"])
+        else:
+            assert line["seq"] == last + 1, f"after {last} comes {line['seq']}"
+            changes[line["seq"]] = line["command"]
+            make(made, line["command"])
+        last = line["seq"]
+    assert (last, made) == (seq, documents), "what was told makes other documents"
+    return changes, ends
+
+
+def make(made, command):
+    """Makes a change of documents, by RFC 6902."""
+    name = command["name"]
+    if command["cmd"] == "create":
+        made[name] = command["doc"]
+    elif command["cmd"] == "patch":
+        made[name] = jsonpatch.apply_patch(made[name], command["ops"])
+    elif command["cmd"] == "delete":
+        del made[name]
+
+
+def judge(told, ends, clients):
+    """What a watcher was sent is what clients sent, as it was acknowledged, and no transaction in part, unless the rest was gone."""
     for client in clients:
         for number, command in client.acknowledged.items():
-            assert told[number] == command, f"{number} was {command}, and is told as {told[number]}"
-    sent = [json.dumps(command, sort_keys=True) for client in clients for command in client.sent]
-    texts = [json.dumps(command, sort_keys=True) for command in told.values()]
-    more = {text for text in texts if texts.count(text) > sent.count(text)} if len(texts) < 2000 else set(texts) - set(sent)
+            assert told.get(number, command) == command, f"{number} was {command}, and is told as {told[number]}"
+    sent = collections.Counter(json.dumps(command, sort_keys=True) for client in clients for command in client.sent)
+    places = {number: json.dumps(command, sort_keys=True) for number, command in told.items()}
+    more = collections.Counter(places.values()) - sent
     assert not more, f"told and never sent, or told more often: {more}"
-    places = {text: number for number, text in zip(told, texts)}
+    numbers_of = {text: number for number, text in places.items()}
     for changes in (changes for client in clients for changes in client.transactions):
-        numbers = [places.get(json.dumps(change, sort_keys=True)) for change in changes]
-        whole = numbers[0] is not None and numbers == list(range(numbers[0], numbers[0] + len(changes)))
-        assert whole or numbers == [None] * len(changes), f"of the transaction {changes} was told {numbers}"
-    made = {}
-    for command in told.values():
-        if command["cmd"] == "create":
-            made[command["name"]] = dict(command["doc"])
-        elif command["cmd"] == "patch":
-            made[command["name"]]["n"] = command["ops"][0]["value"]
-        elif command["cmd"] == "delete":
-            del made[command["name"]]
-    assert made == documents, "the changes that were told make other documents"
+        numbers = [numbers_of.get(json.dumps(change, sort_keys=True)) for change in changes]
+        some = [number for number in numbers if number is not None]
+        follow = numbers[:len(some)] == some == list(range(some[0], some[0] + len(some))) if some else True
+        assert follow and (len(some) in (0, len(numbers)) or some[-1] in ends), f"of the transaction {changes} was told {numbers}"
 
 
 def names_of(clients):
@@ -518,15 +576,16 @@ def names_of(clients):
 
 
 def judge_marks(told, clients, marks):
-    """The mark of each client is that of its last transaction that is stored, with its number."""
-    numbers, last = {json.dumps(command, sort_keys=True): number for number, command in told}, {}
+    """The mark of each client is that of its last transaction that is stored, with its number, if that was told."""
+    numbers, last = {json.dumps(command, sort_keys=True): number for number, command in told.items()}, {}
     for changes in (changes for client in clients for changes in client.transactions):
         number, name = numbers.get(json.dumps(changes[-1], sort_keys=True)), changes[0]["name"]
         if number is not None:
             last[name] = max(last.get(name, (0, "")), (number, value_of(changes)))
     for name, mark in marks.items():
-        found = mark and (mark.seq, mark.value)
-        assert found == last.get(name), f"the mark of {name} is {found}, and of its last transaction {last.get(name)}"
+        found, wanted = mark and (mark.seq, mark.value), last.get(name)
+        was_gone = found and found[0] not in told and found > (wanted or (0, ""))
+        assert found == wanted or was_gone, f"the mark of {name} is {found}, and of its last transaction {wanted}"
 
 
 def until(holds, what):

@@ -11,10 +11,10 @@ In each format N kills, 150 if not said, as kill_hubs.py makes them. Meanwhile:
     in format 2, whose stores have no marks, these five count a document of their own by its revision instead;
   - three readers over HTTP and one at the socket never read a count below one that was acknowledged before;
   - three follow the changes: over HTTP a thread, and a process that is killed and goes on after what it has written, and a
-    watcher at the socket.
+    watcher at the socket. If changes are gone, as in format 2 after each start, they read all documents and go on from there.
 
-In the end each count is the number of increments, each follower has each change once, in order, and what they were sent makes the
-documents that are stored.
+In the end each count is the number of increments, each follower has each change once, in order, but for those that were gone,
+and what they were sent makes the documents that are stored.
 
 It needs pytest and jsonpatch, and makes its stores in the folder that TMPDIR names. The last line is `N passed, M failed`.
 """
@@ -39,10 +39,10 @@ CLIENTS = os.path.join(HERE, "..", "..", "clients", "python")
 sys.path[:0] = [HERE, CLIENTS, os.path.join(CLIENTS, "tests"), os.path.join(HERE, "..", "..", "tools")]
 sys.dont_write_bytecode = True
 
-import jsonpatch  # noqa: E402
-from jpstore import Ended, JpstoreError, Outdated, Store, create  # noqa: E402
-from jpstore.watch import Watch  # noqa: E402
-from kill_hubs import Counter, CountingProcess, formatted, logged, one_life, until  # noqa: E402
+from jpstore import Ended, Gone, JpstoreError, Outdated, Store, create  # noqa: E402
+from kill_hubs import (  # noqa: E402
+    BEGIN, Counter, CountingProcess, changes_in, formatted, logged, one_life, until, watched,
+)
 from server import use_server  # noqa: E402
 from support import PATIENCE, Place  # noqa: E402
 
@@ -82,9 +82,9 @@ with open(log, "ab+") as file:
     whole = file.read()
     whole = whole[:whole.rfind(b"\\n") + 1]
     file.truncate(len(whole))
-    last = json.loads(whole.splitlines()[-1])["id"] if whole else None
-    for event in follow(int(port), last):
-        os.write(file.fileno(), json.dumps(event).encode() + b"\\n")
+    last = json.loads(whole.splitlines()[-1])["id"] if whole else "0"
+    for line in follow(int(port), last):
+        os.write(file.fileno(), json.dumps(line).encode() + b"\\n")
 """
 
 
@@ -159,24 +159,55 @@ def count_by_rev(store, name, number):
             return
 
 
-def follow(port, last=None):
-    """The changes over HTTP, from the first one or after an event on, over all ends of the server."""
+def follow(port, last="0"):
+    """The changes over HTTP after an event, over all ends of the server, or all documents if some are gone."""
+    while True:
+        try:
+            for event in events(port, last):
+                last = event["id"]
+                yield event
+        except Gone as gone:
+            read = {**read_over_http(port), "gone": gone.since}
+            last = read["id"]
+            yield read
+        time.sleep(PAUSE)
+
+
+def events(port, last):
+    """The changes after an event, until the connection is lost."""
+    connection = http.client.HTTPConnection("127.0.0.1", port, timeout=PATIENCE)
+    with contextlib.suppress(OSError, http.client.HTTPException), contextlib.closing(connection):
+        connection.request("GET", "/changes", headers={"Last-Event-ID": last})
+        answer = connection.getresponse()
+        if answer.status == 410:
+            raise Gone(None, json.loads(answer.read())["from"])
+        assert answer.status in (200, 503), f"a follower is answered {answer.status} {answer.read()}"
+        event = {}
+        for line in answer if answer.status == 200 else ():
+            field, _, value = line.decode().rstrip("\n").partition(": ")
+            if field in ("event", "id", "data"):
+                event[field] = value
+            elif not field and "data" in event:
+                data = json.loads(event["data"])
+                if "event" in event:
+                    assert event["event"] == "gone", f"a follower is told {event}"
+                    raise Gone(None, data["from"])
+                yield {"id": event["id"], "seq": data["seq"], "command": data["change"]}
+                event = {}
+
+
+def read_over_http(port):
+    """All documents of one moment."""
     while True:
         connection = http.client.HTTPConnection("127.0.0.1", port, timeout=PATIENCE)
         with contextlib.suppress(OSError, http.client.HTTPException), contextlib.closing(connection):
-            connection.request("GET", "/changes?from=0", headers={"Last-Event-ID": last} if last else {})
+            connection.request("GET", "/documents", headers={"Accept": "application/x-ndjson"})
             answer = connection.getresponse()
-            assert answer.status in (200, 503), f"a follower is answered {answer.status} {answer.read()}"
-            event = {}
-            for line in answer if answer.status == 200 else ():
-                field, _, value = line.decode().rstrip("\n").partition(": ")
-                assert field != "event", f"a follower is told {value}"
-                if field in ("id", "data"):
-                    event[field] = value
-                elif not field and "data" in event:
-                    last = event["id"]
-                    yield {"id": last, **json.loads(event["data"])}
-                    event = {}
+            lines = answer.read().splitlines()
+            if answer.status == 200:
+                seq = answer.headers["Jpstore-Seq"]
+                return {"id": seq, "seq": int(seq), "documents": {each["name"]: each["doc"] for each in map(json.loads, lines)}}
+            assert answer.status == 503, f"a reader of all documents is answered {answer.status}"
         time.sleep(PAUSE)
 
 
@@ -325,13 +356,14 @@ def tried(place, rounds, number):
             client.join()
         counts = {each.name: each.count for each in [*own, *counters]}
         counts.update({name: counted_in(place.path(f"log-{name}")) for name in processes})
-        judge(path, counts, has_marks, [*told, lambda: logged(log)])
+        gone = judge(path, counts, has_marks, [*told, lambda: logged(log)])
         server.send_signal(signal.SIGTERM)
         assert server.wait(PATIENCE) == 0
     killed = sum(each.kills for each in (follower, *processes.values()))
     print(f"{rounds} kills ({ends.count('hub')} of the server, {ends.count('start')} while it started, {ends.count('program')} of its "
           f"program), {ends.count('term')} ends by SIGTERM, {killed} kills of clients: {sum(counts.values())} increments, each counted "
-          f"once; {sum(each.count for each in readers)} reads, none below what was acknowledged; three followers with each change")
+          f"once; {sum(each.count for each in readers)} reads, none below what was acknowledged; three followers with each change, but for "
+          f"those that were gone {gone} times")
 
 
 def counted_in(log):
@@ -343,15 +375,12 @@ def counted_in(log):
 
 def following(told, port, path):
     """Lets two threads follow all changes, and note them."""
-    def watch():
-        for change in Watch(path, 0, wait=600):
-            told[1].append({"seq": change.seq, "change": change.command})
     threading.Thread(target=lambda: told[0].extend(follow(port)), daemon=True).start()
-    threading.Thread(target=watch, daemon=True).start()
+    threading.Thread(target=lambda: told[1].extend(watched(path, BEGIN)), daemon=True).start()
 
 
 def judge(path, counts, has_marks, followers):
-    """Each count is the number of increments, and each follower has each change once, in order, which make what is stored."""
+    """Each count is the number of increments, and what each follower has makes what is stored; how often changes were gone."""
     with Store.connect(path) as store:
         seq, stored = store.status().seq, {name: store.get(name) for name in store.names()}
     shared = BY_KEY if has_marks else []
@@ -359,25 +388,14 @@ def judge(path, counts, has_marks, followers):
     assert not wrong, f"counted, and stored: {wrong}"
     total = sum(counts[name] for name in BY_KEY + BY_ONCE) if has_marks else 0
     assert stored["all"] == total, f"all: {stored['all']} is stored, and {total} were counted"
+    gone = []
     for follower in followers:
         taken = follower if callable(follower) else lambda follower=follower: follower
         until(lambda taken=taken: taken() and taken()[-1]["seq"] == seq, "the last change")
-        changes = taken()
-        assert [change["seq"] for change in changes] == list(range(1, seq + 1)), "the numbers have gaps, or come twice"
-        assert made_of([change["change"] for change in changes]) == stored, "the changes that were told make other documents"
-
-
-def made_of(commands):
-    """The documents that changes make (RFC 6902)."""
-    made = {}
-    for command in commands:
-        if command["cmd"] == "create":
-            made[command["name"]] = command["doc"]
-        elif command["cmd"] == "patch":
-            made[command["name"]] = jsonpatch.apply_patch(made[command["name"]], command["ops"], in_place=True)
-        else:
-            raise AssertionError(f"nobody asked for {command}")
-    return made
+        lines = taken()
+        changes_in(lines, seq, stored, 3 if has_marks else 2)
+        gone.append(sum("documents" in line for line in lines))
+    return gone
 
 
 def main():

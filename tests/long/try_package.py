@@ -337,7 +337,7 @@ class Packages:
 
     def node(self):
         """A node of a replicated store, whose log is trimmed."""
-        self.new_store(NODE)
+        self.new_store(NODE, "--format 3")
         self.root.write(f"etc/jpstore/{NODE}", SETTINGS)
         self.as_user(NODE, f". /etc/jpstore/{NODE}; python3 -m jpstore replica init {store_of(NODE)} $LOG")
         self.root.run(f"systemctl enable --now {UNITS[1]} jpstore-trim@{NODE}.timer; test -S {socket_of(NODE)}")
@@ -347,9 +347,9 @@ class Packages:
         for unit in (UNITS[1], f"jpstore-trim@{NODE}"):
             self.root.run(f"systemd-analyze security --threshold=20 {unit}")
 
-    def new_store(self, user):
+    def new_store(self, user, options=""):
         self.root.run(f"useradd --system --create-home {user}; chmod 750 /home/{user}; install -d -m 700 -o {user} /var/lib/jpstore/{user}")
-        self.as_user(user, f"jpstore format {store_of(user)} --sectors 4096")
+        self.as_user(user, f"jpstore format {store_of(user)} --sectors 4096 {options}")
 
     def as_user(self, user, words):
         return self.root.run(f"cd /; runuser -u {user} -- sh -ec {shlex.quote(words)}")
@@ -395,7 +395,7 @@ class Packages:
         same("what is gone", sorted(before - after), [])
         same("the units that are enabled", self.root.run("grep -rl jpstore /var/lib/systemd /etc/systemd 2>/dev/null || true"), "")
         left = self.root.run("cd /var/lib/jpstore; find . -type f").split()
-        same("the stores", sorted(left), [f"./{HUB}/store", f"./{HUB}/store.changes", f"./{NODE}/store"])
+        same("the stores", sorted(left), [f"./{HUB}/store", f"./{NODE}/store"])
 
     def installed_again(self):
         """The store that was left is served again."""

@@ -15,16 +15,17 @@ from .adapt import Adapted, Schema
 from .client import Mark, Node, Pumped, Status, Store
 from .dump import LoadStopped, dump, grow, grow_file, load
 from .errors import (
-    AccessError, Broken, Conflict, Ended, Full, Invalid, JpstoreError, JpstoreWarning, Malformed, NoMemory, NotFound,
-    Outdated, Overtaken, Refused, TimedOut, TooLarge, Unsendable,
+    AccessError, Broken, Conflict, Ended, Full, Gone, Invalid, JpstoreError, JpstoreWarning, Malformed, NoMemory,
+    NotFound, Outdated, Overtaken, Refused, TimedOut, TooLarge, Unsendable,
 )
 from .explain import Fault, explain
 from .follow import Latest
 from .moment import Document, Moment
 from .refusals import REFUSALS, Refusal
+from .results import Changes, Transaction
 from .scaled import Scaled
 from .version import __version__
-from .watch import Change, Gone, Watch
+from .watch import Change, Watch
 from .wire.commands import create, delete, patch, set_schema, transaction
 from .wire.program import check_file, copy_file, format_file, upgrade_file
 
@@ -32,12 +33,12 @@ if TYPE_CHECKING:
     from .aio.client import AsyncStore
 
 __all__ = [
-    "AccessError", "Adapted", "AsyncStore", "Broken", "Change", "Conflict", "Document", "Ended", "Fault", "Full",
-    "Gone", "Invalid", "JpstoreError", "JpstoreWarning", "Latest", "LoadStopped", "Malformed", "Mark", "Moment",
+    "AccessError", "Adapted", "AsyncStore", "Broken", "Change", "Changes", "Conflict", "Document", "Ended", "Fault",
+    "Full", "Gone", "Invalid", "JpstoreError", "JpstoreWarning", "Latest", "LoadStopped", "Malformed", "Mark", "Moment",
     "NoMemory", "Node", "NotFound", "Outdated", "Overtaken", "Pumped", "REFUSALS", "Refusal", "Refused", "Scaled",
-    "Schema", "Status", "Store", "TimedOut", "TooLarge", "Unsendable", "Watch", "__version__", "check_file",
-    "copy_file", "create", "delete", "dump", "explain", "format_file", "grow", "grow_file", "load", "patch",
-    "set_schema", "transaction", "upgrade_file",
+    "Schema", "Status", "Store", "TimedOut", "TooLarge", "Transaction", "Unsendable", "Watch", "__version__",
+    "check_file", "copy_file", "create", "delete", "dump", "explain", "format_file", "grow", "grow_file", "load",
+    "patch", "set_schema", "transaction", "upgrade_file",
 ]
 
 

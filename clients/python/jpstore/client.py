@@ -13,12 +13,13 @@ from .errors import Invalid, JpstoreError, Refused
 from .follow import Values, followed
 from .moment import Moment, moment_of
 from .once import Once
-from .results import Mark, Node, Pumped, Status
+from .results import Changes, Mark, Node, Pumped, Status
 from .watch import UNWATCHED, Watch
 from .wire import requests
 from .wire.commands import AskedMark, Command
 from .wire.connection import Connection
 from .wire.finished import finished
+from .wire.limits import MOST_TOLD_BYTES
 from .wire.program import Path, Program, find_program, serve_words
 from .wire.requests import Outcome, Request
 from .wire.session import Channel, Session, give_back_if_dropped
@@ -266,6 +267,16 @@ class Store:
         """The names, or those that begin with `prefix`, in the order in which the documents were created."""
         return self._do(requests.names(prefix))
 
+    def changes(self, since: int, max_bytes: int = MOST_TOLD_BYTES) -> Changes:
+        """The transactions after the change `since`, each whole: the first `max_bytes` of them, and one at least.
+
+        `since` is the number of the last change of a transaction, or that of documents that were read (`status`,
+        `export`). `Gone` is raised if the store doesn't know all that came after it. It knows the newest ones: those
+        since it was opened, and in format 3 those since its last snapshot too. If there are no transactions, nothing is
+        newer. Nothing is waited for: see `watch`.
+        """
+        return self._do(requests.changes(since, max_bytes))
+
     def status(self) -> Status:
         """The status of the store."""
         return self._do(requests.status())
@@ -299,7 +310,7 @@ class Store:
         """The changes of a hub's store after number `since`, or from now on: an iterator that waits for the next one.
 
         It has a connection of its own, which is made again if it is lost. With `follow=False` it ends with the last
-        change that is already made. If the hub has not kept all changes after `since`, `Gone` is raised. See `Watch`.
+        change that is already made. If the hub doesn't know all changes after `since`, `Gone` is raised. See `Watch`.
         """
         if self.hub is None:
             raise JpstoreError(UNWATCHED)

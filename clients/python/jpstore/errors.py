@@ -17,9 +17,9 @@ if TYPE_CHECKING:
     from .explain import Fault
 
 __all__ = [
-    "AccessError", "Broken", "Conflict", "Ended", "Full", "Invalid", "JpstoreError", "JpstoreWarning", "Malformed",
-    "NoMemory", "NotFound", "Outdated", "Overtaken", "Refused", "TimedOut", "TooLarge", "Unsendable", "accessing",
-    "accessing_store", "refusal_of",
+    "AccessError", "Broken", "Conflict", "Ended", "Full", "Gone", "Invalid", "JpstoreError", "JpstoreWarning",
+    "Malformed", "NoMemory", "NotFound", "Outdated", "Overtaken", "Refused", "TimedOut", "TooLarge", "Unsendable",
+    "accessing", "accessing_store", "refusal_of",
 ]
 
 
@@ -56,6 +56,26 @@ def accessing(path: Union[str, "os.PathLike[str]"], advice: Mapping[int, str] = 
         told = AccessError(error.errno or 0, error.strerror or str(error), named)
         told.advice = as_called(advice.get(told.errno or 0, ""))
         raise told from error
+
+
+class Gone(JpstoreError):
+    """Not all changes after the number that was asked for are known, or that number belongs to another history.
+
+    Read the documents again (`export`), and go on from the number that they have then.
+    """
+
+    def __init__(self, asked: Optional[int], since: int) -> None:
+        #: The least number from which one may go on.
+        self.since = since
+        super().__init__(asked, since)
+
+    def __str__(self) -> str:
+        asked = self.args[0]
+        known = asked is not None and asked >= self.since
+        gone = (f"the store has no change {asked}, or is another one than that which had it" if known
+                else f"the changes after {asked} are gone")
+        return (f"{gone}; one may go on from {self.since}: read the documents again (`export`), and go on from their "
+                "number")
 
 
 # What to do about the file of a store, by the system's number.

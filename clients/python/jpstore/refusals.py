@@ -129,7 +129,7 @@ _ROWS = [
             "select less, for instance by a slice such as `[0:100000]`"),
     Refusal(54, "reply-long",
             "the reply would have over 16,777,216 bytes without its LF",
-            "select less, or read the values one by one"),
+            "select less, or read the values one by one; of `changes`, read the documents anew"),
     Refusal(60, "full",
             "there is no room for the change, not even after a snapshot, and in format 3 none for the documents and "
             "marks that it would leave; or the requested snapshot is longer than a half",

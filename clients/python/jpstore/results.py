@@ -2,14 +2,14 @@
 import json
 import re
 from dataclasses import dataclass, fields
-from typing import Any, Dict, NamedTuple, Optional, Tuple, Union
+from typing import Any, Dict, Iterator, List, NamedTuple, Optional, Tuple, Union
 
 from .wire.values import escaped
 
 # A part of a normalized path: an index, or a name with its escapes.
 _PART = re.compile(r"\[(?:(0|[1-9][0-9]*)|'((?:[^'\\]|\\.)*)')\]", re.DOTALL)
 
-__all__ = ["Mark", "Node", "Pumped", "Status"]
+__all__ = ["Changes", "Mark", "Node", "Pumped", "Status", "Transaction"]
 
 
 @dataclass(frozen=True)
@@ -41,6 +41,43 @@ class Mark(NamedTuple):
 
     value: str
     seq: int
+
+
+@dataclass(frozen=True)
+class Transaction:
+    """Changes that were made together, or one alone: the first number, the last, and the commands as they are kept."""
+
+    first: int
+    last: int
+    changes: List[Dict[str, Any]]
+    #: The key and the value of the mark that was set with them.
+    mark: Optional[Tuple[str, str]] = None
+
+    @classmethod
+    def of(cls, record: Dict[str, Any]) -> "Transaction":
+        """The transaction that a store tells."""
+        mark = record.get("mark")
+        return cls(record["first"], record["last"], record["changes"], (mark["key"], mark["value"]) if mark else None)
+
+    def record(self) -> Dict[str, Any]:
+        """What a store tells of it."""
+        mark = {"mark": {"key": self.mark[0], "value": self.mark[1]}} if self.mark else {}
+        return {"changes": self.changes, "first": self.first, "last": self.last, **mark}
+
+
+@dataclass(frozen=True)
+class Changes:
+    """The transactions after a change, in order; `seq` is the number of the store's last change.
+
+    `identity` is that of a store in format 3.
+    """
+
+    seq: int
+    transactions: List[Transaction]
+    identity: Optional[str] = None
+
+    def __iter__(self) -> Iterator[Transaction]:
+        return iter(self.transactions)
 
 
 @dataclass(frozen=True)

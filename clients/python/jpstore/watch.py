@@ -9,10 +9,10 @@ import errno
 import json
 import os
 import time
-from dataclasses import dataclass
+from dataclasses import dataclass, field
 from typing import Any, Callable, Dict, Generic, Iterator, Optional, Type, TypeVar
 
-from .errors import AccessError, Ended, JpstoreError, accessing, refusal_of
+from .errors import AccessError, Ended, Gone, JpstoreError, accessing, refusal_of
 from .wire.connection import Connection
 from .wire.finished import finished
 from .wire.forks import check_process, in_each_child
@@ -37,31 +37,14 @@ class Change:
     #: The numbers of the first and the last change of its transaction, if that has several.
     first: Optional[int] = None
     last: Optional[int] = None
+    #: The name of the history up to this change: with `seq`, it is what a watcher keeps to go on later.
+    # Each start of a hub makes another name for the same.
+    history: Optional[str] = field(default=None, compare=False)
 
     def record(self) -> Dict[str, Any]:
-        """What a hub tells of it: `change`, `seq`, and of a transaction `first` and `last`."""
-        span = {} if self.first is None else {"first": self.first, "last": self.last}
-        return {"change": self.command, **span, "seq": self.seq}
-
-
-class Gone(JpstoreError):
-    """The hub does not have all changes after the number that was asked for, or that number belongs to another store.
-
-    Read the documents again (`export`), and watch from the number that they have then.
-    """
-
-    def __init__(self, asked: Optional[int], since: int) -> None:
-        #: The least number from which one may watch.
-        self.since = since
-        super().__init__(asked, since)
-
-    def __str__(self) -> str:
-        asked = self.args[0]
-        if asked is not None and asked >= self.since:
-            return (f"the store has no change {asked}, or is another one than that which had it; one may watch from "
-                    f"{self.since} on: read the documents again (`export`), and watch from their number")
-        return (f"the changes after {asked} are gone, and one may watch from {self.since} on: read the documents again "
-                "(`export`), and watch from their number")
+        """What a hub tells of it: `change`, `history` and `seq`, and of a transaction `first` and `last`."""
+        members = {"change": self.command, "first": self.first, "history": self.history, "last": self.last}
+        return {**{name: value for name, value in members.items() if value is not None}, "seq": self.seq}
 
 
 class Progress:
@@ -72,7 +55,7 @@ class Progress:
         self.path = os.fspath(path)
         #: The number after which the next change is to come; None before the first connection if none was given.
         self.since = since
-        #: Tells the history of one store from that of another.
+        #: The name of the history up to that number.
         self.history = history
         self._last: Optional[int] = None
         self._follow, self._wait = follow, wait
@@ -97,8 +80,9 @@ class Progress:
         record = json.loads(line)
         self._until = None
         if "change" in record:
-            self.since = record["seq"]
-            return Change(record["seq"], record["change"], record.get("first"), record.get("last"))
+            # A node of a replicated store has one for all changes, which its answer names.
+            self.since, self.history = record["seq"], record.get("history", self.history)
+            return Change(record["seq"], record["change"], record.get("first"), record.get("last"), self.history)
         if record["ok"]:
             self.since, self.history = record["from"], record["history"]
             self._last = record["seq"] if self._last is None else self._last
@@ -143,7 +127,7 @@ class Watcher(Generic[C]):
 
     @property
     def history(self) -> Optional[str]:
-        """Tells the history of this store from that of another which takes its place."""
+        """The name of the history up to the last change that came, which no store that takes its place has."""
         return self._progress.history
 
     def tell_lost(self, call: Callable[[], None]) -> None:
@@ -228,8 +212,8 @@ class Watch(Watcher[Connection], Iterator[Change]):
 
     It waits for further changes; with `follow=False` it ends with the last change that was made when it began. A lost
     connection is made again: forever, or for `wait` seconds at most. The first connection is waited for only with
-    `wait`. `Gone` is raised if the hub has not kept all changes after `since`. To go on later, keep `since` and
-    `history` of this object, and hand both in again.
+    `wait`. `Gone` is raised if the hub doesn't know all changes after `since`, and in format 2 after each start of the
+    hub. To go on later, keep `seq` and `history` of the last change, and hand both in, as `since` and `history`.
     """
 
     def __init__(self, path: Path, since: Optional[int] = None, *, history: Optional[str] = None, follow: bool = True,

@@ -19,8 +19,9 @@ import traceback
 
 from forking import InProcess, calls_of, close_beside, only_here, try_call
 from jpstore import (
-    Broken, Conflict, Ended, Invalid, JpstoreError, NotFound, Outdated, Overtaken, Refused, Store, TooLarge, Unsendable,
-    check_file, copy_file, create, delete, format_file, patch, set_schema, transaction, upgrade_file,
+    Broken, Changes, Conflict, Ended, Gone, Invalid, JpstoreError, NotFound, Outdated, Overtaken, Refused, Store,
+    TooLarge, Transaction, Unsendable, check_file, copy_file, create, delete, format_file, patch, set_schema,
+    transaction, upgrade_file,
 )
 from jpstore.embedded import Embedded, copy_embedded, embedded_version, format_embedded, upgrade_embedded
 from jpstore.wire import requests
@@ -196,6 +197,26 @@ def test_exactly_once(folder):
         assert (refused.number, refused.mark, refused.seq) == (25, "v", 6)
     with Store.in_memory() as store:
         assert "this store has no marks" in str(raised(JpstoreError, store.once, "a", [create("d", 1)]))
+
+
+def test_the_changes_after_one(folder):
+    path, made = new_file(folder, "changes", 3), [create("d", 1), delete("d")]
+    with Store(path, embedded=True, batch=8) as store:
+        store.transaction(made, mark=("k", "v"))
+        store.create("e", "x" * 100_000)
+        identity, told = store.status().id, [Transaction(1, 2, made, ("k", "v")),
+                                             Transaction(3, 3, [create("e", "x" * 100_000)])]
+        assert store.changes(0) == Changes(3, told, identity)
+        assert (list(store.changes(0, 1)), list(store.changes(3))) == (told[:1], [])
+        assert raised(Gone, store.changes, 1).since == 0
+    with Store(path, embedded=True) as store:
+        assert list(store.changes(2)) == told[1:]
+        store.snapshot()
+    with Store(path, embedded=True) as store:
+        assert raised(Gone, store.changes, 2).since == 3
+    with Store.in_memory() as store:
+        store.group(made)
+        assert store.changes(1) == Changes(2, [Transaction(2, 2, made[1:])])
 
 
 def test_faults(folder):

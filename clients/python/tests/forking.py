@@ -106,6 +106,7 @@ QUESTIONS = {
     "query_all": (lambda store, name: store.query_all("$.n", name), lambda found, name: name in found),
     "names": (lambda store, name: store.names(), lambda found, name: name in found and OF_CHILD in found),
     "list": (lambda store, name: store.list(), lambda found, name: name in found and OF_CHILD in found),
+    "changes": (lambda store, name: store.changes(0), lambda found, _: found.transactions[0].first == 1),
     "status": (lambda store, name: store.status(), lambda found, _: found.documents > 1),
     "snapshot": (lambda store, name: store.snapshot(), lambda found, _: type(found) is int),
     "grow": (lambda store, name: store.grow(8192), lambda found, _: found.sectors == 8192),

@@ -105,6 +105,13 @@ class Gateway:
             os.kill(child, signal.SIGKILL)
 
 
+def without_history(data):
+    """A change as an event has it, but for the name of the history up to it."""
+    told = json.loads(data)
+    assert told.pop("history")
+    return told
+
+
 class Events:
     """A stream of server-sent events, read as HTML says (section 9.2.6)."""
 

@@ -1,64 +1,45 @@
-"""What a hub knows of the changes of its store, asked of it; and hubs that are killed at a chosen moment."""
+"""The changes that a hub sends, and hubs that end, or are killed, at a chosen moment."""
 import contextlib
 import json
 
 from hubs import Hub
-from jpstore.watch import Watch
 from support import PATIENCE
 
 # A hub that was killed leaves a program that ends with its input.
 WAIT = ("--wait", "10")
 
-# The most numbers of changes about which a hub is asked.
-_MOST = 20
+
+class Told:
+    """The changes after number `base` that a hub tells, and the name of the history that came with each number."""
+
+    def __init__(self, hub):
+        self.base, self.last = _ends(hub)
+        begun, *lines = hub.lines(asked(self.base), 1 + self.last - self.base)
+        assert [line["seq"] for line in lines] == list(range(self.base + 1, self.last + 1))
+        self.changes = {line["seq"]: line["change"] for line in lines}
+        self.names = {self.base: begun["history"], **{line["seq"]: line["history"] for line in lines}}
+        self.spans = {line["seq"]: (line["first"], line["last"]) for line in lines if "first" in line}
+
+    def goes_on(self, hub, seq):
+        """Whether a watcher that was told this much may go on at a hub."""
+        begun, = hub.lines(asked(seq, self.names[seq]), 1)
+        assert begun["ok"] or begun["number"] == 80
+        return begun["ok"]
 
 
-class History:
-    """The changes after number `base` that a hub tells, and its name.
-
-    It also tells which earlier changes, sent under which names of this test's histories, the hub knows as its own.
-    """
-
-    def __init__(self, hub, place):
-        since, last = self._begin(hub)
-        self.base = since
-        with Watch(hub.path, since, follow=False) as watch:
-            self.name = watch.history
-            self.changes = {change.seq: change.command for change in watch}
-        self.last = last
-        names = vars(place).setdefault("names_of_histories", set())
-        names.add(self.name)
-        self._known = {(seq, name) for name in names for seq in range(min(self.last, _MOST) + 2)
-                       if self._knows(hub, seq, name)}
-
-    @staticmethod
-    def _begin(hub):
-        """The number after which it tells changes, and that of the last one."""
-        first, = hub.lines(b'{"cmd":"watch","from":0}\n', 1)
-        since = 0 if first["ok"] else first["from"]
-        begun, = hub.lines(b'{"cmd":"watch","from":%d}\n' % since, 1)
-        return since, begun["seq"]
-
-    @staticmethod
-    def _knows(hub, seq, name):
-        asked = json.dumps({"cmd": "watch", "from": seq, "history": name}).encode() + b"\n"
-        return hub.lines(asked, 1)[0]["ok"]
-
-    def has(self, seq, name):
-        """Whether a watcher that was sent changes under this name, up to this one, may go on here."""
-        return (seq, name) in self._known
+def asked(seq, name=None):
+    """The line that asks for the changes after a number."""
+    history = {} if name is None else {"history": name}
+    return json.dumps({"cmd": "watch", "from": seq, **history}).encode() + b"\n"
 
 
-def told(history):
-    """The changes that a history has, by their numbers."""
-    assert list(history.changes) == list(range(history.base + 1, history.last + 1))
-    return history.changes
-
-
-def opened(place):
-    """What a hub knows that is started anew."""
-    with ended_hub(place) as hub:
-        return History(hub, place)
+def _ends(hub):
+    """The number after which it tells changes, and that of the last one."""
+    begun, = hub.lines(asked(0), 1)
+    if begun["ok"]:
+        return 0, begun["seq"]
+    again, = hub.lines(asked(begun["from"]), 1)
+    return begun["from"], again["seq"]
 
 
 @contextlib.contextmanager
@@ -70,25 +51,29 @@ def ended_hub(place):
         hub.process.wait(PATIENCE)
 
 
-def noted(place, *groups):
-    """A hub makes and notes changes, and ends; answers its history. A group that is a function does something else."""
-    with ended_hub(place) as hub, hub.connect() as store:
-        for group in groups:
-            store.group(group) if isinstance(group, list) else group(store)
-        return History(hub, place)
+def opened(place):
+    """What a hub tells that is started anew."""
+    with ended_hub(place) as hub:
+        return Told(hub)
 
 
-def killed(place, first, lost):
-    """A hub makes and notes changes, and is killed before it notes others; answers what it knew of the first ones."""
+def ended(place, *groups):
+    """A hub makes changes, and ends; answers what it told. A group that is a function does something else."""
+    with ended_hub(place) as hub:
+        return _done(hub, groups)
+
+
+def killed(place, *groups):
+    """As `ended`, of a hub that is killed."""
     with Hub(place, options=WAIT) as hub:
-        with hub.connect() as store:
-            do(store, first)
-            history = History(hub, place)
-            notes = notes_of(place)
-            do(store, lost)
-        hub.kill()
-    put_notes(place, notes)
-    return history
+        return _done(hub, groups)
+
+
+def _done(hub, groups):
+    with hub.connect() as store:
+        for group in groups:
+            do(store, group)
+    return Told(hub)
 
 
 def do(store, what):
@@ -99,13 +84,12 @@ def do(store, what):
         store.group(what)
 
 
-def notes_of(place):
-    """The notes of a hub as they are now."""
-    with open(place.file + ".changes", "rb") as file:
-        return file.read()
+def elsewhere(place, *groups):
+    """Another process opens the file for each group of changes."""
+    for group in groups:
+        with place.store(wait=PATIENCE) as store:
+            do(store, group)
 
 
-def put_notes(place, notes):
-    """Puts these notes there, as after a kill or a power failure before further ones."""
-    with open(place.file + ".changes", "wb") as file:
-        file.write(notes)
+def snapshot(store):
+    store.snapshot()

@@ -70,6 +70,12 @@ class Hub:
             client.sendall(sent)
             return [json.loads(replies.readline()) for _ in range(count)]
 
+    def told(self, since, count):
+        """The lines by which it tells the changes after a number, as they are."""
+        with self.connected() as client, client.makefile("rb") as lines:
+            client.sendall(b'{"cmd":"watch","from":%d}\n' % since)
+            return [lines.readline().decode() for _ in range(count + 1)][1:]
+
     def program(self):
         """The process of the program that it serves by."""
         return self.programs()[0]

@@ -17,6 +17,11 @@ def blocks_of(text):
     return re.findall(r"^```(\w*)\n(.*?)^```$", text, re.M | re.S)
 
 
+def without_names(text):
+    """What is written, without the names of histories, which no two hubs have in common."""
+    return re.sub(r"\b[0-9a-f]{16}\.\d+\.[0-9a-f]{16}\b", "NAME", text)
+
+
 def how_to_run(kind, text, store):
     """The words that run a block of a kind, and what they are given; the shell is that of a store."""
     if kind == "sh":

@@ -10,10 +10,11 @@ from .. import calls
 from ..calls import ATTEMPTS
 from ..errors import Invalid, JpstoreError
 from ..once import Once
-from ..results import Mark, Node, Pumped, Status
+from ..results import Changes, Mark, Node, Pumped, Status
 from ..watch import UNWATCHED
 from ..wire import requests
 from ..wire.commands import AskedMark, Command
+from ..wire.limits import MOST_TOLD_BYTES
 from ..wire.program import Path, find_program, serve_words
 from ..wire.requests import Outcome, Request
 from ..wire.session import give_back_if_dropped
@@ -180,6 +181,10 @@ class AsyncStore:
     async def names(self, prefix: str = "") -> List[str]:
         """As `Store.names`."""
         return await self._do(requests.names(prefix))
+
+    async def changes(self, since: int, max_bytes: int = MOST_TOLD_BYTES) -> Changes:
+        """As `Store.changes`."""
+        return await self._do(requests.changes(since, max_bytes))
 
     async def status(self) -> Status:
         """As `Store.status`."""

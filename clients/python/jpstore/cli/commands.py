@@ -15,7 +15,7 @@ from ..wire.commands import set_schema
 from .display import members_of, printable, shown, shown_status
 from .file_commands import FILE_COMMANDS
 from .opening import Row, Word, opened, program_of, value_in, value_of_word, wait_for
-from .printing import accepted, print_record, said
+from .printing import accepted, print_changes, print_record, said
 from .shell import run_shell
 
 __all__ = ["COMMANDS", "OTHER_NAMES", "VARIANTS", "show_completion"]
@@ -182,8 +182,16 @@ def _serve(words: argparse.Namespace, options: List[Tuple[str, Optional[str]]]) 
     run_server(words.store, given, program_of(words))
 
 
+def _changes(words: argparse.Namespace) -> None:
+    with opened(words) as store:
+        print_changes(store, words.since)
+
+
 def _watch(words: argparse.Namespace) -> None:
-    with Watch(words.store, words.since, follow=not words.past, wait=getattr(words, "wait", None)) as changes:
+    if words.history is not None and words.since is None:
+        raise JpstoreError("`--history` is for `--since`, which is missing")
+    wait = getattr(words, "wait", None)
+    with Watch(words.store, words.since, history=words.history, follow=not words.past, wait=wait) as changes:
         gone = f"{words.store}: the hub is gone, and is waited for"
         changes.tell_lost(lambda: print(gone, file=sys.stderr, flush=True))
         for change in changes:
@@ -257,6 +265,10 @@ COMMANDS: Dict[str, Row] = {
         ("--by", {"metavar": "NAME", "help": "the client whose last key alone is known, however many it used"})]),
     "rev": (_rev, "shows the revision of a document: the number of its last change", "rev inventory shelf-1", [_NAME]),
     "status": (_status, "shows how many documents there are, and how full the store is", "status inventory --json", []),
+    "changes": (_changes, "shows the transactions that the store still knows, each as a line of JSON",
+                "changes inventory --since 41", [
+                    ("--since", {"metavar": "N", "type": int, "default": 0,
+                                 "help": "those after change N, the last one of a transaction; else from the first"})]),
     "snapshot": (_snapshot, "drops the history, which makes room", "snapshot inventory", []),
     "dump": (_dump, "writes each document as the line that makes it", "dump inventory > inventory.lines", []),
     "load": (_load, "makes the documents of a dump, from standard input", "load restored < inventory.lines", [
@@ -274,6 +286,7 @@ COMMANDS: Dict[str, Row] = {
                       "help": "let pages of this origin in, such as https://example.org"})]),
     "watch": (_watch, "shows each change that a hub accepts, as a line of JSON", "watch inventory.socket --since 41", [
         ("--since", {"metavar": "N", "type": int, "help": "begin after change N; else with the next change"}),
+        ("--history", {"metavar": "TEXT", "help": "only if change N came with this `history`"}),
         ("--past", {"action": "store_true", "help": "end with the last change that is already made"}),
         ("--name", {"metavar": "NAME", "help": "only the changes of this document"})]),
     "follow": (_follow, "shows a document of a hub now, and its newest state after changes of it, as a line of JSON; "

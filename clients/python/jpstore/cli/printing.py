@@ -3,9 +3,10 @@ import argparse
 import json
 from typing import Any, Dict
 
+from ..client import Store
 from ..wire.values import canonical
 
-__all__ = ["accepted", "done", "print_record", "said"]
+__all__ = ["accepted", "done", "print_changes", "print_record", "said"]
 
 
 def said(words: argparse.Namespace, value: Any, text: str) -> None:
@@ -21,6 +22,15 @@ def accepted(words: argparse.Namespace, seq: int, count: int = 1) -> None:
 def done(seq: int, count: int = 1) -> str:
     """What is said of so many changes, the last of which has this number."""
     return f"done, change {seq:,}" if count == 1 else f"done, changes {seq - count + 1:,} to {seq:,}"
+
+
+def print_changes(store: Store, since: int) -> None:
+    """Prints the transactions after a change, each as a line of JSON, until nothing is newer."""
+    told = store.changes(since)
+    while told.transactions:
+        for transaction in told:
+            print_record(transaction.record())
+        told = store.changes(told.transactions[-1].last)
 
 
 def print_record(record: Dict[str, Any]) -> None:

@@ -17,7 +17,7 @@ from ..wire.commands import set_schema
 from .completion import completions
 from .display import printable, shown, shown_error, shown_status
 from .nearest import no_command
-from .printing import done, print_record
+from .printing import done, print_changes, print_record
 from .shell_transaction import Draft
 from .shell_words import (
     Usage, flag_and_rest, if_rev_and_rest, names_and_file, nothing_more, number_of, option_and_rest, schema_and_doc,
@@ -30,8 +30,8 @@ __all__ = ["ELSEWHERE", "run_shell"]
 ELSEWHERE = ("check", "completion", "copy", "dump", "format", "grow", "http", "hub", "load", "replica", "shell",
              "transaction", "upgrade")
 
-# What shows lines by itself, until it is interrupted.
-_WAITING = ("follow", "watch")
+# What shows lines by itself, as they come.
+_WAITING = ("changes", "follow", "watch")
 
 _HISTORY = os.path.expanduser("~/.jpstore_history")
 _HISTORY_LINES = 1000
@@ -193,14 +193,13 @@ class Shell(cmd.Cmd):
             return done(self.store.set_schema(names[0], schema))
         return done(self.store.transaction([set_schema(name, schema) for name in names]), len(names))
 
+    def do_changes(self, line: str) -> None:
+        """changes [SINCE]: the transactions after a change that the store still knows."""
+        print_changes(self.store, _since(line) or 0)
+
     def do_watch(self, line: str) -> None:
         """watch [SINCE]: the changes of a hub's store after a number, or from now on, until Ctrl-C."""
-        since: Optional[int] = None
-        if line.strip():
-            word, rest = word_and_rest(line, "SINCE")
-            nothing_more(rest)
-            since = number_of(word, "SINCE")
-        with contextlib.suppress(KeyboardInterrupt), self.store.watch(since) as changes:
+        with contextlib.suppress(KeyboardInterrupt), self.store.watch(_since(line)) as changes:
             for change in changes:
                 print_record(change.record())
 
@@ -341,6 +340,14 @@ def _pointer(rest: str) -> str:
     pointer, rest = word_and_rest(rest, "POINTER")
     nothing_more(rest)
     return pointer
+
+
+def _since(line: str) -> Optional[int]:
+    if not line.strip():
+        return None
+    word, rest = word_and_rest(line, "SINCE")
+    nothing_more(rest)
+    return number_of(word, "SINCE")
 
 
 def _check_no_rev(if_rev: Optional[int]) -> None:

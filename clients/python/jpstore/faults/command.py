@@ -3,7 +3,7 @@ import re
 from typing import Any, Dict, Iterator, Tuple
 
 from ..wire.forms import CHANGES, FORMS, MARKING, TRANSACTION, Kind, Members
-from ..wire.limits import MOST_CHANGES
+from ..wire.limits import MOST_CHANGES, MOST_TOLD_BYTES
 from .depths import deeper_than
 from .words import nearest, place_in, shown
 
@@ -19,6 +19,9 @@ _VALUES = {
     "mark": "an object of a `key` and a `value`, texts, the value of at most 128 bytes",
     "max": "a whole number from 1 to 1,000,000", "name": "a text", "path": "a text", "sectors": "a whole number from 0",
 }
+
+# Of a member that has another limit in this command.
+_VALUES_OF = {("changes", "max"): f"a whole number from 1 to {MOST_TOLD_BYTES:,}"}
 
 _DEEPEST = 64
 
@@ -48,7 +51,10 @@ def _fault_of_mark(word: str, command: Dict[str, Any]) -> str:
 
 def _fault_of_values(word: str, members: Members, command: Dict[str, Any]) -> str:
     wrong = next((name for name, has_kind in members.items() if name in command and not has_kind(command[name])), None)
-    return f"`{wrong}` of `{word}` is {shown(command[wrong])}, and must be {_VALUES[wrong]}" if wrong else ""
+    if wrong is None:
+        return ""
+    wanted = _VALUES_OF.get((word, wrong), _VALUES[wrong])
+    return f"`{wrong}` of `{word}` is {shown(command[wrong])}, and must be {wanted}"
 
 
 def _fault_of_members(word: str, command: Dict[str, Any]) -> str:

@@ -5,14 +5,13 @@ from typing import Any, Dict, List, Literal, Optional, Sequence, Tuple, Union
 from ..called import called
 from ..errors import Unsendable, told_command
 from .forms import CHANGES, TRANSACTION, is_change
-from .values import WHOLE, text_of
+from .values import WHOLE, canonical, text_of
 
 __all__ = [
     "AskedMark", "COPY", "END_OF_TRANSACTION", "EXPORT", "HEAD_OF_CREATION", "LIST", "SNAPSHOT", "STATUS",
-    "changes_in", "create",
-    "delete", "get", "get_schema", "is_change", "is_changing", "line_of", "line_of_creation", "line_of_schema",
-    "line_of_transaction", "mark_of", "patch", "pump", "query", "rev", "set_schema", "texts_in_transaction",
-    "transaction",
+    "changes_after", "changes_in", "create", "delete", "get", "get_schema", "is_change", "is_changing", "line_of",
+    "line_of_creation", "line_of_schema", "line_of_transaction", "mark_of", "patch", "pump", "query", "rev",
+    "set_schema", "texts_in_transaction", "transaction",
 ]
 
 #: A command; see `docs/use/PROTOCOL.md`.
@@ -101,6 +100,11 @@ def query(name: str, path: str) -> Command:
     return {"cmd": "query", "name": name, "path": path}
 
 
+def changes_after(since: int, most: int) -> Command:
+    """Asks for the transactions after a change: the first bytes of them, this many at most."""
+    return {"cmd": "changes", "from": since, "max": most}
+
+
 def pump(most: int) -> Command:
     """Asks for a step of a snapshot that is copied between changes."""
     return {"cmd": "pump", "max": most}
@@ -144,9 +148,10 @@ def line_of_schema(name: str, schema: bytes) -> bytes:
     return b'{"cmd":"schema","name":"%b","schema":%b}\n' % (name.encode(), schema)
 
 
-def line_of_transaction(texts: Sequence[bytes]) -> bytes:
-    """The line of a transaction of the changes that have these texts."""
-    return b"%b%b%b\n" % (_BEGIN_OF_TRANSACTION, b",".join(texts), END_OF_TRANSACTION)
+def line_of_transaction(texts: Sequence[bytes], mark: Tuple[str, str], if_mark: AskedMark) -> bytes:
+    """The line of a transaction of the changes that have these texts, with a mark."""
+    bare, begin = canonical(transaction([], mark, if_mark)), len(_BEGIN_OF_TRANSACTION)
+    return b"%b%b%b\n" % (bare[:begin], b",".join(texts), bare[begin:])
 
 
 def texts_in_transaction(line: bytes) -> bytes:

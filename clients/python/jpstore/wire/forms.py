@@ -2,7 +2,7 @@
 from enum import Enum
 from typing import Any, Callable, Dict, FrozenSet, NamedTuple
 
-from .limits import MOST_CHANGES, MOST_MARK_BYTES
+from .limits import MOST_CHANGES, MOST_MARK_BYTES, MOST_TOLD_BYTES
 
 __all__ = ["CHANGES", "FORMS", "MARKING", "TRANSACTION", "Form", "Kind", "Members", "has_form", "is_change"]
 
@@ -35,6 +35,10 @@ def _is_count(value: Any) -> bool:
 
 def _is_step(value: Any) -> bool:
     return _is_count(value) and 1 <= value <= _MOST_SECTORS
+
+
+def _are_told(value: Any) -> bool:
+    return _is_count(value) and 1 <= value <= MOST_TOLD_BYTES
 
 
 def _is_any(_: Any) -> bool:
@@ -82,6 +86,7 @@ FORMS: Dict[str, Form] = {
     "rev": Form(Kind.QUESTION, _NAMED),
     "query": Form(Kind.QUESTION, {**_NAMED, "path": _is_text}),
     "mark": Form(Kind.QUESTION, {**_WORD, "key": _is_text}),
+    "changes": Form(Kind.QUESTION, {**_WORD, "from": _is_count, "max": _are_told}),
     "list": Form(Kind.QUESTION, _WORD),
     "status": Form(Kind.QUESTION, _WORD),
     "snapshot": Form(Kind.SNAPSHOT, _WORD),

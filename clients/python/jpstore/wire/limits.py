@@ -2,7 +2,7 @@
 
 __all__ = [
     "MOST_CHANGES", "MOST_DEPTH", "MOST_DOCUMENT_BYTES", "MOST_GROUP", "MOST_LINE_BYTES", "MOST_MARK_BYTES",
-    "MOST_OPERATIONS", "MOST_TRANSACTION_BYTES",
+    "MOST_OPERATIONS", "MOST_TOLD_BYTES", "MOST_TRANSACTION_BYTES",
 ]
 
 #: The most bytes of a line, without its LF.
@@ -25,6 +25,9 @@ MOST_TRANSACTION_BYTES = 1 << 25
 
 #: The most bytes of the value of a mark.
 MOST_MARK_BYTES = 128
+
+#: The most bytes of changes that may be asked for at once.
+MOST_TOLD_BYTES = 1 << 22
 
 #: The most changes that the program makes in one commit.
 MOST_GROUP = 1024

@@ -1,5 +1,4 @@
 """The replies as what comes: one line each, whose head tells what it has, so that a long one need not be parsed."""
-import json
 import re
 from typing import Any, Dict, Optional
 
@@ -8,14 +7,12 @@ from .values import canonical
 
 __all__ = [
     "OK", "REFUSED", "done", "head_of_refusal", "line_of_reply", "refusal", "rev_in", "seq_in", "text_in",
-    "without_document",
 ]
 
 #: How each reply begins that tells of success and has one result, and how a refusal begins that names no change.
 OK, REFUSED = b'{"ok":true', b'{"error":'
 
 _VALUE, _NODES, _END_OF_NODES = b'{"ok":true,"value":', b'{"nodes":', b',"ok":true}'
-_NAMES, _STATUS = b'{"names":[', b'{"broken":'
 _SEQ, _REV = re.compile(rb'\{"ok":true,"seq":(\d+)\}\n?'), re.compile(rb'\{"ok":true,"rev":(\d+)\}\n?')
 
 
@@ -57,15 +54,3 @@ def text_in(reply: bytes) -> Optional[bytes]:
     if reply.startswith(_VALUE):
         return reply[len(_VALUE):end - 1]
     return reply[len(_NODES):end - len(_END_OF_NODES)] if reply.startswith(_NODES) else None
-
-
-def without_document(reply: bytes, name: str) -> bytes:
-    """A reply as it would be if the store did not have this document, which nobody but its server knows of."""
-    if not reply.startswith((_NAMES, _STATUS)):
-        return reply
-    told = json.loads(reply)
-    if reply.startswith(_NAMES):
-        told["names"].remove(name)
-    else:
-        told["documents"] -= 1
-    return line_of_reply(told)

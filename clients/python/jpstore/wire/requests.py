@@ -3,19 +3,19 @@ import json
 from dataclasses import dataclass
 from typing import Any, Callable, Dict, Generic, Iterator, List, Optional, Sequence, Tuple, TypeVar, Union
 
-from ..errors import Invalid, JpstoreError, NotFound, Refused, Unsendable, refusal_of
+from ..errors import Gone, Invalid, JpstoreError, NotFound, Refused, Unsendable, refusal_of
 from ..notices import warn_of_command
-from ..results import Mark, Node, Pumped, Status
+from ..results import Changes, Mark, Node, Pumped, Status, Transaction
 from . import commands
 from .commands import AskedMark, Command, is_change, is_changing, line_of
 from .replies import text_in
 from .texts import value_of_text
 
 __all__ = [
-    "Outcome", "Request", "accepted", "change", "checked", "create", "delete", "doc_and_schema", "explainable", "get",
-    "grow", "in_pieces", "lines_of_group", "mark", "names", "outcomes_of", "patch", "pump", "put", "query", "query_all",
-    "rev", "rev_and_doc", "rev_and_value", "schema", "set_schema", "snapshot", "status", "taken", "texts",
-    "transaction",
+    "Outcome", "Request", "accepted", "change", "changes", "checked", "create", "delete", "doc_and_schema",
+    "explainable", "get", "grow", "in_pieces", "lines_of_group", "mark", "names", "outcomes_of", "patch", "pump", "put",
+    "query", "query_all", "rev", "rev_and_doc", "rev_and_value", "schema", "set_schema", "snapshot", "status", "taken",
+    "texts", "transaction",
 ]
 
 T = TypeVar("T")
@@ -139,6 +139,16 @@ def mark(key: str) -> Request[Optional[Mark]]:
         value = replies[0]["mark"]
         return None if value is None else Mark(value, replies[0]["seq"])
     return _request([commands.mark_of(key)], read)
+
+
+def changes(since: int, most: int) -> Request[Changes]:
+    """The transactions after a change; `Gone` if the store doesn't know them all."""
+    def read(replies: List[Reply]) -> Changes:
+        reply = replies[0]
+        if "gone" in reply:
+            raise Gone(since, reply["from"])
+        return Changes(reply["seq"], [Transaction.of(told) for told in reply["changes"]], reply.get("identity"))
+    return _request([commands.changes_after(since, most)], read)
 
 
 def rev(name: str) -> Request[int]:

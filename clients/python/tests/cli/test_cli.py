@@ -202,19 +202,46 @@ def test_changes_are_shown_as_the_hub_tells_them(place):
     place.format()
     with Hub(place) as hub, hub.connect() as store:
         store.group([create("d", "\u00e4"), delete("d")])
-        lines = ['{"change":{"cmd":"create","doc":"\u00e4","name":"d","schema":true},"seq":1}\n',
-                 '{"change":{"cmd":"delete","name":"d"},"seq":2}\n']
+        lines = hub.told(0, 2)
         place.shows("watch", "socket", "--since", "0", "--past", output="".join(lines))
         place.shows("watch", "socket", "--past")
         assert "the store has no change 7" in errors(place, "watch", "socket", "--since", "7", status=1)
+        # A line has what it takes to go on after it.
+        last = json.loads(lines[0])["history"]
+        place.shows("watch", "socket", "--since", "1", "--history", last, "--past", output=lines[1])
+        assert "or is another one" in errors(place, "watch", "socket", "--since", "2", "--history", "a.1.b", status=1)
+        assert "`--history` is for `--since`" in errors(place, "watch", "socket", "--history", last, status=1)
         with subprocess.Popen(place.words("watch", "socket", "--since", "1"), stdout=subprocess.PIPE, cwd=place.folder,
                               env=place.environment()) as watching:
             assert watching.stdout.readline().decode() == lines[1]
             store.create("d", "\u00e4")
-            assert watching.stdout.readline().decode() == lines[0].replace(":1}", ":3}")
+            assert [watching.stdout.readline().decode()] == hub.told(2, 1)
             watching.terminate()
     place.format(file=place.path("other"))
     assert "not the socket of a hub" in errors(place, "watch", "other", status=1)
+
+
+def test_transactions_that_are_known_are_shown(place):
+    place.format(version=3)
+    with place.store() as store:
+        store.create("d", "\u00e4")
+        store.transaction([create("e", 1), delete("e")], mark=("k", "v"))
+    lines = ['{"changes":[{"cmd":"create","doc":"\u00e4","name":"d","schema":true}],"first":1,"last":1}\n',
+             '{"changes":[{"cmd":"create","doc":1,"name":"e","schema":true},{"cmd":"delete","name":"e"}],"first":2,'
+             '"last":3,"mark":{"key":"k","value":"v"}}\n']
+    place.shows("changes", "store", output="".join(lines))
+    place.shows("changes", "store", "--since", "1", output=lines[1])
+    place.shows("store", given=b"changes 1\nchanges 3\n", output=lines[1])
+    assert "the store has no change 2, or" in errors(place, "changes", "store", "--since", "2", status=1)
+    told(place, "grow", "store", "--size", "32M")
+    with Hub(place) as hub, hub.connect() as store:
+        assert "the changes after 1 are gone; one may go on from 3" in \
+            errors(place, "changes", "socket", "--since", "1", status=1)
+        # More than is asked for at once.
+        for number in range(8):
+            store.create(f"large-{number}", "x" * 900_000)
+        shown = told(place, "changes", "socket", "--since", "3").splitlines()
+        assert [json.loads(line)["last"] for line in shown] == list(range(4, 12))
 
 
 def test_the_files_of_stores_are_made_judged_and_copied(place):
@@ -305,8 +332,7 @@ def test_a_document_is_followed_and_the_changes_of_one_are_shown(place):
     place.format()
     with Hub(place) as hub, hub.connect() as store:
         store.group([create("d", {"n": 1}), create("e", 2)])
-        line = '{"change":{"cmd":"create","doc":2,"name":"e","schema":true},"seq":2}\n'
-        place.shows("watch", "socket", "--since", "0", "--past", "--name", "e", output=line)
+        place.shows("watch", "socket", "--since", "0", "--past", "--name", "e", output=hub.told(1, 1)[0])
         with subprocess.Popen(place.words("follow", "socket", "d", "/n"), stdout=subprocess.PIPE, cwd=place.folder,
                               env=place.environment()) as following:
             assert following.stdout.readline() == b'{"rev":1,"value":1}\n'

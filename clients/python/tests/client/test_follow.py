@@ -3,10 +3,11 @@ import asyncio
 import threading
 from unittest import mock
 
+import pytest
 from jpstore import AsyncStore, JpstoreError, Latest, Store, create, delete, patch
 from jpstore.wire import requests
 from serving import RealHub
-from support import raised
+from support import raised, until
 
 
 def _set(value):
@@ -43,8 +44,9 @@ def test_the_value_at_a_place_is_followed(place):
         values.close()
 
 
-def test_following_goes_on_after_a_restart_and_over_another_store(place):
-    place.format()
+@pytest.mark.parametrize("version", [2, 3])
+def test_following_goes_on_after_a_restart_and_over_another_store(place, version):
+    place.format(version=version)
     hub = RealHub(place)
     with Store.connect(hub.path, wait=20) as store:
         store.create("d", {"a": 1})
@@ -61,7 +63,7 @@ def test_following_goes_on_after_a_restart_and_over_another_store(place):
             hub.kill()
             # A store of another history takes its place, whose numbers are smaller.
             place.file = place.path("another")
-            place.format()
+            place.format(version=version)
         with place.store() as other:
             other.create("d", {"a": 9})
         with RealHub(place):
@@ -100,6 +102,34 @@ def test_a_document_is_followed_by_asyncio(place):
             await values.aclose()
     with RealHub(place) as hub:
         asyncio.run(run(hub.path))
+
+
+@pytest.mark.parametrize("version", [2, 3])
+def test_following_by_asyncio_goes_on_after_restarts(place, version):
+    """What was changed meanwhile is seen, and what was not is not told again."""
+    place.format(version=version)
+    seen = []
+
+    async def run(path):
+        async with AsyncStore.connect(path, wait=20) as store:
+            async for latest in store.follow("d"):
+                seen.append(latest)
+                if latest == Latest(4, {"a": 3}):
+                    return
+    with RealHub(place) as hub, Store.connect(hub.path) as store:
+        store.create("d", {"a": 1})
+        reading = threading.Thread(target=lambda: asyncio.run(run(hub.path)))
+        reading.start()
+        until(lambda: seen, "the first value")
+    with RealHub(place) as hub, Store.connect(hub.path) as store:
+        store.create("e", 1)
+        store.patch("d", _set(2))
+        until(lambda: len(seen) == 2, "the second value")
+    with place.store(wait=20) as store:
+        store.patch("d", _set(3))
+    with RealHub(place):
+        reading.join()
+    assert seen == [Latest(1, {"a": 1}), Latest(3, {"a": 2}), Latest(4, {"a": 3})]
 
 
 def test_only_a_hub_can_be_followed(place):

@@ -18,7 +18,7 @@ from jpstore.cli.commands import COMMANDS
 from jpstore.errors import refusal_of
 from jpstore.refusals import REFUSALS
 from hubs import wait_until_free
-from pages import blocks_of, clone, how_to_run, page
+from pages import blocks_of, clone, how_to_run, page, without_names
 from support import PACKAGE, PATIENCE
 
 _PAGE = page("use", "GUIDE.md")
@@ -86,7 +86,7 @@ def test_the_blocks_of_the_guide_run(place):
                 pytest.fail(f"{text}\n{ended}")
             said = ended.stdout.decode()
         elif not kind:
-            assert said == text
+            assert without_names(said) == without_names(text)
         else:
             assert kind in ("text", "ini")
 

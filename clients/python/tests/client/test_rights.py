@@ -47,7 +47,7 @@ def test_a_store_from_another_node_has_the_rights_of_that_nodes_file(place):
         node = threading.Thread(target=hand_out, args=(listening, place.file))
         node.start()
         with umask(0o077):
-            assert receive_copy(place.path("socket"), place.path("joined")) == 16
+            assert receive_copy(place.path("socket"), place.path("joined")) == (16, "place")
         node.join()
     assert mode_of(place.path("joined")) == 0o640
     with open(place.file, "rb") as old, open(place.path("joined"), "rb") as new:
@@ -58,6 +58,6 @@ def hand_out(listening, file):
     """Hands out a store once, as a node does."""
     with listening.accept()[0] as joining:
         joining.recv(4096)
-        copy = copy_of(file)
+        copy = copy_of(file, "place")
         joining.sendall(copy.line())
         joining.sendall(copy.spool.read())

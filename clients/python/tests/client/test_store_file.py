@@ -53,7 +53,7 @@ def test_a_node_hands_out_a_store(place, version):
         listening.listen()
         node = threading.Thread(target=hand_out, args=(listening, place.file))
         node.start()
-        assert receive_copy(place.path("socket"), place.path("joined")) == SECTORS
+        assert receive_copy(place.path("socket"), place.path("joined")) == (SECTORS, "place")
         node.join()
     with place.store() as old, Store(place.path("joined"), program=place.program) as new:
         names = old.list()
@@ -65,7 +65,7 @@ def hand_out(listening, file):
     """Hands out a store once, as a node does."""
     with listening.accept()[0] as joining:
         joining.recv(4096)
-        copy = copy_of(file)
+        copy = copy_of(file, "place")
         joining.sendall(copy.line())
         joining.sendall(copy.spool.read())
 

@@ -2,17 +2,18 @@
 import asyncio
 import json
 import os
+import re
 import signal
 import socket
 import threading
 
 import pytest
 from hubs import Hub
-from jpstore import AsyncStore, JpstoreError, Store
+from jpstore import AsyncStore, JpstoreError, Store, delete
 from jpstore.aio.watch import AsyncWatch
 from jpstore.errors import AccessError, Malformed
-from jpstore.watch import Change, Gone, Watch
-from support import raised, until
+from jpstore.watch import Change, Gone, Progress, Watch
+from support import PATIENCE, raised, until
 
 CREATE = b'{"schema":true, "cmd":"create","name":"%b", "doc":{"b":1,"a":"\\u00e4\\/"}}\n'
 
@@ -40,11 +41,18 @@ def test_the_lines_are_those_of_the_protocol(place):
         assert (begin.pop("history") != "", begin) == (True, {"from": 0, "ok": True, "seq": 0})
         assert hub.raw(CREATE % b"d" + CREATE % b"d" + b'{"cmd":"delete","name":"d"}\n').count(b'{"ok":true') == 2
         # The text is the compact one, and the refused change is not told.
-        assert told.readline() == \
-            '{"change":{"cmd":"create","doc":{"a":"\u00e4/","b":1},"name":"d","schema":true},"seq":1}\n'.encode()
-        assert told.readline() == b'{"change":{"cmd":"delete","name":"d"},"seq":2}\n'
+        line = told.readline().decode()
+        name = json.loads(line)["history"]
+        assert line == ('{"change":{"cmd":"create","doc":{"a":"\u00e4/","b":1},"name":"d","schema":true},'
+                        f'"history":"{name}","seq":1}}\n')
+        line = told.readline().decode()
+        last = json.loads(line)["history"]
+        assert line == f'{{"change":{{"cmd":"delete","name":"d"}},"history":"{last}","seq":2}}\n'
+        # Each change has a name of its own; it is that of the history up to it, also to one who begins there.
+        assert name != last and all(re.fullmatch("[0-9A-Za-z.]{1,64}", each) for each in (name, last))
         again = hub.lines(watch_line(1), 2)
-        assert (again[0]["seq"], again[1]) == (2, {"change": {"cmd": "delete", "name": "d"}, "seq": 2})
+        assert again[0] == {"from": 1, "history": name, "ok": True, "seq": 2}
+        assert again[1] == {"change": {"cmd": "delete", "name": "d"}, "history": last, "seq": 2}
 
 
 def test_a_watch_without_a_number_begins_with_the_next_change(place):
@@ -164,7 +172,7 @@ def test_an_iterator_goes_on_after_the_end_of_a_hub(place, how):
     async def watched(path, wanted):
         return [change async for _, change in asyncio_zip(range(wanted), AsyncWatch(path, 0))]
 
-    place.format(64)
+    place.format(version=3)
     changes, others = [], []
     path = place.path("socket")
     reading = threading.Thread(target=lambda: others.extend(asyncio.run(watched(path, 61))), daemon=True)
@@ -186,6 +194,10 @@ def test_an_iterator_goes_on_after_the_end_of_a_hub(place, how):
         while watch.since < 61:
             changes.append(next(watch))
         reading.join()
+        # Each change has what it takes to go on after it.
+        for change in (changes[-1], others[30]):
+            again = Watch(path, change.seq, history=change.history, follow=False)
+            assert list(again) == changes[change.seq:]
     watch.close()
     for some in (changes, others):
         assert [change.seq for change in some] == list(range(1, 62))
@@ -196,6 +208,47 @@ async def asyncio_zip(numbers, changes):
     """As `zip`, for an iterator of asyncio."""
     for number in numbers:
         yield number, await changes.__anext__()
+
+
+@pytest.mark.parametrize("how", [signal.SIGTERM, signal.SIGKILL])
+def test_in_format_2_it_is_gone_after_the_end_of_a_hub(place, how):
+    async def ended(path):
+        async with AsyncWatch(path, 0) as watch:
+            assert (await watch.__anext__()).seq == 1
+            began.set()
+            with pytest.raises(Gone):
+                await watch.__anext__()
+
+    place.format()
+    began = threading.Event()
+    with Hub(place) as hub, hub.connect() as store:
+        store.create("d", 1)
+        watch = Watch(hub.path, 0)
+        assert next(watch).seq == 1
+        reading = threading.Thread(target=lambda: asyncio.run(ended(hub.path)))
+        reading.start()
+        assert began.wait(PATIENCE)
+        hub.process.send_signal(how)
+        hub.process.wait()
+    with Hub(place, options=("--wait", "10")) as hub:
+        gone = raised(Gone, next, watch)
+        assert (gone.since, "the store has no change 1, or is another one" in str(gone)) == (1, True)
+        reading.join()
+        with hub.connect() as store, store.export() as moment:
+            assert moment.seq == 1 and list(Watch(hub.path, moment.seq, follow=False)) == []
+
+
+def test_the_history_of_a_line_without_one_is_the_last(place):
+    """As a node of a replicated store has it."""
+    progress = Progress(place.path("socket"), 1, None, True, None)
+    assert json.loads(progress.asked()) == {"cmd": "watch", "from": 1}
+    assert progress.take(b'{"from":1,"history":"a","ok":true,"seq":2}') is None
+    assert json.loads(progress.asked()) == {"cmd": "watch", "from": 1, "history": "a"}
+    change = progress.take(b'{"change":{"cmd":"delete","name":"d"},"seq":2}')
+    assert (change.seq, change.history) == (2, "a")
+    change = progress.take(b'{"change":{"cmd":"delete","name":"d"},"history":"b","seq":3}')
+    assert change.record() == {"change": delete("d"), "history": "b", "seq": 3}
+    assert json.loads(progress.asked()) == {"cmd": "watch", "from": 3, "history": "b"}
 
 
 def test_an_iterator_says_why_it_does_not_begin_or_ends(place):
@@ -215,7 +268,7 @@ def test_an_iterator_says_why_it_does_not_begin_or_ends(place):
 
 
 def test_a_number_of_another_store_is_gone(place):
-    place.format()
+    place.format(version=3)
     with Hub(place) as hub:
         gone = raised(Gone, Watch, hub.path, 7)
         assert (gone.since, "the store has no change 7, " in str(gone)) == (0, True)
@@ -226,7 +279,7 @@ def test_a_number_of_another_store_is_gone(place):
         watch.close()
         assert raised(Gone, lambda: Watch(hub.path, 7, history="another")).since == 0
     os.rename(place.file, place.path("old"))
-    place.format()
+    place.format(version=3)
     with Store(place.file, program=place.program) as store:
         store.group([{"cmd": "create", "doc": 2, "name": f"n{n}", "schema": True} for n in range(9)])
     with Hub(place) as hub:
@@ -255,6 +308,4 @@ def test_a_watcher_that_does_not_read_is_told_what_is_gone(place):
         assert [change.seq for change in Watch(hub.path, line["from"], follow=False)] == \
             list(range(line["from"] + 1, changes + 1))
         assert raised(Gone, Watch, hub.path, line["from"] - 1).since == line["from"]
-        # Neither the hub's memory nor its file grows with what was told.
-        assert os.path.getsize(place.file + ".changes") < 40 << 20
         told.close()

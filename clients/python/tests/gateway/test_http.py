@@ -4,7 +4,7 @@ import re
 import threading
 
 import pytest
-from gateways import Events, Gateway
+from gateways import Events, Gateway, without_history
 from jpstore import create, delete, patch as patched, set_schema
 
 COUNTS = {"type": "object", "additionalProperties": {"type": "integer", "minimum": 0}}
@@ -221,7 +221,7 @@ def test_a_transaction_makes_all_changes(gateway):
         for number, change in enumerate(changes, seq + 1):
             _, data, event = events.next()
             told = {"change": change, "first": seq + 1, "last": seq + 5, "seq": number}
-            assert (json.loads(data), event) == (told, str(number))
+            assert (without_history(data), event) == (told, str(number))
     assert (gateway.get("/documents/t-a").json(), gateway.get("/documents/t-a").tag()) == ({"n": 2}, f'"{seq + 4}"')
     assert gateway.get("/schemas/t-a").json() == COUNTS
     is_problem(gateway.get("/documents/t-b"), 404, 21)
@@ -597,7 +597,10 @@ def test_changes_are_events(gateway):
         assert events.response.headers["Content-Type"] == "text/event-stream; charset=utf-8"
         kind, data, number = events.next()
         change = {"cmd": "create", "doc": {"n": 1}, "name": "events", "schema": True}
-        assert (kind, json.loads(data), number) == ("message", {"change": change, "seq": begin + 1}, str(begin + 1))
+        # The identifier has the number, and the name of the history up to it.
+        assert events.last_id == f"{begin + 1}-{json.loads(data)['history']}"
+        assert (kind, without_history(data), number) == \
+            ("message", {"change": change, "seq": begin + 1}, str(begin + 1))
         gateway.put("/documents/events", "two\nlines\u2028")
         _, data, number = events.next()
         assert (json.loads(data)["change"]["ops"][0]["value"], number) == ("two\nlines\u2028", str(begin + 2))

@@ -89,6 +89,28 @@ def test_a_reader_comes_again_after_many_other_changes(place):
         assert b'"seq":22' in raw_events(gateway, "/changes?prefix=d", 1, Last_Event_ID=last)[0]
 
 
+@pytest.mark.parametrize("version", [2, 3])
+def test_a_reader_comes_again_after_a_restart(place, version):
+    """By each identifier that it got, the first of which came before any change."""
+    place.format(version=version)
+    with Gateway(place) as gateway, gateway.raw() as client, client.makefile("rb") as stream:
+        client.sendall(b"GET /changes?prefix=d HTTP/1.0\r\nHost: localhost\r\n\r\n")
+        identifiers = (line[4:].strip().decode() for line in iter(stream.readline, b"") if line.startswith(b"id: "))
+        found = [next(identifiers)]
+        for number in range(3):
+            gateway.put("/documents/d", number)
+        found += [next(identifiers) for _ in range(3)]
+    with Gateway(place, "--wait", "30") as gateway:
+        answers = [gateway.get("/changes?prefix=d", Last_Event_ID=each).status for each in found if version == 2]
+        assert answers == ([410] * 4 if version == 2 else [])
+        if version == 3:
+            gateway.put("/documents/d", 3)
+            numbers = [[event.partition(b"-")[0] for event in raw_events(gateway, "/changes?prefix=d", count,
+                                                                         Last_Event_ID=each)]
+                       for count, each in zip((4, 3, 2, 1), found)]
+            assert numbers == [[b"id: %d" % number for number in range(begin, 5)] for begin in range(1, 5)]
+
+
 @pytest.mark.parametrize("query, status, name", [
     ("name=a&prefix=a", 400, "parameter"), ("name=", 400, "name"), ("name=a/b", 400, "name"),
     ("name=%C3%A4", 400, "name"),

@@ -393,8 +393,9 @@ def test_a_look_for_faults_ends_though_its_gateway_is_killed(place):
 
 # The store goes away.
 
-def test_the_store_of_a_hub(place):
-    place.format()
+@pytest.mark.parametrize("version", [2, 3])
+def test_the_store_of_a_hub(place, version):
+    place.format(version=version)
     with Hub(place) as hub, Gateway(place, store=hub.path) as gateway:
         assert gateway.put("/documents/a", 1).status == 201
         with hub.connect() as store, Events(gateway, "/changes?from=1") as events:
@@ -410,8 +411,10 @@ def test_the_store_of_a_hub(place):
             with Hub(place, options=("--wait", "30")):
                 assert gateway.get("/documents/a").json() == 1
                 assert gateway.put("/documents/a", 2).status == 200
-                # The stream has gone on by itself.
-                assert (json.loads(events.next()[1])["seq"], events.last_id.partition("-")[0]) == (3, "3")
+                # The stream has gone on by itself, or says that it can't.
+                told = events.next()
+                assert told[0] == "message" and json.loads(told[1])["seq"] == int(told[2]) == 3 if version == 3 else \
+                    told[:2] == ("gone", '{"from":2}')
         status, errors = gateway.end()
         assert (status, errors) == (0, "")
 

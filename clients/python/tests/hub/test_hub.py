@@ -177,7 +177,7 @@ def test_a_hub_takes_no_file_that_is_in_use(place):
         assert "store is in use" in errors
         with hub.connect() as store:
             assert store.names() == []
-    assert sorted(os.listdir(place.folder)) == ["socket", "store", "store.changes"]
+    assert sorted(os.listdir(place.folder)) == ["socket", "store"]
 
 
 def test_a_device_that_fails_ends_the_hub(place):

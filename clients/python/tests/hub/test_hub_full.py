@@ -1,5 +1,6 @@
 """A full store of format 3 under a hub: a change that is committed as a snapshot has no frame, and is told or gone."""
-from histories import History, ended_hub, killed, opened, told
+import pytest
+from histories import Told, ended, ended_hub, killed
 from jpstore import Full, create, delete, patch
 from support import raised
 
@@ -12,17 +13,23 @@ def filling(store, name="d"):
     return create(name, "x" * (store.status().capacity - EMPTY))
 
 
-def test_it_is_told_at_once_and_after_a_restart(place):
+@pytest.mark.parametrize("end", [ended, killed])
+def test_it_is_told_at_once_and_what_follows_after_a_restart(place, end):
     place.format(272, version=3)
-    with ended_hub(place) as hub, hub.connect() as store:
-        changes = [filling(store), delete("d"), create("e", 1), patch("e", [{"op": "replace", "path": "", "value": 2}])]
+    changes = [delete("d"), create("e", 1), patch("e", [{"op": "replace", "path": "", "value": 2}])]
+
+    def make(store):
+        changes.insert(0, filling(store))
         for change in changes:
             store.group([change])
+    first = end(place, make)
+    assert first.changes == dict(enumerate(changes, 1))
+    with ended_hub(place) as hub, hub.connect() as store:
         assert (store.names(), store.status().seq) == (["e"], 4)
-        history = History(hub, place)
-        assert told(history) == dict(enumerate(changes, 1))
-    after = opened(place)
-    assert (told(after), after.has(4, history.name)) == (dict(enumerate(changes, 1)), True)
+        again = Told(hub)
+        # The snapshot has the deletion, which is in the file in no other way.
+        assert (again.base, again.changes) == (2, dict(enumerate(changes[2:], 3)))
+        assert [first.goes_on(hub, seq) for seq in range(1, 5)] == [False, False, True, True]
 
 
 def test_a_transaction_is_told_change_by_change(place):
@@ -31,14 +38,8 @@ def test_a_transaction_is_told_change_by_change(place):
         changes = [filling(store), delete("d"), create("d", 1), create("e", 2)]
         store.group(changes[:1])
         assert store.transaction(changes[1:]) == 4
-        assert told(History(hub, place)) == dict(enumerate(changes, 1))
-
-
-def test_if_it_was_not_noted_it_is_gone(place):
-    place.format(272, version=3)
-    first = killed(place, lambda store: store.group([filling(store)]), [delete("d")])
-    history = opened(place)
-    assert (told(history), history.base, history.has(1, first.name)) == ({}, 2, False)
+        told = Told(hub)
+        assert (told.changes, told.spans) == (dict(enumerate(changes, 1)), {seq: (2, 4) for seq in (2, 3, 4)})
 
 
 def test_what_grows_has_no_room_and_is_not_told(place):
@@ -47,4 +48,4 @@ def test_what_grows_has_no_room_and_is_not_told(place):
         changes = [filling(store)]
         store.group(changes)
         raised(Full, store.create, "e", 1)
-        assert told(History(hub, place)) == dict(enumerate(changes, 1))
+        assert Told(hub).changes == dict(enumerate(changes, 1))

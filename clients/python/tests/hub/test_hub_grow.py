@@ -9,6 +9,7 @@ import threading
 import time
 
 import pytest
+from histories import Told
 from hubs import Hub, Writers, check_moment, count_up
 from jpstore import JpstoreError, Watch, create, grow_file, patch, upgrade_file
 from support import PATIENCE, raised, until
@@ -51,16 +52,16 @@ def test_a_store_grows_while_clients_change_it(place, version):
         last, counts = store.status().seq, counts_of(store)
         assert [next(watch).seq for _ in range(last)] == list(range(1, last + 1))
         assert (store.rev("d"), store.schema("d")) == (1, {"type": "object"})
-        history = watch.history
+        told = Told(hub)
         hub.process.terminate()
         hub.ends(0)
     with open(place.file, "rb") as opened:
         assert opened.read(12)[8:] == version.to_bytes(4, "big")
-    # The changes are kept for the next hub too.
     with Hub(place) as hub, hub.connect() as store:
         assert (store.status().seq, counts_of(store)) == (last, counts)
         check_moment(counts, "after it")
-        assert [change.seq for change in Watch(hub.path, 1, history=history, follow=False)] == list(range(2, last + 1))
+        # In format 3 who was told what came after it goes on.
+        assert told.goes_on(hub, last) == (version == 3)
 
 
 def test_a_full_store_takes_changes_after_it(place):

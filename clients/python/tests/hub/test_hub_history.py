@@ -1,155 +1,113 @@
-"""The history of a hub: what was committed and not noted is found again, and what can't be told for sure is gone."""
+"""The history of a hub: in format 3 a watcher goes on over its ends and kills; what isn't known for sure is gone."""
 import json
 import os
 import random
-import resource
-import shutil
 
 import pytest
-from histories import WAIT, History, ended_hub, killed, notes_of, opened, put_notes, told
-from hubs import Hub, wait_until_free
-from jpstore import create, delete, patch, set_schema
+from histories import WAIT, Told, asked, elsewhere, ended, ended_hub, killed, opened, snapshot
+from hubs import Hub
+from jpstore import create, delete, patch, set_schema, transaction
 from jpstore.watch import Gone, Watch
 from support import PATIENCE, raised
-
-FOREIGN = "not a history\n"
 
 
 def put(number, name="d"):
     return patch(name, [{"op": "add", "path": "/n", "value": number}])
 
 
-def made(place, *changes):
-    """Makes changes without a hub."""
-    with place.store(wait=10) as store:
-        store.group(changes)
+BEFORE = [create("d", {}), put(1), create("x", 1), put(2)]
 
 
-def cut_off(place, noted, lost, between=lambda store: None):
-    """A hub notes some changes, and is killed after others were committed; answers what its successor knows."""
-    killed(place, lambda store: (noted and store.group(noted), between(store)), lost)
-    return opened(place)
-
-
-def test_a_store_that_had_no_snapshot_has_all_its_changes(place):
+@pytest.mark.parametrize("end", [ended, killed])
+def test_a_store_of_format_2_has_another_history_after_each_start(place, end):
     place.format()
-    changes = [create("d", {}), put(1), create("e", 2), delete("d"), create("d", {}), set_schema("d", True)]
-    made(place, *changes)
-    assert told(opened(place)) == dict(enumerate(changes, 1))
-    os.unlink(place.file + ".changes")
-    assert told(opened(place)) == dict(enumerate(changes, 1))
+    first = end(place, BEFORE)
+    assert first.changes == dict(enumerate(BEFORE, 1))
+    with ended_hub(place) as hub:
+        again = Told(hub)
+        assert (again.changes, again.base) == ({}, 4)
+        assert not any(first.goes_on(hub, seq) for seq in range(5))
+        # Without a history nobody can know.
+        assert Watch(hub.path, 4).since == 4
 
 
-def test_a_snapshot_is_no_change(place):
-    with place.made() as store:
-        store.group([create("d", {}), put(1), create("e", 2)])
-        store.snapshot()
-    history = opened(place)
-    assert (told(history), history.base) == ({}, 3)
-    # It can't be told whether a creation after it is one of the snapshot; what comes after a patch is a change.
-    os.unlink(place.file + ".changes")
-    made(place, create("f", 3), put(2), create("g", 4))
-    assert told(opened(place)) == {5: put(2), 6: create("g", 4)}
-
-
-@pytest.mark.parametrize("lost", [
-    [create("e", 1)], [put(7)], [delete("d")], [set_schema("d", {})],
-    [create("e", 1), create("f", 2), put(5), delete("e")]])
-@pytest.mark.parametrize("snapshot", [False, True])
-def test_what_was_committed_and_not_noted_is_told(place, lost, snapshot):
-    place.format()
-    noted = [create("d", {}), put(1), create("x", 1), put(2, "d")]
-    if snapshot:
-        with place.store() as store:
-            store.group(noted)
-            store.snapshot()
-        # What is in a snapshot is no change.
-        assert told(cut_off(place, [], lost)) == dict(enumerate(lost, 5))
-    else:
-        assert told(cut_off(place, noted, lost)) == dict(enumerate(noted + lost, 1))
-
-
-def test_what_is_noted_stays_after_a_snapshot(place):
-    place.format()
-    history = cut_off(place, [create("d", {}), put(1)], [create("e", 1)], lambda store: store.snapshot())
-    assert told(history) == {1: create("d", {}), 2: put(1), 3: create("e", 1)}
+@pytest.mark.parametrize("end", [ended, killed])
+@pytest.mark.parametrize("last", [
+    create("e", 1), put(7), delete("d"), set_schema("d", {}), transaction([create("e", 1), put(5), delete("e")])],
+    ids=lambda last: last["cmd"])
+def test_a_store_of_format_3_has_the_same_history_again(place, end, last):
+    place.format(version=3)
+    first = end(place, BEFORE, [last])
+    changes = dict(enumerate([*BEFORE, *last.get("changes", [last])], 1))
+    assert first.changes == changes
+    with Hub(place, options=WAIT) as hub:
+        again = Told(hub)
+        assert (again.changes, again.spans) == (changes, first.spans)
+        assert all(first.goes_on(hub, seq) for seq in range(first.last + 1))
+        hub.kill()
+    # A name of the first hub may come to the third one.
+    with ended_hub(place) as hub:
+        assert first.goes_on(hub, first.last) and again.goes_on(hub, first.last)
+        refused, = hub.lines(asked(first.last + 1, first.names[first.last]), 1)
+        assert refused == {"error": "gone", "from": 0, "number": 80, "ok": False}
 
 
 @pytest.mark.parametrize("version", [2, 3])
-@pytest.mark.parametrize("step", [lambda store: store.snapshot(), lambda store: store.pump(1000)])
-def test_a_kill_between_a_snapshot_and_its_note_keeps_what_was_noted(place, version, step):
+def test_a_snapshot_is_no_change(place, version):
     place.format(version=version)
-    with Hub(place, options=WAIT) as hub:
-        with hub.connect() as store:
-            store.group([create("d", {}), put(1)])
-            history, before, half = History(hub, place), notes_of(place), store.status().half
-            step(store)
-            assert store.status().half != half
-            after = notes_of(place)[len(before):].splitlines(keepends=True)
-        hub.kill()
-    # In format 3 the hub has noted before that it makes a snapshot: the bytes that were noted can't be found after it.
-    assert len(after) == version - 1
-    put_notes(place, before + b"".join(after[:-1]))
-    again = opened(place)
-    assert (told(again), again.has(2, history.name)) == ({1: create("d", {}), 2: put(1)}, True)
+    with ended_hub(place) as hub, hub.connect() as store, Watch(hub.path, 0) as watch:
+        store.group([create("d", {}), put(1)])
+        store.snapshot()
+        store.create("e", 2)
+        assert [next(watch).command for _ in range(3)] == [create("d", {}), put(1), create("e", 2)]
+        first = Told(hub)
+    with ended_hub(place) as hub:
+        again = Told(hub)
+        # What is in it is no change, and a creation after it is one.
+        assert (again.changes, again.base) == (({3: create("e", 2)}, 2) if version == 3 else ({}, 3))
+        assert [first.goes_on(hub, seq) for seq in range(4)] == [False, False, False, version == 3]
 
 
-def test_a_snapshot_that_a_hub_began_is_not_that_of_another_process(place):
+def test_after_a_snapshot_at_the_end_a_watcher_is_told_gone(place):
     place.format(version=3)
+    first = ended(place, [create("d", {}), put(1)], snapshot)
+    with ended_hub(place) as hub:
+        again = Told(hub)
+        assert (again.changes, again.base, first.goes_on(hub, 2)) == ({}, 2, False)
+
+
+@pytest.mark.parametrize("version", [2, 3])
+def test_what_another_process_changed_meanwhile(place, version):
+    """In format 3 it is told too, and else gone."""
+    place.format(version=version)
+    first = killed(place, [create("d", {}), put(1)])
+    elsewhere(place, [put(2), create("e", 1)], [create("f", 1)])
+    with ended_hub(place) as hub:
+        if version == 3:
+            assert list(Told(hub).changes) == [1, 2, 3, 4, 5]
+            with Watch(hub.path, 2, history=first.names[2], follow=False) as watch:
+                assert [change.command for change in watch] == [put(2), create("e", 1), create("f", 1)]
+        assert first.goes_on(hub, 2) == (version == 3)
+
+
+@pytest.mark.parametrize("version", [2, 3])
+def test_what_another_process_moved_into_a_snapshot_is_gone(place, version):
+    place.format(version=version)
+    with Hub(place) as hub, hub.connect() as store:
+        store.create("d", {})
+        watch = Watch(hub.path, 0)
+        assert next(watch).seq == 1
+    elsewhere(place, lambda store: (store.group([put(1), create("e", 1)]), store.snapshot()))
     with Hub(place, options=WAIT) as hub:
-        with hub.connect() as store:
-            store.group([create("d", {}), put(1)])
-            history, before = History(hub, place), notes_of(place)
-            store.snapshot()
-            after = notes_of(place)[len(before):].splitlines(keepends=True)
-        hub.kill()
-    put_notes(place, before + after[0])
-    made(place, put(2))
-    again = opened(place)
-    assert (told(again), again.has(2, history.name)) == ({3: put(2)}, False)
+        assert raised(Gone, next, watch).since == 3
+        assert Told(hub).changes == {}
 
 
-def test_what_another_process_changed_meanwhile_is_told(place):
-    place.format()
-    cut_off(place, [create("d", {})], [put(1)])
-    made(place, put(2), create("e", 1))
-    made(place, create("f", 1))
-    assert list(told(opened(place))) == [1, 2, 3, 4, 5]
-
-
-def test_what_another_process_moved_into_a_snapshot_is_gone(place):
-    place.format()
-    first = cut_off(place, [create("d", {})], [put(1)])
-    with place.store(wait=10) as store:
-        store.group([put(2), create("e", 1)])
-        store.snapshot()
-    history = opened(place)
-    assert (told(history), history.base, history.has(4, first.name)) == ({}, 4, False)
-    # Twice, so that the same half counts as before.
-    with place.store(wait=10) as store:
-        store.group([put(3), create("f", 1)])
-        store.snapshot()
-    history = opened(place)
-    assert (told(history), history.base) == ({}, 6)
-
-
-def test_a_torn_end_of_the_file_is_left_out(place):
-    place.format()
-    cut_off(place, [create("d", {}), put(1)], [])
-    made(place, put(2))
-    opened(place)
-    whole = notes_of(place)
-    wanted = {1: create("d", {}), 2: put(1), 3: put(2)}
-    for size in [0, *range(whole.index(b"\n") + 1, len(whole), 97)]:
-        for rest in (b"", b"\0" * 40, b'00000000 {"half":') if size else (b"",):
-            put_notes(place, whole[:size] + rest)
-            assert told(opened(place)) == wanted
-
-
+@pytest.mark.parametrize("version", [2, 3])
 @pytest.mark.parametrize("seed", range(int(os.environ.get("JPSTORE_HISTORIES", "4"))))
 @pytest.mark.time_limit(4 * PATIENCE)
-def test_no_history_tells_what_did_not_happen(place, seed):
-    lives = Lives(place, random.Random(seed))
+def test_no_history_tells_what_did_not_happen(place, version, seed):
+    lives = Lives(place, version, random.Random(seed))
     for _ in range(8):
         lives.one()
 
@@ -157,47 +115,46 @@ def test_no_history_tells_what_did_not_happen(place, seed):
 class Lives:
     """Hubs over one store that end anyhow, between processes that serve it without a hub; each change is known here."""
 
-    def __init__(self, place, chance):
-        self._place, self._chance = place, chance
-        self._changes, self._documents = {}, set()
-        place.format(64)
+    def __init__(self, place, version, chance):
+        self._place, self._version, self._chance = place, version, chance
+        self._changes, self._documents, self._told = {}, set(), []
+        # The number at the last snapshot.
+        self._snapshot = 0
+        place.format(version=version)
 
     def one(self):
         """A life of a hub or of another process; each hub tells no other changes than those that were made."""
         if self._chance.random() < 0.3:
-            with self._place.store(wait=10) as store:
-                self._without_hub(store)
+            with self._place.store(wait=PATIENCE) as store:
+                self._work(store)
         else:
-            with Hub(self._place, options=WAIT) as hub, hub.connect() as store:
-                self._with_hub(hub, store)
+            with Hub(self._place, options=WAIT) as hub:
+                self._check(hub)
+                with hub.connect() as store:
+                    self._work(store)
+                self._told.append(Told(hub))
+                if self._chance.random() < 0.5:
+                    hub.process.terminate()
+                    hub.process.wait(PATIENCE)
 
-    def _without_hub(self, store):
-        for _ in range(self._chance.randrange(4)):
-            if self._chance.random() < 0.5:
-                store.snapshot()
-            self._change(store)
+    def _check(self, hub):
+        """What it tells was made; and who was told some of it goes on exactly if the file has the rest."""
+        told = Told(hub)
+        assert (told.base, told.last) == (self._snapshot if self._version == 3 else told.last, len(self._changes))
+        assert told.changes == {seq: self._changes[seq] for seq in range(told.base + 1, told.last + 1)}
+        for before in self._told:
+            for seq in range(before.base, before.last + 1):
+                known = self._version == 3 and seq > told.base
+                goes_on = before.goes_on(hub, seq)
+                assert goes_on == known or (goes_on and seq == told.base and self._version == 3), (seq, told.base)
 
-    def _with_hub(self, hub, store):
-        history = History(hub, self._place)
-        assert (told(history), history.last) == (
-            {seq: self._changes[seq] for seq in range(history.base + 1, history.last + 1)}, len(self._changes))
-        half, synced = store.status().half, len(notes_of(self._place))
+    def _work(self, store):
         for _ in range(self._chance.randrange(5)):
-            if self._chance.random() < 0.4:
-                self._chance.choice([store.snapshot, lambda: store.pump(1), lambda: store.pump(100)])()
+            if self._chance.random() < 0.3:
+                store.snapshot()
+                self._snapshot = len(self._changes)
             else:
                 self._change(store)
-            if store.status().half != half:
-                half, synced = store.status().half, len(notes_of(self._place))
-        end, notes = self._chance.random(), notes_of(self._place)
-        if end < 0.4:
-            # A kill between a commit, or a snapshot, and its note.
-            self._chance.choice([lambda: self._change(store), store.snapshot])()
-        elif end < 0.7:
-            # A power failure: what was not synced is there in part.
-            notes = notes[:self._chance.randint(synced, len(notes))]
-        hub.kill()
-        put_notes(self._place, notes)
 
     def _change(self, store):
         changes = [self._a_change() for _ in range(self._chance.randrange(1, 5))]
@@ -207,7 +164,6 @@ class Lives:
             last = store.transaction(changes)
             seqs = list(range(last - len(changes) + 1, last + 1))
         self._changes.update(zip(seqs, changes))
-        return changes
 
     def _a_change(self):
         name, kind = self._chance.choice("abcd"), self._chance.random()
@@ -220,99 +176,22 @@ class Lives:
         return put(self._chance.randrange(3), name) if kind < 0.8 else set_schema(name, self._chance.random() < 2)
 
 
-@pytest.mark.parametrize("how", ["over it", "in its place"])
-def test_a_store_that_was_put_back_has_no_changes_of_the_other(place, how):
-    place.format()
-    cut_off(place, [create("d", {}), put(1)], [])
-    wait_until_free(place.file)
-    shutil.copy(place.file, place.path("copy"))
-    first = cut_off(place, [put(2), put(3)], [put(4)])
-    assert list(told(first)) == [1, 2, 3, 4, 5]
-    wait_until_free(place.file)
-    (shutil.copy if how == "over it" else os.replace)(place.path("copy"), place.file)
-    history = opened(place)
-    assert (told(history), history.has(2, first.name)) == ({1: create("d", {}), 2: put(1)}, False)
-    made(place, put(8), put(9), put(10), put(11))
-    assert told(opened(place))[4] == put(9)
-
-
-def test_a_store_that_went_another_way_is_another(place):
-    place.format()
-    cut_off(place, [create("d", {})], [])
-    wait_until_free(place.file)
-    shutil.copy(place.file, place.path("copy"))
-    first = cut_off(place, [put(2), put(3)], [])
-    wait_until_free(place.file)
-    shutil.copy(place.path("copy"), place.file)
-    for number in range(4):
-        made(place, put(7 + number))
-    history = opened(place)
-    assert (told(history)[2], history.has(2, first.name)) == (put(7), False)
-
-
-@pytest.mark.parametrize("name", ["store.changes", "store.changes.new"])
-def test_no_file_of_another_kind_is_touched(place, name):
-    place.format()
-    path = place.text(name, FOREIGN)
-    said = place.run("hub", "store", "--socket", "socket", status=1).stderr.decode()
-    assert f"{name} has the name of the file of a hub's changes, but is something else: rename it\n" in said
-    with open(path, encoding="utf-8") as file:
-        assert file.read() == FOREIGN
-    os.unlink(path)
-    os.symlink("other", path)
-    assert f"{name} cannot be the file of a hub's changes" in \
-        place.run("hub", "store", "--socket", "socket", status=1).stderr.decode()
-    os.unlink(path)
-    os.mkdir(path)
-    assert f"{name} has the name" in place.run("hub", "store", "--socket", "socket", status=1).stderr.decode()
-    os.rmdir(path)
-    with Hub(place):
-        assert os.path.exists(place.file + ".changes")
-
-
-def test_what_a_killed_hub_left_is_replaced(place):
-    place.format()
-    opened(place)
-    shutil.copy(place.file + ".changes", place.file + ".changes.new")
-    assert told(opened(place)) == {}
-    assert sorted(os.listdir(place.folder)) == ["store", "store.changes"]
-
-
-@pytest.mark.parametrize("room", [0, 4096])
-def test_on_a_full_disk_changes_are_told_without_their_file(place, room):
-    place.format()
-    program = place.script("unlimited", f'ulimit -S -f unlimited; exec {place.program} "$@"')
-    limits = resource.getrlimit(resource.RLIMIT_FSIZE)
-    resource.setrlimit(resource.RLIMIT_FSIZE, (room, limits[1]))
-    try:
-        hub = Hub(place, program)
-    finally:
-        resource.setrlimit(resource.RLIMIT_FSIZE, limits)
-    with hub, hub.connect() as store:
-        for number in range(1, 101):
-            store.create(f"n{number}", "x" * 99)
-        assert (len(told(History(hub, place))), notes_of(place) if room else b"") == (100, b"")
-        assert room or os.listdir(place.folder).count("store.changes.new") == 0
-        hub.process.terminate()
-        assert hub.ends(0).startswith("the changes are not kept in a file any more")
-    assert len(told(opened(place))) == 100
-
-
-def test_the_history_is_bounded(place):
-    place.format(1 << 16)
+@pytest.mark.parametrize("version", [2, 3])
+def test_the_history_is_bounded(place, version):
+    place.format(1 << 16, version=version)
     with ended_hub(place) as hub, hub.connect() as store:
         store.create("d", {})
         for number in range(40):
             store.put("d", {"n": number, "text": "x" * (1_000_000 + number)})
-            assert len(notes_of(place)) < 35 << 20
-        history = History(hub, place)
-        assert (history.last, 11 <= history.last - history.base <= 16) == (41, True)
-        assert history.changes[41]["ops"][0]["value"]["n"] == 39
+        told = Told(hub)
+        assert (told.last, 11 <= told.last - told.base <= 17) == (41, True)
+        assert told.changes[41]["ops"][0]["value"]["n"] == 39
 
 
-def test_a_hub_of_a_small_store_keeps_them_over_its_snapshots(place):
-    # A half has room for a few changes only, so each client's changes make many snapshots.
-    place.format(16)
+@pytest.mark.parametrize("version, sectors", [(2, 16), (3, 272)])
+def test_a_watcher_of_a_small_store_is_told_all_over_its_snapshots(place, version, sectors):
+    """A half has room for some changes only, so each client's changes make many snapshots."""
+    place.format(sectors, version=version)
     for options in ((), ("--pump", "1"), ("--pump", "100")):
         with Hub(place, options=("--wait", "10", *options)) as hub, hub.connect() as store:
             begin = store.status().seq
@@ -328,8 +207,38 @@ def test_a_hub_of_a_small_store_keeps_them_over_its_snapshots(place):
             assert outcomes == list(range(store.status().seq - 199, store.status().seq + 1))
             seqs = [next(watch).seq for _ in range(begin, outcomes[-1])]
             assert seqs == list(range(begin + 1, outcomes[-1] + 1))
+            watch.close()
             hub.kill()
-    assert list(told(opened(place))) == list(range(1, 722))
+
+
+@pytest.mark.parametrize("version", [2, 3])
+def test_a_watcher_in_the_midst_of_a_transaction(place, version):
+    """The hub is killed then: the next one tells the rest of it and the changes after it, or that they are gone."""
+    place.format(version=version)
+    parts = [create(name, "x" * 300_000) for name in "abc"]
+    with Hub(place) as hub, hub.connect() as store:
+        watch = Watch(hub.path, 0)
+        assert (store.create("d", {}), store.transaction(parts)) == (1, 4)
+        told = [next(watch), next(watch)]
+        hub.kill()
+    with Hub(place, options=WAIT) as hub, hub.connect() as store:
+        assert store.transaction([put(5), delete("a")]) == 6
+        if version == 2:
+            # What had come before the kill may be read first.
+            while told[-1].seq < 4:
+                try:
+                    told.append(next(watch))
+                except Gone as gone:
+                    assert gone.since >= 4
+                    break
+        else:
+            told += [next(watch) for _ in range(4)]
+            assert [change.command for change in told] == [create("d", {}), *parts, put(5), delete("a")]
+            assert [(change.first, change.last) for change in told[1:]] == [(2, 4)] * 3 + [(5, 6)] * 2
+            # One that asks anew in the midst of the first is told the same.
+            with Watch(hub.path, 3, history=told[2].history, follow=False) as again:
+                assert list(again) == told[3:]
+        assert [change.seq for change in told] == list(range(1, len(told) + 1))
 
 
 def test_a_full_store_refuses_as_the_program_does(place):
@@ -355,17 +264,26 @@ def test_a_change_under_a_name_with_escapes_is_told(place):
         assert [change.command["name"] for change in Watch(hub.path, 0, follow=False)] == ["a", "b", "c", "e"]
 
 
-def test_what_was_told_before_a_gap_is_gone(place):
+ODD = "".join(map(chr, [*range(1, 0x21), 0x22, 0x2f, 0x5c, 0x7f, 0x80, 0xff, 0x2028, 0xfeff, 0xffff, 0x1f600]))
+
+
+@pytest.mark.parametrize("version", [2, 3])
+def test_a_change_has_the_text_that_was_accepted(place, version):
+    place.format(version=version)
+    changes = [create("e", {ODD: [ODD, -2 ** 63, 0, 2 ** 63 - 1, True, None]}, {"description": ODD}), create("d", {}),
+               {**put(7), "if_rev": 2}, {**put(8), "if_rev": 3}]
+    assert ended(place, changes).changes == dict(enumerate(changes, 1))
+    assert opened(place).changes == (dict(enumerate(changes, 1)) if version == 3 else {})
+
+
+def test_a_file_of_changes_of_earlier_versions_is_left_as_it_is(place):
     place.format()
-    with Hub(place) as hub, hub.connect() as store:
-        store.create("d", {})
-        watch = Watch(hub.path, 0)
-        assert next(watch).seq == 1
-    with place.store(wait=10) as store:
-        store.group([put(1), create("e", 1)])
-        store.snapshot()
-    with Hub(place, options=("--wait", "10")) as hub:
-        assert raised(Gone, next, watch).since == 3
+    text = "not a history\n"
+    path = place.text("store.changes", text)
+    assert ended(place, [create("d", 1)]).changes == {1: create("d", 1)}
+    with open(path, encoding="utf-8") as file:
+        assert file.read() == text
+    assert sorted(os.listdir(place.folder)) == ["store", "store.changes"]
 
 
 def test_the_reason_is_told_if_the_store_is_no_store(place):

@@ -2,12 +2,13 @@
 import contextlib
 import itertools
 import json
+import shutil
 import socket
 import threading
 
 import pytest
-from histories import WAIT, History, ended_hub, killed, opened, told
-from hubs import Hub
+from histories import Told, ended_hub, killed
+from hubs import Hub, wait_until_free
 from jpstore import create, delete, patch, transaction
 from support import PATIENCE, until
 
@@ -50,11 +51,6 @@ SENT = [create("d", {}), put(1), put(2), put(3), put(4), create("e", 1), put(5),
 SPANS = {3: (3, 4), 4: (3, 4), 5: (5, 6), 6: (5, 6), 9: (9, 10), 10: (9, 10)}
 
 
-def spans(hub, count):
-    lines = hub.lines(b'{"cmd":"watch","from":0}\n', count + 1)
-    return {line["seq"]: (line["first"], line["last"]) for line in lines[1:] if "first" in line}
-
-
 def test_a_mark_is_set_with_changes_or_not_at_all(place):
     place.format(version=3)
     with Hub(place):
@@ -91,67 +87,51 @@ def test_clients_at_once_set_it_once(place):
 
 
 @pytest.mark.parametrize("snapshot", [False, True])
-def test_what_was_committed_and_not_noted_is_told(place, snapshot):
+def test_a_watcher_goes_on_after_a_kill(place, snapshot):
     """The changes are found in the file, whose frames tell also which were made together."""
     place.format(version=3)
 
-    def first(store):
-        done(place, *FIRST)(None)
+    def between(store):
         if snapshot:
             store.snapshot()
-    history = killed(place, first, done(place, *LAST))
+    first = killed(place, done(place, *FIRST), between, done(place, *LAST))
+    assert (first.changes, first.spans) == (dict(enumerate(SENT, 1)), SPANS)
     with ended_hub(place) as hub:
-        after = History(hub, place)
-        assert told(after) == dict(enumerate(SENT, 1))
-        assert spans(hub, len(SENT)) == SPANS
-        assert after.has(4, history.name)
+        after, base = Told(hub), 4 if snapshot else 0
+        # What is in the snapshot is no change, and a creation after it is one.
+        assert (after.base, after.changes) == (base, dict(enumerate(SENT[base:], base + 1)))
+        assert after.spans == {seq: span for seq, span in SPANS.items() if seq > base}
+        assert all(first.goes_on(hub, seq) for seq in range(base + 1, len(SENT) + 1))
         assert [mark_of(place, key) for key in "klmn"] == [
             {"mark": "\u0001\"\\\u00e4", "seq": 6}, {"mark": "", "seq": 8}, {"mark": "v", "seq": 11}, {"mark": None}]
 
 
-def test_what_is_in_the_file_is_told_without_notes(place):
+def test_the_same_changes_with_another_mark_are_another_history(place):
     place.format(version=3)
-    with Hub(place, options=WAIT) as hub, hub.connect() as store:
-        done(place, *FIRST)(None)
-        store.snapshot()
-        done(place, *LAST)(None)
-        hub.kill()
-    with open(place.file + ".changes", "wb"):
-        pass
-    # What is in the snapshot is no change, and a creation after it is one.
-    after = opened(place)
-    assert (after.base, told(after)) == (4, dict(enumerate(SENT[4:], 5)))
-
-
-def test_a_watcher_goes_on_after_a_kill(place):
-    """The notes hold, since the bytes of the file are those that the hub has reckoned."""
-    place.format(version=3)
-    for round_ in range(2):
-        with Hub(place, options=WAIT) as hub:
-            if round_ == 0:
-                done(place, *FIRST)(None)
-            done(place, *[marked(put(1), f"k{number}") for number in range(3)],
-                 marked(transaction([put(2), put(3)]), "k"), transaction([put(4), put(5)]))(None)
-            history = History(hub, place)
-            hub.kill()
-        after = opened(place)
-        assert after.has(history.last, history.name) and told(after) == told(history)
+    killed(place, [create("d", {})])
+    shutil.copy(place.file, place.path("saved"))
+    lost = killed(place, done(place, marked(put(1), "k")))
+    wait_until_free(place.file)
+    shutil.copy(place.path("saved"), place.file)
+    for change in (marked(put(1), "k", "w"), put(2), put(3)):
+        killed(place, done(place, change))
+    with ended_hub(place) as hub:
+        assert [lost.goes_on(hub, seq) for seq in range(3)] == [True, True, False]
 
 
 def test_marks_have_room(place):
-    """Each group has room before it is sent, with the frames of its marks, so that no change is lost to watchers."""
+    """A small store makes snapshots, with marks and without, and watchers are told each change."""
     place.format(272, version=3)
     with Hub(place) as hub:
         done(place, create("d", {"n": 0}))(None)
         for start in range(0, 1500, 50):
             some = range(start, start + 50)
             done(place, *[marked(put(number), f"key-{number % 40}", "\u0001" * 20) for number in some])(None)
-        history = History(hub, place)
-        assert told(history) == dict(enumerate([create("d", {"n": 0}), *map(put, range(1500))], 1))
+        told = Told(hub)
+        assert told.changes == dict(enumerate([create("d", {"n": 0}), *map(put, range(1500))], 1))
         hub.kill()
     with ended_hub(place) as hub:
-        watch = {"cmd": "watch", "from": 1501, "history": history.name}
-        assert hub.lines(json.dumps(watch).encode() + b"\n", 1)[0]["ok"]
+        assert told.goes_on(hub, 1501)
         assert mark_of(place, "key-7") == {"mark": "\u0001" * 20, "seq": 1489}
 
 

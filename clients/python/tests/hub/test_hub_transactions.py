@@ -7,12 +7,12 @@ import threading
 from concurrent.futures import ThreadPoolExecutor
 
 import pytest
-from histories import killed
+from histories import Told, killed, opened
 from hubs import Hub
 from jpstore import AsyncStore, Store, TooLarge, create, delete, patch, set_schema, transaction
 from jpstore.wire.commands import line_of
 from jpstore.watch import Change, Watch
-from support import GROUPING, raised, until
+from support import GROUPING, raised
 
 
 def put(number, name="d"):
@@ -36,11 +36,13 @@ def test_each_change_is_told_with_its_number(place):
             assert store.create("e", 1) == 1
             assert store.transaction(changes) == 5
             assert json.loads(lines.readline())["seq"] == 1
-            assert [json.loads(lines.readline()) for _ in changes] == \
+            told_lines = [json.loads(lines.readline()) for _ in changes]
+            # One name for all of them.
+            name, = {line.pop("history") for line in told_lines}
+            assert told_lines == \
                 [{"change": change, "first": 2, "last": 5, "seq": seq} for seq, change in enumerate(changes, 2)]
-        assert lines_of_watch(hub, 1)[0] == \
-            ('{"change":{"cmd":"create","doc":{"a":"\u00e4","b":1},"name":"d","schema":true},'
-             '"first":2,"last":5,"seq":2}').encode()
+        assert hub.told(1, 1) == ['{"change":{"cmd":"create","doc":{"a":"\u00e4","b":1},"name":"d","schema":true},'
+                                  f'"first":2,"history":"{name}","last":5,"seq":2}}\n']
 
         async def watched():
             async with AsyncStore.connect(hub.path) as other:
@@ -48,13 +50,6 @@ def test_each_change_is_told_with_its_number(place):
         assert asyncio.run(watched()) == [Change(seq, change, 2, 5) for seq, change in enumerate(changes, 2)]
         assert [json.loads(line)["seq"] for line in place.run("watch", "socket", "--since", "3", "--past").stdout.split(
             b"\n")[:-1]] == [4, 5]
-
-
-def lines_of_watch(hub, since):
-    with hub.connected() as watcher, watcher.makefile("rb") as lines:
-        watcher.sendall(b'{"cmd":"watch","from":%d}\n' % since)
-        lines.readline()
-        return [lines.readline().rstrip()]
 
 
 def test_what_is_refused_is_not_told(place):
@@ -107,25 +102,25 @@ def test_a_program_that_groups_changes_is_never_waited_for_in_vain(place):
             assert len(told(hub.path)) == 96
 
 
-def test_what_was_committed_and_not_noted_is_told_whole(place):
-    place.format()
-    for snapshot in (False, True):
-        with place.store(wait=10) as store:
-            begin = store.status().seq
-        changes = [put(1), create("e", 2), set_schema("d", {}), delete("e")]
+@pytest.mark.parametrize("snapshot", [False, True])
+def test_after_a_kill_it_is_told_whole(place, snapshot):
+    place.format(version=3)
+    changes = [put(1), create("e", 2), set_schema("d", {}), delete("e")]
 
-        def prepare(store, snapshot=snapshot):
-            store.put("d", {})
-            if snapshot:
-                store.snapshot()
-        killed(place, prepare, lambda store, changes=changes: store.transaction(changes))
-        with Hub(place, options=("--wait", "10")) as hub:
-            assert told(hub.path, begin + 1) == changes
+    def prepare(store):
+        store.put("d", {})
+        if snapshot:
+            store.snapshot()
+    killed(place, prepare, lambda store: store.transaction(changes))
+    after = opened(place)
+    assert [after.changes[seq] for seq in range(2, 6)] == changes
+    assert after.spans == {seq: (2, 5) for seq in range(2, 6)}
 
 
-def test_a_hub_of_a_small_store_keeps_them_over_its_snapshots(place):
-    # A half has room for a few transactions only.
-    place.format(16)
+@pytest.mark.parametrize("version, sectors", [(2, 16), (3, 272)])
+def test_a_hub_of_a_small_store_tells_them_over_its_snapshots(place, version, sectors):
+    # A half has room for some transactions only.
+    place.format(sectors, version=version)
     made = []
     for options in ((), ("--pump", "1"), ("--pump", "100")):
         with Hub(place, options=("--wait", "10", *options)) as hub, hub.connect() as store:
@@ -142,8 +137,8 @@ def test_a_hub_of_a_small_store_keeps_them_over_its_snapshots(place):
             assert told(hub.path, begin) == made[begin:]
             hub.kill()
     assert len(made) == 3 * 420 + 1
-    with Hub(place, options=("--wait", "10")) as hub:
-        assert told(hub.path) == made
+    after = opened(place)
+    assert after.changes == dict(list(enumerate(made, 1))[after.base:])
 
 
 def test_a_full_store_refuses_as_the_program_does(place):
@@ -193,7 +188,7 @@ def test_one_that_changes_too_many_bytes_refuses_no_line_of_another(place, versi
 @pytest.mark.parametrize("of_hub", [True, False])
 def test_a_kill_leaves_whole_transactions(place, of_hub):
     """Each transaction counts three documents up; after a kill they have one count, and so has a watcher."""
-    place.format(64)
+    place.format(version=3)
     names = ("a", "b", "c")
     acknowledged = 0
     for life in range(3):
@@ -212,10 +207,12 @@ def test_a_kill_leaves_whole_transactions(place, of_hub):
         assert (len(counts), seq) == (1, 3 + 3 * max(counts))
         acknowledged = max(counts)
         with Hub(place, options=("--wait", "30")) as hub:
-            until(lambda: os.path.exists(hub.path), "the hub")
-            changes = told(hub.path)
-            assert [change["ops"][0]["value"] for change in changes[3:]] == \
-                [number for number in range(1, acknowledged + 1) for _ in names]
+            after = Told(hub)
+            values = [change["doc"] if change["cmd"] == "create" else change["ops"][0]["value"]
+                      for change in after.changes.values()]
+            assert values == [number for number in range(acknowledged + 1) for _ in names]
+            assert after.spans == {3 * number + place: (3 * number + 1, 3 * number + 3)
+                                   for number in range(acknowledged + 1) for place in (1, 2, 3)}
     assert acknowledged > 3
 
 

@@ -13,8 +13,8 @@ import time
 import pytest
 from gateways import Gateway
 from hubs import Hub
-from jpstore import Store, create
-from support import PATIENCE, until
+from jpstore import Ended, Store, create
+from support import PATIENCE, raised, until
 from test_limits import answered, most_memory
 
 MIB = 1 << 20
@@ -154,33 +154,18 @@ def test_a_head_of_too_many_fields_is_refused_before_its_end(place):
         assert (answer[9:12], b"too many fields" in answer) == (b"400", True)
 
 
-def test_nobody_waits_long_while_the_file_of_changes_is_written_anew(place):
-    """It is after each 16 MiB of changes, here twice; a change waits for it, and a reader of a copy doesn't."""
-    place.format(65536)
-    longest, stop = [0.0], threading.Event()
-    with Gateway(place, "--socket", place.path("s")) as gateway:
-        gateway.put("/documents/d", 1)
-
-        def ask():
-            while not stop.is_set():
-                begin = time.monotonic()
-                assert gateway.get("/documents/d").status == 200
-                longest[0] = max(longest[0], time.monotonic() - begin)
-        asking = threading.Thread(target=ask)
-        asking.start()
-        waits = []
-        with Store.connect(place.path("s")) as store:
-            for number in range(60):
-                begin = time.monotonic()
-                store.put("e", str(number) + "x" * 1_000_000)
-                waits.append(time.monotonic() - begin)
-        stop.set()
-        asking.join()
-        assert os.path.getsize(place.file + ".changes") < 56 * MIB
-        assert (longest[0] < 1, max(waits) < 5) == (True, True), (longest, max(waits))
-
-
 # The begin and the end.
+
+def large(store):
+    """Makes documents that an export has in a file."""
+    for number in range(6):
+        store.create(f"large-{number}", "x" * 1_000_000)
+
+
+def exported(store):
+    with store.export() as moment:
+        return list(moment)
+
 
 def test_a_server_serves_on_if_nobody_reads_what_it_says(place):
     """A pipe that is full takes nothing, and isn't waited for."""
@@ -196,10 +181,13 @@ def test_a_server_serves_on_if_nobody_reads_what_it_says(place):
     serving = subprocess.Popen(words, stdout=subprocess.PIPE, stderr=write)
     try:
         assert b"is served" in serving.stdout.readline()
-        # What it then says is that changes can't be kept in their file.
-        resource.prlimit(serving.pid, resource.RLIMIT_FSIZE, (0, resource.RLIM_INFINITY))
         with Store.connect(path, timeout=PATIENCE) as store:
-            assert [store.put("d", number) for number in range(3)] == [1, 2, 3]
+            large(store)
+            # What it then says is that an export is broken off, since no file can be written.
+            resource.prlimit(serving.pid, resource.RLIMIT_FSIZE, (0, resource.RLIM_INFINITY))
+            for number in range(3):
+                raised(Ended, exported, store)
+                assert store.put("d", number) == 7 + number
         serving.send_signal(signal.SIGTERM)
         assert serving.wait(PATIENCE) == 0
     finally:
@@ -230,7 +218,7 @@ def test_a_gateway_waits_for_the_server_whose_socket_it_serves(place, server):
     assert (ended.returncode, b"none: No such file or directory" in ended.stderr) == (1, True)
 
 
-# In the server alone: writes to a file of changes never end.
+# In the server alone: writes to the file of an export never end.
 HANGING = """
 #define _GNU_SOURCE
 #include <dlfcn.h>
@@ -246,7 +234,7 @@ ssize_t write(int file, const void *bytes, size_t count)
     snprintf(link, sizeof link, "/proc/self/fd/%d", file);
     ssize_t length = readlink(link, path, sizeof path - 1);
     path[length < 0 ? 0 : length] = 0;
-    if (strstr(path, "store.changes") && access("hang", F_OK) == 0)
+    if (strstr(path, "(deleted)") && access("hang", F_OK) == 0)
         for (;;)
             pause();
     if (!real)
@@ -259,7 +247,7 @@ ssize_t write(int file, const void *bytes, size_t count)
 def test_a_server_ends_though_the_disk_hangs(place):
     if not shutil.which("cc"):
         pytest.skip("there is no C compiler")
-    place.format()
+    place.format(65536)
     library, path = place.path("hanging.so"), place.path("s")
     subprocess.run(["cc", "-shared", "-fPIC", "-o", library, place.text("hanging.c", HANGING), "-ldl"], check=True)
     words = place.server_words(place.file, "--socket", path)
@@ -267,12 +255,16 @@ def test_a_server_ends_though_the_disk_hangs(place):
                                env={**place.environment(), "LD_PRELOAD": library})
     try:
         assert b"is served" in serving.stdout.readline()
+        with Store.connect(path) as store:
+            large(store)
+            store.create("d", 1)
         place.text("hang", "")
-        with at(path, 1) as (client,):
-            client.sendall(b'{"cmd":"create","doc":1,"name":"d","schema":true}\n')
-            client.settimeout(1)
-            with pytest.raises(socket.timeout):
-                client.recv(100)
+        with at(path, 2) as clients:
+            for client, line in zip(clients, (b'{"cmd":"export"}\n', b'{"cmd":"list"}\n')):
+                client.sendall(line)
+                client.settimeout(1)
+                with pytest.raises(socket.timeout):
+                    client.recv(100)
             serving.send_signal(signal.SIGTERM)
             assert serving.wait(PATIENCE) == 1
         assert b"a disk doesn't answer" in serving.stderr.read()

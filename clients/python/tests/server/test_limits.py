@@ -13,9 +13,9 @@ import time
 import pytest
 from gateways import Gateway
 from hubs import Hub
-from jpstore import Store
+from jpstore import Ended, Store, create
 from serving import STATUS
-from support import PATIENCE, Place, until
+from support import PATIENCE, Place, raised, until
 
 MIB = 1 << 20
 
@@ -227,19 +227,20 @@ def test_a_request_that_is_no_http_is_worth_a_line_at_most(gateway):
 def test_a_hub_speaks_again_when_its_standard_error_takes_something(place):
     place.format(65536)
     path = place.path("socket")
-
-    def change(count):
-        for _ in range(count):
-            store.put("d", "x" * 100_000)
     with Serving(place, "hub", place.file, "--socket", path) as hub, Store.connect(path) as store:
-        change(1)
+        # An export of these is in a file.
+        store.group([create(f"d{number}", "x" * 1_000_000) for number in range(6)])
+
+        def export():
+            with store.export() as moment:
+                return len(list(moment))
         # What is written to a file beyond this fails: first the complaint about that, too, and then not.
         for most in (0, 100_000):
             resource.prlimit(hub.process.pid, resource.RLIMIT_FSIZE, (most, resource.RLIM_INFINITY))
-            change(2)
+            raised(Ended, export)
             resource.prlimit(hub.process.pid, resource.RLIMIT_FSIZE, (resource.RLIM_INFINITY,) * 2)
-            change(1)
-        assert "changes are not kept" in hub.said()
+            assert export() == 6
+        assert "an export is broken off" in hub.said()
 
 
 # Requests.
