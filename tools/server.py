@@ -22,7 +22,7 @@ NAME = "jpstored"
 CRATES = "/usr/share/cargo/registry"
 # What is needed, and the package that has it.
 WANTED = {f"{CRATES}/{crate}-{version}*": f"librust-{crate.replace('_', '-')}-dev" for crate, version in (
-    ("bytes", 1), ("crc32fast", 1), ("httparse", 1), ("libc", 0.2), ("memchr", 2), ("serde_json", 1), ("sha2", 0.10), ("tokio", 1))}
+    ("bytes", 1), ("httparse", 1), ("libc", 0.2), ("memchr", 2), ("serde_json", 1), ("sha2", 0.10), ("tokio", 1))}
 SOURCE = ["source.crates-io.replace-with='debian'", f"source.debian.directory='{CRATES}'"]
 
 
