@@ -31,7 +31,7 @@ HERE = pathlib.Path(__file__).resolve().parent
 sys.dont_write_bytecode = True
 sys.path[:0] = [str(HERE.parent / "gate"), str(HERE.parent.parent / "tools")]
 from debian_packages import install
-from test_pages import README, sessions
+from test_pages import README, sessions, without_names
 
 PAGE = HERE.parent.parent / "docs" / "use" / "EMBEDDING.md"
 PACKAGES = ["jpstore", "libjpstore-dev", "libjpstore1", "librust-jpstore-dev", "python3-jpstore"]
@@ -117,7 +117,7 @@ def same(what, found, wanted):
 def go_through_readme(said):
     """Each block of README's session prints what the page shows."""
     for words, output in sessions(README.read_text(encoding="utf-8")):
-        same("the session of README", said(words), output)
+        same("the session of README", without_names(said(words)), without_names(output))
 
 
 def install_missing():

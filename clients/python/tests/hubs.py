@@ -82,6 +82,14 @@ class Hub:
 
     def programs(self):
         """The processes of its programs, of which there is one, unless the store grows."""
+        # While it looks, another program may take the place of the one that was there.
+        for _ in range(20):
+            found = self._children()
+            if found:
+                return found
+        raise AssertionError("the hub has no program")
+
+    def _children(self):
         found = []
         for process in filter(str.isdigit, os.listdir("/proc")):
             with contextlib.suppress(OSError):
@@ -89,7 +97,6 @@ class Hub:
                     # After the name, which is in brackets: the state and the parent.
                     if int(opened.read().rpartition(")")[2].split()[1]) == self.process.pid:
                         found.append(int(process))
-        assert found, "the hub has no program"
         return found
 
     def ends(self, status):
