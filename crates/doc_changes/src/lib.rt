@@ -43,7 +43,7 @@ pub use making::{make, make_for_good, unmake};
 pub use mark::{Mark, check_mark};
 pub use marks::{Marks, Unset};
 pub use names::is_valid_name;
-pub use patching::patch_read_for_good;
+pub use patching::{patch_read, patch_read_for_good};
 pub use refusal::Refusal;
 pub use shared::SharedSchema;
 pub use stored::Stored;

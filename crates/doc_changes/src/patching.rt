@@ -2,6 +2,7 @@
 ghost use Rattle.std.specs.List.{AllByRecursion};
 ghost use Rattle.std.specs.Prelude.{◌≡◌, ◌+◌, ◌<◌, ◌≤◌, ◌⊎◌, ℕ, List, Option, None, Err, Ok, IfErr, IfOk, MatchResult, OnErr, map, string_bytes, true};
 ghost use Rattle.indexmap.specs.IndexMap.{spare};
+ghost use Rattle.doc_patch.specs.Held.{held};
 ghost use Rattle.doc_patch.specs.Meaning.{operations};
 ghost use Rattle.doc_patch.specs.Measured.{CanReverse, Reverses};
 ghost use Rattle.doc_patch.specs.Patch as pure;
@@ -105,6 +106,36 @@ pub fn patch_read_for_good(
     perform_for_good(alloc, stored, changes, revision)
 }
 
+/// Judges a patch that was read already and asks for no revision, and makes it, with that revision for its document. It is
+/// the patch of each document `ops` that spells its operations, and refused as that is. A refusal changes nothing.
+pub fn patch_read(
+    alloc: Global,
+    documents: &mut IndexMap<String, Stored>,
+    name: String,
+    changes: &Patch,
+    revision: u64,
+) -> Result<Undo, Refusal>
+    requires { AllByRecursion IsStorable (map document_of documents.old.entries) }
+    ensures made { (profile : Profile) (ops : Doc) → operations_of ops ≡ Ok (operations changes.now) → IsSound ops
+        → IfOk result (λ undo. IsMade profile (map document_of documents.old.entries) (commands.patch (string_bytes name) ops None) revision undo (map document_of documents.new.entries)) }
+    ensures refused { (profile : Profile) (ops : Doc) → operations_of ops ≡ Ok (operations changes.now)
+        → IfErr result (RefusesIn profile (map document_of documents.old.entries) (commands.patch (string_bytes name) ops None)) }
+    ensures unchanged { OnErr result (map document_of documents.new.entries ≡ map document_of documents.old.entries) }
+    ensures spare { spare documents.old < spare documents.new + 2 }
+{
+    let index = index_of(documents, name.as_str())?;
+    let stored = documents.get_index_mut(index).unwrap();
+    let before = stored.revision;
+    match perform(alloc, stored, changes, revision) {
+        Ok(reversal) => Ok(Undo::Patched {
+            name,
+            reversal,
+            revision: before,
+        }),
+        Err(refusal) => Err(refusal),
+    }
+}
+
 /// Takes a patch back, with that revision for its document. It takes no memory.
 pub(crate) fn take_back(
     documents: &mut IndexMap<String, Stored>,
@@ -158,7 +189,24 @@ fn patch_stored(
 {
     check_revision(if_rev, stored.revision)?;
     let changes = Patch::read(alloc, ops)?;
-    let reversal = apply_valid(alloc, stored.schema.get(), &changes, &mut stored.doc)?;
+    perform(alloc, stored, &changes, revision)
+}
+
+// Judges the operations of a patch of what is kept and valid, and makes them.
+fn perform(
+    alloc: Global,
+    stored: &mut Stored,
+    changes: &Patch,
+    revision: u64,
+) -> Result<Reversal, Refusal>
+    requires { Judges (view stored.old.schema) stored.old.doc true }
+    ensures made { IfOk result (λ _. MakesForGood (or_refused (pure.patch (operations changes.now) stored.old.doc)) revision stored.old stored.new) }
+    ensures back { IfOk result (λ r. Reverses r stored.new.doc stored.old.doc) }
+    ensures held { IfOk result (λ r. r.held ≡ held (operations changes.now) stored.old.doc) }
+    ensures refused { IfErr result (RefusesMade (or_refused (pure.patch (operations changes.now) stored.old.doc)) stored.old) }
+    ensures unchanged { OnErr result ((name : List ℕ) → named name stored.new ≡ named name stored.old) }
+{
+    let reversal = apply_valid(alloc, stored.schema.get(), changes, &mut stored.doc)?;
     let _made = stored.doc.tree();
     stored.revision = revision;
     Ok(reversal)
