@@ -8,3 +8,4 @@ pub mod Trial
 pub mod Tried
 pub mod Marking
 pub mod Transaction
+pub mod Spelled

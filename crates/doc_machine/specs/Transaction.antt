@@ -12,9 +12,10 @@ use Rattle.doc_changes.specs.Marks.{IsMark, Mark, with_mark}
 use Rattle.doc_changes.specs.State.{Document, State, Good, find}
 use Rattle.doc_changes.specs.Step.{refusal_of, after}
 use Rattle.doc_machine.specs.Marking.{Marking, mark_at_seq, marking_of, marking_refusal}
+use Rattle.doc_machine.specs.Spelled.{change_in}
 use Rattle.doc_machine.specs.Trial.{TrialView}
 use Rattle.doc_machine.specs.declared.transaction.Transaction.{Transaction as Held}
-use Rattle.doc_machine.specs.declared.transaction.Transaction.TheVariants.{Marked, Single, Several}
+use Rattle.doc_machine.specs.declared.transaction.Transaction.TheVariants.{Marked, Single, Several, Spelled}
 use Rattle.doc_machine.specs.declared.transaction.Changes.{Changes as HeldChanges}
 use Rattle.doc_machine.specs.declared.transaction.Changes.TheVariants.{Alone, Together}
 
@@ -118,6 +119,7 @@ abbrev pub transaction_of : Held → Transaction
 transaction_of (Single command) = single (change_of command)
 transaction_of (Several commands) = several (map change_of commands.items)
 transaction_of (Marked marking changes) = marked (marking_of marking) (pure_changes changes)
+transaction_of (Spelled text) = single (change_in text)
 
 -- a transaction of several changes has 1 to 1,024
 abbrev pub is_countable : List Change → Bool

@@ -12,6 +12,7 @@
 pub mod limits;
 mod machine;
 mod marking;
+mod spelled;
 mod transaction;
 
 pub use doc_changes::{
@@ -21,4 +22,5 @@ pub use machine::{Machine, Trial};
 pub use marking::{Asked, Marking};
 pub use path_eval::{Node, Nodelist};
 pub use record_text::{Command, RecordFault, command_of};
+pub use spelled::SpelledPatch;
 pub use transaction::{Changes, Transaction};

@@ -3,6 +3,7 @@ ghost use Rattle.std.specs.Prelude.{◌≡◌, IfOk, map};
 ghost use Rattle.record_text.specs.Change.{change_of};
 
 use crate::marking::Marking;
+use crate::spelled::SpelledPatch;
 use record_text::Command;
 use std::alloc::{AllocError, Global};
 
@@ -15,6 +16,8 @@ pub enum Transaction {
     Several(Vec<Command>),
     /// The same with a mark, which is set with the changes or not at all, and with what it must be before.
     Marked(Marking, Changes),
+    /// One change, a patch that asks for no revision, in its text.
+    Spelled(SpelledPatch),
 }
 
 /// The changes beside a mark.
@@ -41,6 +44,7 @@ impl Transaction {
                 marking.copy(alloc)?,
                 changes.copy(alloc)?,
             )),
+            Transaction::Spelled(patch) => Ok(Transaction::Spelled(patch.copy(alloc)?)),
         }
     }
 
@@ -52,6 +56,7 @@ impl Transaction {
             Transaction::Single(_) => 1,
             Transaction::Several(commands) => commands.len(),
             Transaction::Marked(_, changes) => changes.len(),
+            Transaction::Spelled(_) => 1,
         }
     }
 }

@@ -26,3 +26,5 @@ mod paths;
 mod plain_patches;
 #[cfg(test)]
 mod pointers;
+#[cfg(test)]
+mod spelled_patches;

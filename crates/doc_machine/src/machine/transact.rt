@@ -9,12 +9,14 @@ ghost use Rattle.refusals.specs.declared.numbers.TheConstants.{MEMORY};
 ghost use Rattle.doc_changes.specs.Step.{IsOwn, Refuses, refusal_of};
 ghost use Rattle.doc_machine.specs.Transaction.{AreMade, IsTransacted, RefusesTransaction, StopsAt, all_of, changes_refusal, first_refused, large_refusal, marked, pure_changes, refused_at, ruled_by, several_refusal, text_bytes, transaction_of};
 ghost use Rattle.doc_machine.specs.Marking.{marking_of, marking_refusal};
+ghost use Rattle.doc_machine.specs.Spelled.{change_in};
 ghost use Rattle.std.specs.Result.{result_err};
 
 use crate::limits::{LAST_SEQ, TRANSACTION_CHANGES, TRANSACTION_KEPT_BYTES};
 use crate::machine::Trial;
 use crate::machine::trial::Accepted;
 use crate::marking::Marking;
+use crate::spelled::SpelledPatch;
 use crate::transaction::{Changes, Transaction};
 use doc_changes::Refusal;
 use record_text::Command;
@@ -40,7 +42,26 @@ impl Trial {
             Transaction::Single(command) => self.step_alone(command),
             Transaction::Several(commands) => self.step_all(commands),
             Transaction::Marked(marking, changes) => self.step_marked(marking, changes),
+            Transaction::Spelled(patch) => self.step_spelled(patch),
         }
+    }
+
+    // Makes a patch by itself that is in its text.
+    fn step_spelled(&mut self, patch: SpelledPatch) -> Result<u64, Refusal>
+        ensures accepted { OnOk result (refusal_of self.old.state (change_in patch) ≡ None) }
+        ensures made { OnOk result (AreMade self.old (change_in patch ∷ []) self.new) }
+        ensures seq { IfOk result (λ seq. seq ≡ self.new.state.seq) }
+        ensures refused { IfErr result (Refuses self.old.state (change_in patch)) }
+        ensures unchanged { OnErr result (self.new ≡ self.old) }
+        ensures own { IfErr result IsOwn }
+        ensures good { Good self.new.state }
+    {
+        self.know();
+        if self.seq() < LAST_SEQ {
+            return self.patch(patch);
+        }
+        let command = self.spelled_command(&patch)?;
+        self.step_alone(command)
     }
 
     // Makes changes and sets a mark, or nothing.

@@ -7,14 +7,16 @@ ghost use Rattle.doc_changes.specs.MarkView.{mark_in};
 ghost use Rattle.doc_changes.specs.Marks.{mark_refusal};
 ghost use Rattle.doc_changes.specs.State.{Good, noted};
 ghost use Rattle.doc_changes.specs.Step.{IsOwn, Refuses, after, refusal_of};
+ghost use Rattle.doc_machine.specs.Spelled.{change_in};
 ghost use Rattle.doc_machine.specs.Transaction.{AreMade};
 ghost use Rattle.doc_machine.specs.Trial.{state_at};
 ghost use Rattle.doc_changes.specs.declared.limits.TheConstants.{LAST_SEQ};
 
 use crate::machine::Machine;
+use crate::spelled::SpelledPatch;
 use doc_changes::laws::accepted_changes_are_framed;
 use doc_changes::{
-    Documents, Judged, Mark, Marks, Profile, Refusal, Stored, Undo, Unset, make, unmake,
+    Documents, Judged, Mark, Marks, Profile, Refusal, Stored, Undo, Unset, make, patch_read, unmake,
 };
 use indexmap::IndexMap;
 use record_text::Command;
@@ -182,6 +184,41 @@ impl Trial {
             .unwrap();
         self.seq = seq;
         Ok(Accepted { seq, held })
+    }
+
+    // A patch in its text, as a command.
+    pub(crate) fn spelled_command(&self, patch: &SpelledPatch) -> Result<Command, AllocError>
+        ensures { IfOk result (λ command. change_of command ≡ change_in patch.now) }
+    {
+        patch.command(self.alloc)
+    }
+
+    // Judges a patch in its text, and makes it. An `Err` changes nothing.
+    pub(crate) fn patch(&mut self, patch: SpelledPatch) -> Result<u64, Refusal>
+        requires counted { self.old.state.seq < LAST_SEQ }
+        ensures accepted { OnOk result (refusal_of self.old.state (change_in patch) ≡ None) }
+        ensures made { OnOk result (AreMade self.old (change_in patch ∷ []) self.new) }
+        ensures seq { IfOk result (λ seq. seq ≡ self.new.state.seq) }
+        ensures refused { IfErr result (Refuses self.old.state (change_in patch)) }
+        ensures unchanged { OnErr result (self.new ≡ self.old) }
+        ensures own { IfErr result IsOwn }
+        ensures good { Good self.new.state }
+    {
+        // A journal can hold what is accepted.
+        accepted_changes_are_framed();
+        let SpelledPatch { name, changes, .. } = patch;
+        self.documents.reserve(self.log.len() + 2)?;
+        self.log.reserve(1)?;
+        let seq = self.seq + 1;
+        let undo = patch_read(self.alloc, &mut self.documents, name, &changes, seq)?;
+        self.log
+            .push(Tried {
+                change: undo,
+                marks: Vec::new(self.alloc),
+            })
+            .unwrap();
+        self.seq = seq;
+        Ok(seq)
     }
 
     // Sets a mark after the newest change, which it goes back with. An `Err` changes nothing.
