@@ -10,7 +10,7 @@ ghost use Rattle.protocol.specs.Read.{AsksWith, IsRequest, IsUnmarkedRequest, Re
 use crate::limits::{CHANGES_BYTES, LINE_BYTES, PUMP_SECTORS};
 use crate::marked::{marked, take_out};
 use crate::several::several;
-use doc_machine::{Refusal, Transaction};
+use doc_machine::{Refusal, SpelledPatch, Transaction};
 use doc_tree::{MemberCursor, Tree, TreeFault};
 use record_text::{command_with, plain_tree};
 use refusals::numbers::COMMAND;
@@ -53,6 +53,10 @@ pub fn read_request(alloc: Global, line: &[u8]) -> Result<Request, Refusal>
     requires { length line.now ≤ LINE_BYTES }
     ensures { ReadsRequest line.now result }
 {
+    // Most changes are such patches, and are read with no tree.
+    if let Some(patch) = SpelledPatch::read(alloc, line) {
+        return Ok(Request::Change(Transaction::Spelled(patch)));
+    }
     match document_in(alloc, line) {
         Ok(tree) => request_in(alloc, tree)?.ok_or(Refusal::plain(COMMAND)),
         Err(fault) => Err(Refusal::plain(fault.number)),

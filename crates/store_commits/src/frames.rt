@@ -3,15 +3,16 @@ ghost use Rattle.std.specs.Prelude.{◌≡◌, ◌+◌, IfSome, map, true};
 ghost use Rattle.record_text.specs.Change.{change_of};
 ghost use Rattle.log_frames.specs.Kinds.{frame_as, logged, note};
 ghost use Rattle.log_frames.specs.declared.kind.Kind.TheVariants.{Noted};
-ghost use Rattle.record_text.specs.Frame.{entry};
+ghost use Rattle.record_text.specs.Frame.{entry, frame_of};
 ghost use Rattle.doc_machine.specs.Marking.{marking_of};
+ghost use Rattle.doc_machine.specs.Spelled.{change_in};
 ghost use Rattle.doc_machine.specs.Transaction.{all_of, changes_of, pure_changes, transaction_of};
 ghost use Rattle.store_commits.specs.Folds.{frames_of};
 ghost use Rattle.store_commits.specs.Inside.{frames_before, kind_of};
 
 use crate::laws::marks_are_framed;
 use doc_machine::limits::MARK_BYTES;
-use doc_machine::{Changes, Command, Marking, Transaction, is_valid_name};
+use doc_machine::{Changes, Command, Marking, SpelledPatch, Transaction, is_valid_name};
 use log_frames::laws::last_frames_are_those_of_format_2;
 use log_frames::{Kind, frame_as, noted_frame};
 use std::alloc::Global;
@@ -32,6 +33,7 @@ pub(crate) fn frames(
     match transaction {
         Transaction::Single(command) => frame_of(alloc, Kind::Last, command, seq),
         Transaction::Several(commands) => frames_before(alloc, commands, seq, rides, 0),
+        Transaction::Spelled(patch) => spelled_frame(alloc, patch, seq),
         Transaction::Marked(marking, changes) => {
             let last = seq.checked_add(transaction.len() as u64)?;
             let mut frames = changes_before_mark(alloc, changes, seq)?;
@@ -52,6 +54,20 @@ fn frame_of(alloc: Global, kind: Kind, command: &Command, seq: u64) -> Option<Ve
         Ok(bytes) => Some(bytes),
         Err(_) => None,
     }
+}
+
+// The frame of a patch in its text, which gets the seq after this one. Its body is that text.
+fn spelled_frame(alloc: Global, patch: &SpelledPatch, seq: u64) -> Option<Vec<u8>>
+    ensures { IfSome result (λ bytes. bytes.items ≡ frame_of (entry (seq + 1) (change_in patch.now))) }
+{
+    let text = patch.text();
+    let seq = seq.checked_add(1)?;
+    let length = u32::try_from(text.len()).ok()?;
+    let mut frame = Vec::with_capacity(alloc, text.len().checked_add(12)?).ok()?;
+    frame.extend_from_slice(&length.to_be_bytes()).ok()?;
+    frame.extend_from_slice(&seq.to_be_bytes()).ok()?;
+    frame.extend_from_slice(text).ok()?;
+    Some(frame)
 }
 
 // The frames of the changes of a transaction that its mark follows.
