@@ -1,3 +1,4 @@
 pub mod Trimmed
 pub mod After
 pub mod First
+pub mod Blocks

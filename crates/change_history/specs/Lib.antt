@@ -1,3 +1,4 @@
 pub mod History
 pub mod Follows
 pub mod Tells
+pub mod Frames

@@ -13,6 +13,9 @@ use std::marker::Model;
 
 /// The newest transactions of a store, each whole: those after the change of a number, the floor. If all together have
 /// more bytes than a limit, the oldest go, and the floor rises.
+///
+/// Transactions of a batch may share a block of memory, which stays until the last of them goes. So their memory is that
+/// of the limit, and at most that of one batch more.
 #[derive(Drop)]
 pub struct History {
     limit: u64,

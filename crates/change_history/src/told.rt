@@ -1,6 +1,7 @@
 //! A transaction as a history keeps it.
 ghost use Rattle.std.specs.Prelude.{◌≡◌, length};
 
+use crate::frames::Frames;
 use std::marker::Model;
 
 /// A transaction: what it changed, as frames.
@@ -9,7 +10,7 @@ pub struct Told {
     /// The number of its last change.
     pub last: u64,
     /// The frames of its changes, in order and back to back.
-    pub frames: Vec<u8>,
+    pub frames: Frames,
 }
 
 impl Model for Told {
@@ -17,7 +18,7 @@ impl Model for Told {
 
     ghost Value = { Told };
 
-    ghost view = { λ t. record { last = t.last; frames = t.frames.items } };
+    ghost view = { λ t. record { last = t.last; frames = t.frames } };
 }
 
 impl Told {

@@ -4,10 +4,11 @@ ghost use Rattle.change_history.specs.History.{newest, with_each};
 ghost use Rattle.store_commits.specs.Given.{bytes_each};
 ghost use Rattle.recorded_store.specs.Numbers.{Rise, numbers_in, told_with};
 
-use change_history::{History, Told};
+use change_history::{BatchFrames, History, Told};
 use doc_store::{Committed, Reply};
 
-/// Gives the history each transaction that was done. It takes no memory.
+/// Gives the history each transaction that was done. Their frames share a block of memory; if none is left for it, each
+/// keeps its own.
 pub(crate) fn record(history: &mut History, committed: Committed) -> Vec<Reply>
     requires each { length (numbers_in committed.replies.items) ≡ length (bytes_each committed.frames.items) }
     requires rise { Rise (newest history.old.history.floor history.old.history.told) (numbers_in committed.replies.items) }
@@ -16,7 +17,7 @@ pub(crate) fn record(history: &mut History, committed: Committed) -> Vec<Reply>
     ensures told { history.new.history ≡ with_each history.old.history (told_with (numbers_in committed.replies.items) (bytes_each committed.frames.items)) }
 {
     let Committed { replies, frames } = committed;
-    let mut given = frames.into_iter();
+    let mut given = BatchFrames::new(frames);
     for reply in replies.iter() {
         let Reply::Done(last) = *reply else {
             continue;

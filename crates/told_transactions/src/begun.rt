@@ -6,7 +6,7 @@ ghost use Rattle.log_frames.specs.Log.{IsLog, Log, Transacted, log_bytes, logged
 ghost use Rattle.told_transactions.specs.Begun.{AreLogged, BeginsWithBytes, IsFilled, IsNumbered};
 
 use crate::frame::{Frame, first_frame};
-use change_history::{History, Told};
+use change_history::{Frames, History, Told};
 use log_frames::Kind;
 use std::alloc::{AllocError, Global};
 
@@ -63,7 +63,10 @@ fn filled(alloc: Global, limit: u64, bytes: &[u8]) -> Result<Option<History>, Al
         let (first, behind) = rest.split_at(length);
         let frames = copied(alloc, first)?;
         history.reserve(1)?;
-        history.push(Told { last, frames });
+        history.push(Told {
+            last,
+            frames: Frames::own(frames),
+        });
         rest = behind;
     }
     Ok(Some(history))

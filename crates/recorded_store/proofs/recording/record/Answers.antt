@@ -1,6 +1,4 @@
 use Rattle.std.proofs.Common.{◌∙◌, ◌+◌, ◌++◌, ℕ, List, Vec, Global, length, drop, arith, refl, sym, ap, subst}
-use Rattle.std.proofs.lemmas.List.{length-map}
-use Rattle.std.specs.Vec.Iter.{into_iter_items}
 use Rattle.change_history.specs.History.{History, newest, with_each}
 use Rattle.store_commits.specs.Given.{bytes_each}
 use Rattle.store_commits.specs.declared.event.Reply.TheVariants.{Done}
@@ -10,10 +8,9 @@ use Rattle.recorded_store.proofs.recording.record.Goals as goal
 
 pub loop-reply-init : goal.loop-reply-init
 loop-reply-init c =
-    let items = c.into_iter-given.ensures.rest in
+    let bytes = c.new-given.ensures in
     let replies = c.deref-reply-items.ensures.value in
     let numbers = ap numbers_in replies in
-    let bytes = ap bytes_each items in
     let h = c.args.history.now.history in
     let room = c.requires.room in
     let count = ap length bytes in
@@ -33,7 +30,7 @@ loop-reply-preserved-in_default c =
       each = ap length (sym step) ∙ l.invariant.each;
       rise = subst (λ (ns : List ℕ). Rise (newest l.history.history.floor l.history.history.told) ns) step l.invariant.rise;
       room = l.invariant.room;
-      told = ap (λ (ns : List ℕ). with_each l.history.history (told_with ns (bytes_each (into_iter_items l.given)))) (sym step) ∙ l.invariant.told;
+      told = ap (λ (ns : List ℕ). with_each l.history.history (told_with ns l.given)) (sym step) ∙ l.invariant.told;
     }
 
 pub unreachable-requires : goal.unreachable-requires
@@ -42,15 +39,14 @@ unreachable-requires c =
     let rs = c.deref-reply-items.result.now in
     let step = ap length (numbers_step rs l.reply-index (Done c.in-Done.last) (Done 0) c.loop-reply-test.true c.in-Done.is) in
     let all = l.invariant.each in
-    let count = length-map (into_iter_items l.given) (λ (v : Vec ℕ Global). v.items) in
-    let none = c.in_default-next.ensures.cases in
-    omega (arith, step, all, count, none)
+    let none = ap length c.in_default-next.ensures.steps.0 in
+    omega (arith, step, all, none)
 
 pub push-requires-clause-room : goal.push-requires-clause-room
 push-requires-clause-room c =
     let l = c.loop-reply in
     let room = l.invariant.room in
-    let count = ap length (ap bytes_each c.in-Some.ensures.items) in
+    let count = ap length c.in-Some.ensures.steps in
     omega (arith, room, count)
 
 pub push-requires-clause-larger : goal.push-requires-clause-larger
@@ -68,7 +64,7 @@ loop-reply-preserved c =
     let h = l.history.history in
     let k = c.push.new.self.history in
     let step = numbers_step rs l.reply-index (Done c.in-Done.last) (Done 0) c.loop-reply-test.true c.in-Done.is in
-    let bytes = ap bytes_each c.in-Some.ensures.items in
+    let bytes = c.in-Some.ensures.steps in
     let rise = subst (λ (ns : List ℕ). Rise (newest h.floor h.told) ns) step l.invariant.rise in
     let numbers = ap length step in
     let count = ap length bytes in
@@ -80,7 +76,7 @@ loop-reply-preserved c =
       each = omega (arith, numbers, count, all);
       rise = subst (λ (n : ℕ). Rise n (numbers_in (drop (l.reply-index + 1) rs))) (sym c.push.ensures.newest) rise.1;
       room = omega (arith, room, count, len, capacity);
-      told = ap (λ (x : History). with_each x (told_with (numbers_in (drop (l.reply-index + 1) rs)) (bytes_each (into_iter_items c.next.new.self)))) c.push.ensures.pushed
+      told = ap (λ (x : History). with_each x (told_with (numbers_in (drop (l.reply-index + 1) rs)) c.next.new.self)) c.push.ensures.pushed
           ∙ (λ i. with_each h (told_with (sym step i) (sym bytes i))) ∙ l.invariant.told;
     }
 
@@ -89,4 +85,4 @@ returns-clause-told c =
     let l = c.loop-reply in
     let rs = c.deref-reply-items.result.now in
     let none = numbers_past rs l.reply-index c.loop-reply-test.false in
-    ap (λ (ns : List ℕ). with_each l.history.history (told_with ns (bytes_each (into_iter_items l.given)))) (sym none) ∙ l.invariant.told
+    ap (λ (ns : List ℕ). with_each l.history.history (told_with ns l.given)) (sym none) ∙ l.invariant.told

@@ -59,10 +59,10 @@ transactions-preserved c = λ ts are is.
     let found = c.in-Some-transaction_at.ensures next.next (frames_as (logged_each next.more)) (logged_first next.next next.more next.logged) next.bytes_are in
     let frames = frames_as (logged_transacted next.next) in
     let more = frames_as (logged_each next.more) in
-    let x : Told = record { last = c.in-Some-transaction_at.last; frames = c.in_ok-frames.frames.items } in
+    let x : Told = record { last = c.in-Some-transaction_at.last; frames = c.own.result } in
     let value = c.newest.ensures.value in
     let last : x.last ≡ newest h.floor h.told + length next.next.changes = found.1 ∙ ap (λ (n : ℕ). n + length next.next.changes) value in
-    let bytes : x.frames ≡ frames = c.in_ok-frames.ensures ∙ c.split_at.ensures.front ∙ (λ i. take (found.2 i) (next.bytes_are i)) ∙ take-append_seam frames more in
+    let bytes : x.frames ≡ frames = c.own.ensures ∙ c.in_ok-frames.ensures ∙ c.split_at.ensures.front ∙ (λ i. take (found.2 i) (next.bytes_are i)) ∙ take-append_seam frames more in
     filled_next c.args.limit c.in-Some.floor ts h l.rest.now next x c.push.new.self.history c.split_at.result.1.now
     (subst (λ (n : ℕ). IsNumbered n next.next) value found.0)
     (λ i. record { last = last i; frames = bytes i })
