@@ -13,13 +13,14 @@ from typing import TYPE_CHECKING, Any
 
 from .adapt import Adapted, Schema
 from .client import Mark, Node, Pumped, Status, Store
-from .dump import LoadStopped, dump, grow, grow_file, load
+from .dump import LoadStopped, dump, load
 from .errors import (
     AccessError, Broken, Conflict, Ended, Full, Gone, Invalid, JpstoreError, JpstoreWarning, Malformed, NoMemory,
     NotFound, Outdated, Overtaken, Refused, TimedOut, TooLarge, Unsendable,
 )
 from .explain import Fault, explain
 from .follow import Latest
+from .larger import grow, grow_file
 from .moment import Document, Moment
 from .refusals import REFUSALS, Refusal
 from .results import Changes, Transaction

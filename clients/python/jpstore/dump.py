@@ -1,22 +1,18 @@
-"""All documents of a store as the lines that make them: written, read again, and put into a larger store."""
+"""All documents of a store as the lines that make them: written, and read again."""
 import json
-import os
-import shlex
-from typing import Any, Callable, Iterable, Iterator, List, Mapping, NamedTuple, Optional, Tuple
+from typing import Any, Callable, Iterable, Iterator, List, Mapping, NamedTuple, Tuple
 
-from .client import Status, Store
-from .wire.dump_end import end_line, is_end_line, whole_dump
+from .client import Store
 from .errors import JpstoreError, Refused, Unsendable
-from .larger import Larger
+from .larger import grow, grow_file, open_store
 from .moment import moment_of
 from .progress import Progress
 from .wire.commands import Command, changes_in, is_changing, line_of, line_of_creation, line_of_schema, patch
+from .wire.dump_end import end_line, is_end_line, whole_dump
 from .wire.limits import MOST_LINE_BYTES, MOST_OPERATIONS
-from .wire.program import Path, copy_file
 from .wire.values import escaped
 
-__all__ = ["GROUP_LINES", "LoadStopped", "document_lines", "dump", "grow", "grow_file", "load",
-           "open_store"]
+__all__ = ["GROUP_LINES", "LoadStopped", "document_lines", "dump", "grow", "grow_file", "load", "open_store"]
 
 #: A group has at most this many lines, and ends with the one that makes it longer than this many bytes.
 GROUP_LINES, _GROUP_BYTES = 256, 1 << 22
@@ -28,12 +24,6 @@ class _Line(NamedTuple):
     number: int
     line: bytes
     changes: int
-
-
-def open_store(file: Path, program: Optional[Path] = None, batch: int = 1) -> Store:
-    """The store in a file, which may take a while to read."""
-    with Progress("open"):
-        return Store(file, program=program, batch=batch)
 
 
 class _NoChange(Exception):
@@ -198,93 +188,3 @@ def _change_line(number: int, line: bytes) -> _Line:
         raise Unsendable("it is none of create, patch, schema, delete and transaction")
     changes = changes_in(command)
     return _Line(number, line if line.endswith(b"\n") else line + b"\n", len(changes))
-
-
-def grow(file: Path, new: Path, sectors: int, program: Optional[Path] = None, *,
-         version: Optional[int] = None) -> Status:
-    """Makes a store of this many sectors in `new`, which must not exist, with the documents of the store in `file`.
-
-    They keep their revisions, and the store its count of changes, and its format, unless `version` gives 2 or 3. They
-    are compared, as new openings read them, before
-    `new` gets its name; until then it is `new.growing`, which is removed if something fails. `file` keeps all it has.
-    Returns the status of the new store.
-    """
-    new = os.fspath(new)
-    part = new + ".growing"
-    _check_absent(new, part)
-    with Progress("copy"):
-        copy_file(file, part, sectors, program, version=version)
-    try:
-        with open_store(file, program) as old, open_store(part, program) as grown:
-            _compare(old, grown)
-            status = grown.status()
-            give_name(part, new)
-    except BaseException:
-        os.unlink(part)
-        raise
-    sync_folder(new)
-    return status
-
-
-def grow_file(file: Path, sectors: int, program: Optional[Path] = None) -> Status:
-    """Makes the store in `file`, which nobody serves, one of this many sectors; returns its status.
-
-    It keeps its documents with their revisions, its count of changes, and its format. They are compared, as openings
-    read them, before the larger file takes the name. If it is stopped, the name leads to the smaller file or to the
-    larger one, each of which is whole.
-    """
-    with open_store(file, program) as old:
-        larger = Larger(os.fspath(file), sectors, None if program is None else os.fspath(program))
-        try:
-            larger.take()
-            with Progress("copy"):
-                larger.copy()
-            with open_store(larger.path, program) as grown:
-                _compare(old, grown)
-                status = grown.status()
-                larger.replace()
-        finally:
-            larger.remove()
-    return status
-
-
-def _check_absent(new: str, part: str) -> None:
-    if os.path.lexists(new):
-        raise JpstoreError(f"{new} exists already, and is left as it is: choose another name")
-    if os.path.lexists(part):
-        raise JpstoreError(f"{part} exists already: another `grow` is at work there, or one was killed. If none is at "
-                           f"work, remove it (`rm {shlex.quote(part)}`) and try again; the old store is whole")
-
-
-def give_name(part: str, new: str) -> None:
-    """Names the file `new`. A hard link never replaces a file that got this name meanwhile, as a renaming would."""
-    try:
-        os.link(part, new)
-    except OSError:
-        # The name is taken, or the file system has no hard links.
-        if os.path.lexists(new):
-            raise JpstoreError(f"{new} was made meanwhile, and is left as it is: choose another name") from None
-        os.rename(part, new)
-    else:
-        os.unlink(part)
-
-
-def _compare(old: Store, new: Store) -> None:
-    if new.status().seq != old.status().seq:
-        raise JpstoreError("the old store was changed while it was copied: try again once nothing else uses it")
-    names = old.list()
-    if new.list() != names:
-        raise JpstoreError("the new store has other names than the old one")
-    with Progress("compare", "documents", len(names)) as progress:
-        for name in names:
-            if (old.texts(name), old.rev(name)) != (new.texts(name), new.rev(name)):
-                raise JpstoreError(f"{name} is another document in the new store than in the old one")
-            progress.step()
-
-
-def sync_folder(file: str) -> None:
-    folder = os.open(os.path.dirname(os.path.abspath(file)), os.O_RDONLY)
-    try:
-        os.fsync(folder)
-    finally:
-        os.close(folder)

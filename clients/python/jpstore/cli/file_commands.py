@@ -4,8 +4,8 @@ import os
 import re
 from typing import Dict, List, Tuple
 
-from ..dump import grow, grow_file
 from ..errors import JpstoreError, accessing_store
+from ..larger import grow, grow_file
 from ..sizes import sectors_of_size
 from ..wire.program import check_file, copy_file, format_file, upgrade_file
 from ..wire.store_file import SECTOR

@@ -6,8 +6,8 @@ import os
 import uuid
 from typing import Any, Dict, Optional, Sequence
 
-from ..dump import give_name, sync_folder
 from ..errors import JpstoreError
+from ..larger import give_name, sync_folder
 from ..wire.commands import get, line_of
 from ..wire.program import check_file, copy_file
 from .capacity import LEAST_CAPACITY, room_of
