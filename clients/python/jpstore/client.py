@@ -2,15 +2,15 @@
 import os
 import time
 from typing import (
-    Any, Callable, ContextManager, Dict, Iterable, List, Literal, Optional, Sequence, Tuple, Type, TypeVar, cast,
-    overload,
+    Any, Callable, ContextManager, Dict, Generator, Iterable, List, Literal, Optional, Sequence, Tuple, Type, TypeVar,
+    cast, overload,
 )
 
 from . import calls
 from .calls import ATTEMPTS, NO_ATTEMPT
 from .embedded import SECTORS, Embedded
 from .errors import Invalid, JpstoreError, Refused
-from .follow import Values, followed
+from .follow import Latest, followed
 from .moment import Moment, moment_of
 from .once import Once
 from .results import Changes, Mark, Node, Pumped, Status
@@ -18,7 +18,7 @@ from .watch import UNWATCHED, Watch
 from .wire import requests
 from .wire.commands import AskedMark, Command
 from .wire.connection import Connection
-from .wire.finished import finished
+from .wire.finished import each_finished, finished
 from .wire.limits import MOST_TOLD_BYTES
 from .wire.program import Path, Program, find_program, serve_words
 from .wire.requests import Outcome, Request
@@ -316,7 +316,7 @@ class Store:
             raise JpstoreError(UNWATCHED)
         return Watch(self.hub, since, history=history, follow=follow, wait=wait)
 
-    def follow(self, name: str, path: str = "") -> Values:
+    def follow(self, name: str, path: str = "") -> Generator[Optional[Latest], None, None]:
         """A document of a hub's store, or the value at a place of it, at once and again after changes of it.
 
         It yields None if there is no such document or place, and with a `path` also if the value there is the same.
@@ -325,7 +325,8 @@ class Store:
         """
         if self.hub is None:
             raise JpstoreError(UNWATCHED)
-        return followed(self.hub, _Steps(self), name, path)
+        hub = self.hub
+        return each_finished(followed(lambda wait: Watch(hub, wait=wait), _Steps(self), name, path))
 
     #: Another name of `names`.
     list = names

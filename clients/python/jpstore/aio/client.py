@@ -2,13 +2,14 @@
 import asyncio
 import os
 from typing import (
-    Any, AsyncContextManager, Callable, Dict, Iterable, List, Literal, Optional, Sequence, Tuple, Type, TypeVar,
-    overload,
+    Any, AsyncContextManager, AsyncGenerator, Callable, Dict, Iterable, List, Literal, Optional, Sequence, Tuple, Type,
+    TypeVar, overload,
 )
 
 from .. import calls
 from ..calls import ATTEMPTS
 from ..errors import Invalid, JpstoreError
+from ..follow import Latest, followed
 from ..once import Once
 from ..results import Changes, Mark, Node, Pumped, Status
 from ..watch import UNWATCHED
@@ -18,7 +19,6 @@ from ..wire.limits import MOST_TOLD_BYTES
 from ..wire.program import Path, find_program, serve_words
 from ..wire.requests import Outcome, Request
 from ..wire.session import give_back_if_dropped
-from .follow import Values, followed
 from .moment import AsyncMoment, async_moment_of
 from .session import AsyncChannel, AsyncConnection, AsyncProgram, AsyncSession
 from .watch import AsyncWatch
@@ -217,11 +217,12 @@ class AsyncStore:
             raise JpstoreError(UNWATCHED)
         return AsyncWatch(self.hub, since, history=history, follow=follow, wait=wait)
 
-    def follow(self, name: str, path: str = "") -> Values:
+    def follow(self, name: str, path: str = "") -> AsyncGenerator[Optional[Latest], None]:
         """As `Store.follow`, for `async for`."""
         if self.hub is None:
             raise JpstoreError(UNWATCHED)
-        return followed(self.hub, _Steps(self), name, path)
+        hub = self.hub
+        return followed(lambda wait: AsyncWatch(hub, wait=wait), _Steps(self), name, path)
 
     #: Another name of `names`.
     list = names
