@@ -2,9 +2,9 @@
 
 The steps of a `Store` are done when they return, so its coroutines never wait, and `finished` runs them to their end.
 """
-from typing import Any, Callable, Dict, List, Optional, Protocol, Sequence, TypeVar
+from typing import Any, Callable, Dict, List, Optional, Sequence, TypeVar
 
-from .errors import Conflict, Ended, Invalid, JpstoreError, NotFound, Outdated, Overtaken
+from .errors import Conflict, Ended, Invalid, JpstoreError, NotFound, Outdated, Overtaken, Refused
 from .faults.words import shown
 from .merge import operations_of_merge
 from .once import Once, mark_of_key
@@ -28,31 +28,41 @@ ATTEMPTS = 100
 NO_ATTEMPT = "`attempts` must be 1 or more"
 
 
-class Steps(Protocol):
-    """The steps that a store does."""
+class Steps:
+    """The steps that a store does, of which each kind of store has its own."""
+
+    def __init__(self, store: Any) -> None:
+        self._store = store
 
     @property
     def closed(self) -> bool:
         """Whether the session is over."""
+        return bool(self._store.closed)
 
     @property
     def wait(self) -> float:
         """How long it is tried again after a connection was lost, in seconds."""
+        return float(self._store._session.wait)
 
     async def ask(self, request: Request[T]) -> T:
         """Sends a request, and reads its replies."""
+        raise NotImplementedError
 
     async def change(self, lines: List[bytes]) -> List[bytes]:
-        """The replies to a group of changes."""
+        """The replies to a group of changes. The line after them ends one that the program would else wait to fill."""
+        raise NotImplementedError
 
     async def explain(self, refused: Invalid) -> None:
         """Reads what `why` needs."""
+        raise NotImplementedError
 
     async def pause(self, seconds: float) -> None:
         """Waits before the next try."""
+        raise NotImplementedError
 
     async def close(self) -> None:
         """Ends the session."""
+        raise NotImplementedError
 
 
 async def leave(steps: Steps, broken_off: bool) -> None:
@@ -158,10 +168,10 @@ async def group_lines(steps: Steps, lines: List[bytes]) -> List[Outcome]:
 
 async def judged(steps: Steps, outcomes: List[Outcome], check: bool) -> Sequence[Outcome]:
     """The outcomes of a group; with `check` the first refusal among them is raised."""
-    if not check:
+    refused = next((outcome for outcome in outcomes if check and isinstance(outcome, Refused)), None)
+    if refused is None:
         return outcomes
-    try:
-        return requests.checked(outcomes)
-    except Invalid as refused:
+    refused.outcomes = outcomes
+    if isinstance(refused, Invalid):
         await steps.explain(refused)
-        raise
+    raise refused

@@ -9,7 +9,7 @@ from typing import (
 from . import calls
 from .calls import ATTEMPTS, NO_ATTEMPT
 from .embedded import SECTORS, Embedded
-from .errors import Invalid, JpstoreError, Refused
+from .errors import Invalid, JpstoreError
 from .follow import Latest, followed
 from .moment import Moment, moment_of
 from .once import Once
@@ -349,31 +349,22 @@ class Store:
             raise
 
     def _explainable(self, outcome: Outcome) -> Outcome:
-        if isinstance(outcome, Refused) and outcome.document is not None:
+        """The outcome; by `read`, `why` of an `Invalid` reads the document and its schema."""
+        if isinstance(outcome, Invalid) and outcome.document is not None:
             name = outcome.document
-            requests.explainable(outcome, lambda: self._do(requests.doc_and_schema(name)))
+            outcome.read = lambda: self._do(requests.doc_and_schema(name))
         return outcome
 
 
-class _Steps:
+class _Steps(calls.Steps):
     """The steps of a store, each of which is done when it returns."""
 
-    def __init__(self, store: Store) -> None:
-        self._store = store
-
-    @property
-    def closed(self) -> bool:
-        return self._store.closed
-
-    @property
-    def wait(self) -> float:
-        return self._store._session.wait
+    _store: Store
 
     async def ask(self, request: Request[T]) -> T:
         return self._store._do(request)
 
     async def change(self, lines: List[bytes]) -> List[bytes]:
-        # The line after them ends a group that the program would else wait to fill.
         return self._store._session.exchange(lines, True, True)
 
     async def explain(self, refused: Invalid) -> None:

@@ -1,7 +1,7 @@
 """A store in this process, in the place of a program: `Store(file, embedded=True)`."""
 import json
 import os
-from typing import Any, Callable, List, Optional
+from typing import Any, Callable, Optional
 
 from .errors import Ended, JpstoreError, refusal_of
 from .refusals import REFUSALS
@@ -17,7 +17,9 @@ try:
 except ImportError:
     _embedded = None  # type: ignore[assignment]
 
-__all__ = ["SECTORS", "Embedded", "copy_embedded", "embedded_version", "format_embedded", "upgrade_embedded"]
+__all__ = [
+    "SECTORS", "Embedded", "Over", "copy_embedded", "embedded_version", "format_embedded", "upgrade_embedded",
+]
 
 #: The size of a store in memory, in sectors of 512 bytes.
 SECTORS = 65536
@@ -50,11 +52,11 @@ def _complaint(fault: int, refusal: int) -> str:
 
 def _error(file: Optional[str], fault: Any) -> Ended:
     """How the program would have ended, and the system's reason."""
-    number, refusal, system_error = fault.args[:3]
+    number, refusal, system_error, replies = fault.args
     status = _STATUS_OF_WORDS if number == _embedded.ARGUMENTS else _STATUS
     complaint = _complaint(number, refusal)
     what = "libjpstore" if complaint else f"the store in {file or 'memory'}: {_embedded.fault_text(number)}"
-    ended = Ended(what, status, complaint, file=file or "the store in memory")
+    ended = Ended(what, status, complaint, replies or (), file or "the store in memory")
     if system_error:
         ended.system_error, ended.cause = system_error, f"{ended.file}: {os.strerror(system_error)}"
     return ended
@@ -92,11 +94,11 @@ def upgrade_embedded(file: Path, version: int = 3) -> int:
     return before
 
 
-class _Over(StreamEnded):
-    """The session is over, for a reason that is known at once."""
+class Over(StreamEnded):
+    """The session is over, for a reason that is known at once; `error` has the replies that came before."""
 
-    def __init__(self, replies: List[bytes], sent: bool, error: Ended) -> None:
-        super().__init__(replies, sent)
+    def __init__(self, error: Ended) -> None:
+        super().__init__()
         self.error = error
 
 
@@ -128,7 +130,7 @@ class Embedded:
             self._conversation.answer(self._session.exchange(sent))
         except self._extension.Fault as fault:
             self._conversation.answer(fault.args[3] or ())
-            raise self._broken_off(fault, call) from None
+            raise self._broken_off(fault) from None
         if not call.done:
             raise JpstoreError(f"{len(call.replies)} replies came, and not {len(call.lines)}: a change waits for "
                                "others of its batch")
@@ -144,7 +146,7 @@ class Embedded:
         try:
             value = self._session.get(name, path)
         except self._extension.Fault as fault:
-            raise self._broken_off(fault, Call([])) from None
+            raise self._broken_off(fault) from None
         if type(value) is bytes:
             raise refusal_of(json.loads(value), commands.get(name, path))
         return value
@@ -156,17 +158,13 @@ class Embedded:
         try:
             return self._session.change(command)
         except self._extension.Fault as fault:
-            call = Call([])
-            call.sent, call.replies = True, list(fault.args[3] or ())
-            raise self._broken_off(fault, call) from None
+            raise self._broken_off(fault) from None
 
     def ended(self, ended: StreamEnded) -> Ended:
         """The error that says how the session ended."""
         self._free()
-        assert isinstance(ended, _Over)
-        error = ended.error
-        error.replies = list(ended.replies)
-        return error
+        assert isinstance(ended, Over)
+        return ended.error
 
     def close(self) -> None:
         """Ends the session; `Ended` if the device failed in it."""
@@ -192,7 +190,7 @@ class Embedded:
         if session is not None:
             session.free()
 
-    def _broken_off(self, fault: Any, call: Call) -> Exception:
+    def _broken_off(self, fault: Any) -> Exception:
         if fault.args[0] in (self._extension.FORKED, self._extension.BUSY):
             return JpstoreError(self._extension.fault_text(fault.args[0]))
-        return _Over(call.replies, call.sent, _error(self._words[0], fault))
+        return Over(_error(self._words[0], fault))

@@ -6,7 +6,7 @@ import errno
 import os
 import threading
 from collections import deque
-from typing import Any, Callable, Deque, List, Optional, Sequence, Tuple, TypeVar, Union
+from typing import Any, Callable, Deque, List, Optional, Sequence, Tuple, TypeVar
 
 from ..errors import AccessError, Ended
 from ..wire.connection import check_socket, doubled, ended_connection, new_socket, reaching, socket_of
@@ -67,7 +67,7 @@ class AsyncCall(Call):
             self.answered.set_exception(error)
 
 
-class _AsyncLines:
+class AsyncChannel:
     """Two descriptors of an event loop: calls are sent as they are taken, and notified when they are answered.
 
     Nothing of asyncio's own holds the descriptors: in a child made by fork, that would change what the loop of the
@@ -80,19 +80,30 @@ class _AsyncLines:
         self._unsent: Deque[memoryview] = deque()
         self._finishing = False
         self._late: Optional[asyncio.TimerHandle] = None
-        self.conversation = Conversation()
-        #: Done once nothing more comes, and what is called then.
-        self.ended: "asyncio.Future[StreamEnded]" = self._loop.create_future()
+        self._conversation = Conversation()
+        #: Done once nothing more comes.
+        self.end: "asyncio.Future[StreamEnded]" = self._loop.create_future()
         #: Called after calls were answered.
         self.told: Callable[[], None] = lambda: None
         os.set_blocking(reading.number, False)
         os.set_blocking(writing.number, False)
         self._loop.add_reader(reading.number, self._readable)
 
+    @property
+    def busy(self) -> bool:
+        """Whether a call is not yet answered."""
+        return bool(self._conversation.under_way)
+
+    @property
+    def under_way(self) -> List[AsyncCall]:
+        """The calls of tasks that are not yet answered, the oldest first."""
+        return [call for call in self._conversation.under_way
+                if isinstance(call, AsyncCall) and not call.answered.done()]
+
     def send(self, calls: Sequence[Call]) -> None:
         """Sends calls, together."""
-        quiet = not self.conversation.under_way
-        sent = memoryview(self.conversation.send(calls))
+        quiet = not self._conversation.under_way
+        sent = memoryview(self._conversation.send(calls))
         if quiet:
             self._wait_anew()
         taken = self._write(sent) if not self._unsent else 0
@@ -104,13 +115,19 @@ class _AsyncLines:
                 self._loop.add_writer(self._writing.number, self._writable)
             self._unsent.append(sent[taken:])
 
-    def finish(self) -> None:
-        """Says that no further line comes, once all is sent."""
-        self._finishing = True
-        if not self._unsent:
-            self._close_writing()
+    async def ended(self, ended: StreamEnded) -> Ended:
+        """Closes the channel, and returns the error that says how it ended."""
+        raise NotImplementedError
 
-    def close(self) -> None:
+    async def close(self) -> None:
+        """Ends the channel; `Ended` if that is a fault."""
+        raise NotImplementedError
+
+    async def abandon(self) -> None:
+        """Ends the channel, whose replies are not wanted any more."""
+        raise NotImplementedError
+
+    def close_both(self) -> None:
         """Closes both descriptors."""
         self._unsent.clear()
         self._close_writing()
@@ -120,14 +137,14 @@ class _AsyncLines:
         if self._late is not None:
             self._late.cancel()
 
-    def close_from_elsewhere(self) -> None:
-        """The same, from any thread."""
+    def give_back(self) -> None:
+        """Ends the channel, from any thread."""
         if self._loop.is_closed():
             self._reading.close()
             self._writing.close()
         else:
             with contextlib.suppress(RuntimeError):
-                self._loop.call_soon_threadsafe(self.close)
+                self._loop.call_soon_threadsafe(self.close_both)
 
     def _close_writing(self) -> None:
         if not self._writing.closed:
@@ -166,9 +183,9 @@ class _AsyncLines:
         if piece is None:
             return
         if not piece:
-            self._end(StreamEnded([], True))
+            self._end(StreamEnded())
             return
-        done = self.conversation.take(piece)
+        done = self._conversation.take(piece)
         self._wait_anew()
         for call in done:
             if isinstance(call, AsyncCall):
@@ -183,125 +200,77 @@ class _AsyncLines:
         if self._late is not None:
             self._late.cancel()
         self._late = None
-        if self.conversation.under_way:
-            self._late = self._loop.call_later(self._timeout, self._end, StreamSilent([], True))
+        if self._conversation.under_way:
+            self._late = self._loop.call_later(self._timeout, self._end, StreamSilent())
 
     def _end(self, ended: StreamEnded) -> None:
         if not self._reading.closed:
             self._loop.remove_reader(self._reading.number)
         if self._late is not None:
             self._late.cancel()
-        if not self.ended.done():
-            self.ended.set_result(ended)
+        if not self.end.done():
+            self.end.set_result(ended)
 
 
-class _Channel:
-    """What both kinds of channel have."""
-
-    lines: _AsyncLines
-
-    def __init__(self, timeout: Optional[float]) -> None:
-        self._timeout = timeout
-
-    def send(self, calls: Sequence[Call]) -> None:
-        """Sends calls, together; each is notified when it is answered."""
-        self.lines.send(calls)
-
-    @property
-    def busy(self) -> bool:
-        """Whether a call is not yet answered."""
-        return bool(self.lines.conversation.under_way)
-
-    @property
-    def under_way(self) -> List[AsyncCall]:
-        """The calls of tasks that are not yet answered, the oldest first."""
-        return [call for call in self.lines.conversation.under_way
-                if isinstance(call, AsyncCall) and not call.answered.done()]
-
-
-class AsyncConnection(_Channel):
+class AsyncConnection(AsyncChannel):
     """The Unix socket of a hub."""
 
-    def __init__(self, path: str, timeout: Optional[float]) -> None:
-        super().__init__(timeout)
+    def __init__(self, path: str, connected: Descriptor, timeout: Optional[float]) -> None:
+        super().__init__(connected, doubled(connected), timeout)
         self._path = path
-
-    async def start(self) -> "AsyncConnection":
-        """Connects."""
-        connected = await connect(self._path, self._timeout)
-        self.lines = _AsyncLines(connected, doubled(connected), self._timeout)
-        return self
 
     async def ended(self, ended: StreamEnded) -> Ended:
         """Closes the connection, and returns the error that says how it ended."""
-        self.lines.close()
+        self.close_both()
         return ended_connection(self._path, ended, self._timeout)
 
     async def close(self) -> None:
         """Closes the connection; the hub goes on."""
-        self.lines.close()
+        self.close_both()
 
-    async def abandon(self) -> None:
-        """Closes the connection, whose replies are not wanted any more."""
-        self.lines.close()
-
-    def give_back(self) -> None:
-        """Closes the connection, from any thread."""
-        self.lines.close_from_elsewhere()
+    #: The same, for one whose replies are not wanted any more.
+    abandon = close
 
 
-class AsyncProgram(_Channel):
+class AsyncProgram(AsyncChannel):
     """A program that answers lines."""
 
     def __init__(self, words: Sequence[str], timeout: Optional[float]) -> None:
-        super().__init__(timeout)
-        self._words = words
-        self._started: Optional[Started] = None
-
-    async def start(self) -> "AsyncProgram":
-        """Starts the program."""
-        self._started = started = Started(self._words)
-        self.lines = _AsyncLines(started.output, started.input, self._timeout)
-        return self
+        self._started = Started(words)
+        super().__init__(self._started.output, self._started.input, timeout)
 
     @property
-    def pid(self) -> Optional[int]:
+    def pid(self) -> int:
         """The number of the process."""
-        return self._started.pid if self._started else None
+        return self._started.pid
 
     async def ended(self, ended: StreamEnded) -> Ended:
         """Waits for the end of the program, and returns the error that says how it ended."""
-        self.lines.close()
-        assert self._started
-        started = self._started
-        if isinstance(ended, StreamSilent):
-            return await in_thread(lambda: started.silent(self._timeout, ended.replies))
-        return await in_thread(started.ended)
+        self.close_both()
+        return await in_thread(lambda: self._started.ended(ended, self._timeout))
 
     async def close(self) -> None:
         """Ends the input, and waits for the program's end; `Ended` if its status is not 0."""
-        assert self._started
-        self.lines.finish()
+        self._finishing = True
+        if not self._unsent:
+            self._close_writing()
         # It may have replies left that nobody reads.
-        await asyncio.shield(self.lines.ended)
-        self.lines.close()
-        ended = await in_thread(self._started.ended)
+        await asyncio.shield(self.end)
+        ended = await self.ended(self.end.result())
         if ended.status:
             raise ended
 
     async def abandon(self) -> None:
         """Kills the program, which loses nothing that was answered."""
-        assert self._started
         self._started.kill()
-        self.lines.close()
+        self.close_both()
         await in_thread(self._started.ended)
 
     def give_back(self) -> None:
         """Kills the program, from any thread."""
-        assert self._started
         self._started.kill()
         self._started.ended()
-        self.lines.close_from_elsewhere()
+        super().give_back()
 
 
 async def connect(path: str, timeout: Optional[float]) -> Descriptor:
@@ -324,6 +293,3 @@ async def connect(path: str, timeout: Optional[float]) -> Descriptor:
     except BaseException:
         descriptor.close()
         raise
-
-
-AsyncChannel = Union[AsyncProgram, AsyncConnection]

@@ -19,8 +19,9 @@ from ..wire.limits import MOST_TOLD_BYTES
 from ..wire.program import Path, find_program, serve_words
 from ..wire.requests import Outcome, Request
 from ..wire.session import give_back_if_dropped
+from .channel import AsyncChannel, AsyncConnection, AsyncProgram, connect
 from .moment import AsyncMoment, async_moment_of
-from .session import AsyncChannel, AsyncConnection, AsyncProgram, AsyncSession
+from .session import AsyncSession
 from .watch import AsyncWatch
 
 __all__ = ["AsyncStore"]
@@ -53,11 +54,10 @@ class AsyncStore:
         self._gathers = batch > 1 and not hub
 
         async def connected() -> AsyncChannel:
-            return await AsyncConnection(path, timeout).start()
+            return AsyncConnection(path, await connect(path, timeout), timeout)
 
         async def started() -> AsyncChannel:
-            words = serve_words(find_program(program), path, batch, pump)
-            return await AsyncProgram(words, timeout).start()
+            return AsyncProgram(serve_words(find_program(program), path, batch, pump), timeout)
         self._session = AsyncSession(connected if hub else started, wait, hub and reconnect, self._gathers, hub)
         give_back_if_dropped(self, path, self._session.give_back)
 
@@ -244,22 +244,13 @@ class AsyncStore:
                 pair = await self._do(requests.doc_and_schema(name))
             except JpstoreError:
                 return
-            requests.explainable(refused, lambda: pair)
+            refused.read = lambda: pair
 
 
-class _Steps:
+class _Steps(calls.Steps):
     """The steps of a store, which are awaited."""
 
-    def __init__(self, store: AsyncStore) -> None:
-        self._store = store
-
-    @property
-    def closed(self) -> bool:
-        return self._store.closed
-
-    @property
-    def wait(self) -> float:
-        return self._store._session.wait
+    _store: AsyncStore
 
     async def ask(self, request: Request[T]) -> T:
         return await self._store._do(request)

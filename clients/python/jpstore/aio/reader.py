@@ -37,7 +37,7 @@ class AsyncReader:
             piece = b"" if self._descriptor.closed else read_piece(self._descriptor)
             if not heard or piece == b"":
                 self.close()
-                ended = StreamEnded([], True) if heard else StreamSilent([], True)
+                ended = StreamEnded() if heard else StreamSilent()
                 raise ended_connection(self._path, ended, self._timeout)
             self._lines += self._buffer.take(piece or b"")
         return self._lines.popleft()

@@ -12,9 +12,9 @@ from ..wire.commands import STATUS
 from ..wire.forks import check_process, in_each_child, not_here
 from ..wire.session import CLOSED, PAUSE, Trying, may_come
 from ..wire.stream import StreamEnded
-from .channel import AsyncCall, AsyncChannel, AsyncConnection, AsyncProgram
+from .channel import AsyncCall, AsyncChannel
 
-__all__ = ["AsyncChannel", "AsyncConnection", "AsyncProgram", "AsyncSession"]
+__all__ = ["AsyncSession"]
 
 _NOT_OPEN = "the store is not open: use `async with`, or `await store.open()`"
 _OTHER_LOOP = "this store was opened by another event loop: open it in each"
@@ -163,8 +163,8 @@ class AsyncSession:
         """Uses a channel from now on, until it ends."""
         self._channel = channel
         self._unopened = False
-        channel.lines.told = self._send
-        channel.lines.ended.add_done_callback(lambda ended: self._over(channel, ended.result()))
+        channel.told = self._send
+        channel.end.add_done_callback(lambda end: self._over(channel, end.result()))
 
     def _over(self, channel: AsyncChannel, ended: StreamEnded) -> None:
         """The channel has ended by itself."""
@@ -248,11 +248,10 @@ class AsyncSession:
             # The first reply comes when the store is open.
             first = AsyncCall([STATUS])
             channel.send([first])
-            ended = channel.lines.ended
-            ended.add_done_callback(lambda _: first.tell())
+            channel.end.add_done_callback(lambda _: first.tell())
             await first.answered
             if not first.done:
-                raise await channel.ended(ended.result())
+                raise await channel.ended(channel.end.result())
         except Ended:
             raise
         except BaseException:

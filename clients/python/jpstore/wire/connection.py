@@ -7,7 +7,6 @@ import stat
 from typing import ContextManager, Iterator, Optional
 
 from ..errors import Ended, JpstoreError, TimedOut, accessing
-from .conversation import Call
 from .forks import Descriptor, while_none_forks
 from .stream import Lines, StreamEnded, StreamSilent
 
@@ -39,8 +38,8 @@ def check_socket(path: str) -> None:
 def ended_connection(path: str, ended: StreamEnded, timeout: Optional[float]) -> Ended:
     """The error for a connection that ended, or that was silent for too long."""
     if isinstance(ended, StreamSilent):
-        return TimedOut(f"the hub at {path} did not answer within {timeout:g} seconds", replies=ended.replies)
-    return Ended(f"the hub at {path} closed the connection", replies=ended.replies)
+        return TimedOut(f"the hub at {path} did not answer within {timeout:g} seconds")
+    return Ended(f"the hub at {path} closed the connection")
 
 
 def new_socket() -> Descriptor:
@@ -65,11 +64,11 @@ def socket_of(descriptor: Descriptor) -> Iterator[socket.socket]:
         found.detach()
 
 
-class Connection:
+class Connection(Lines):
     """The Unix socket of a hub, which answers lines as the program does."""
 
     def __init__(self, path: str, timeout: Optional[float] = None) -> None:
-        self._path, self._timeout = path, timeout
+        self._path = path
         check_socket(path)
         self._socket = new_socket()
         try:
@@ -79,20 +78,12 @@ class Connection:
         except BaseException:
             self._socket.close()
             raise
-        self._lines = Lines(self._socket, doubled(self._socket), timeout)
-
-    def exchange(self, call: Call) -> None:
-        """Sends the lines of a call, and takes the replies to them; `StreamEnded` if the hub ends it before."""
-        self._lines.exchange(call)
-
-    def send(self, line: bytes) -> None:
-        """Sends a line that is answered by several, which `next_line` returns."""
-        self._lines.send(line)
+        super().__init__(self._socket, doubled(self._socket), timeout)
 
     def next_line(self) -> bytes:
         """The next line that the hub sends, without its LF; if none comes, the error that says how it ended."""
         try:
-            return self._lines.next_line()
+            return super().next_line()
         except StreamEnded as ended:
             raise self.ended(ended) from None
 
@@ -109,8 +100,7 @@ class Connection:
 
     def close(self) -> None:
         """Closes the connection; the hub goes on."""
-        self._lines.close()
+        self.close_both()
 
-    def abandon(self) -> None:
-        """Closes the connection, whose replies are not wanted any more."""
-        self.close()
+    #: The same, for one whose replies are not wanted any more.
+    abandon = close

@@ -7,7 +7,6 @@ from typing import Any, Dict, List, Optional, Sequence, Union
 
 from ..errors import Ended, JpstoreError, TimedOut, accessing
 from ..results import Status
-from .conversation import Call
 from .forks import Descriptor, in_each_child, while_none_forks
 from .store_file import format_kept
 from .stream import PIECE, Lines, StreamEnded, StreamSilent
@@ -55,10 +54,9 @@ def path_word(file: Path) -> str:
     return "./" + word if word.startswith("-") else word
 
 
-def ended_program(words: Sequence[str], status: int, errors: bytes, replies: Sequence[bytes] = ()) -> Ended:
+def ended_program(words: Sequence[str], status: int, errors: bytes) -> Ended:
     """The error for a program that ended."""
-    file = words[2] if len(words) > 2 else ""
-    return Ended(" ".join(words), status, errors.decode("utf-8", "replace"), replies, file)
+    return Ended(" ".join(words), status, errors.decode("utf-8", "replace"), file=words[2] if len(words) > 2 else "")
 
 
 class Started:
@@ -92,51 +90,41 @@ class Started:
         if self._end is None:
             self._process.kill()
 
-    def ended(self, replies: Sequence[bytes] = ()) -> Ended:
-        """Waits for its end, and returns the error that says how it ended."""
+    def ended(self, ended: Optional[StreamEnded] = None, timeout: Optional[float] = None) -> Ended:
+        """Waits for its end, and returns the error that says how it ended. One that was silent is killed."""
+        if isinstance(ended, StreamSilent):
+            self.kill()
         if self._end is None:
             errors = b"".join(iter(lambda: os.read(self._errors.open_number(), PIECE), b""))
-            self._end = ended_program(self.words, self._process.wait(), errors, replies)
+            self._end = ended_program(self.words, self._process.wait(), errors)
             self._errors.close()
+        if isinstance(ended, StreamSilent):
+            return TimedOut(f"{' '.join(self.words)} did not answer within {timeout:g} seconds, and was killed")
         return self._end
 
-    def silent(self, timeout: Optional[float], replies: Sequence[bytes]) -> TimedOut:
-        """Kills it, and returns the error that says that it did not answer."""
-        self.kill()
-        self.ended()
-        what = f"{' '.join(self.words)} did not answer within {timeout:g} seconds, and was killed"
-        return TimedOut(what, replies=replies)
 
-
-class Program:
+class Program(Lines):
     """A program that answers lines, one for each."""
 
     def __init__(self, words: Sequence[str], timeout: Optional[float] = None) -> None:
-        self._timeout = timeout
         self._started = Started(words)
-        self._lines = Lines(self._started.output, self._started.input, timeout)
+        super().__init__(self._started.output, self._started.input, timeout)
 
     @property
     def pid(self) -> int:
         """The number of the process."""
         return self._started.pid
 
-    def exchange(self, call: Call) -> None:
-        """Sends the lines of a call, and takes the replies to them; `StreamEnded` if the program ends before."""
-        self._lines.exchange(call)
-
     def ended(self, ended: StreamEnded) -> Ended:
         """Waits for the end of the program, and returns the error that says how it ended."""
-        silent = isinstance(ended, StreamSilent)
-        error = self._started.silent(self._timeout, ended.replies) if silent else None
-        self._lines.close()
-        return error or self._started.ended(ended.replies)
+        self.close_both()
+        return self._started.ended(ended, self._timeout)
 
     def close(self) -> None:
         """Ends the input, and waits for the program's end; `Ended` if its status is not 0."""
-        self._lines.close_writing()
+        self._writing.close()
         ended = self._started.ended()
-        self._lines.close()
+        self.close_both()
         if ended.status:
             raise ended
 
@@ -144,7 +132,7 @@ class Program:
         """Kills the program, which loses nothing that was answered."""
         self._started.kill()
         self._started.ended()
-        self._lines.close()
+        self.close_both()
 
 
 def _shown(words: List[str]) -> Dict[str, Any]:

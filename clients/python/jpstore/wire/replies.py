@@ -5,12 +5,10 @@ from typing import Any, Dict, Optional
 from ..refusals import NAMES
 from .values import canonical
 
-__all__ = [
-    "OK", "REFUSED", "done", "head_of_refusal", "line_of_reply", "refusal", "rev_in", "seq_in", "text_in",
-]
+__all__ = ["REFUSED", "done", "line_of_reply", "refusal", "rev_in", "seq_in", "text_in"]
 
-#: How each reply begins that tells of success and has one result, and how a refusal begins that names no change.
-OK, REFUSED = b'{"ok":true', b'{"error":'
+#: How a refusal begins that names no change.
+REFUSED = b'{"error":'
 
 _VALUE, _NODES, _END_OF_NODES = b'{"ok":true,"value":', b'{"nodes":', b',"ok":true}'
 _SEQ, _REV = re.compile(rb'\{"ok":true,"seq":(\d+)\}\n?'), re.compile(rb'\{"ok":true,"rev":(\d+)\}\n?')
@@ -29,11 +27,6 @@ def done(seq: int) -> bytes:
 def refusal(number: int, **members: Any) -> bytes:
     """The line that refuses a command by this number."""
     return line_of_reply({"error": NAMES[number], "number": number, "ok": False, **members})
-
-
-def head_of_refusal(number: int) -> bytes:
-    """How the line of a refusal begins that names no change."""
-    return b'%b"%b"' % (REFUSED, NAMES[number].encode())
 
 
 def seq_in(reply: bytes) -> Optional[int]:

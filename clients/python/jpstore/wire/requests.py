@@ -3,7 +3,7 @@ import json
 from dataclasses import dataclass
 from typing import Any, Callable, Dict, Generic, Iterator, List, Optional, Sequence, Tuple, TypeVar, Union
 
-from ..errors import Gone, Invalid, JpstoreError, NotFound, Refused, Unsendable, refusal_of
+from ..errors import Gone, JpstoreError, NotFound, Refused, Unsendable, refusal_of
 from ..notices import warn_of_command
 from ..results import Changes, Mark, Node, Pumped, Status, Transaction
 from . import commands
@@ -12,8 +12,8 @@ from .replies import text_in
 from .texts import value_of_text
 
 __all__ = [
-    "Outcome", "Request", "accepted", "change", "changes", "checked", "create", "delete", "doc_and_schema",
-    "explainable", "get", "grow", "in_pieces", "lines_of_group", "mark", "names", "outcomes_of", "patch", "pump", "put",
+    "Outcome", "Request", "accepted", "change", "changes", "create", "delete", "doc_and_schema",
+    "get", "grow", "in_pieces", "lines_of_group", "mark", "names", "outcomes_of", "patch", "pump", "put",
     "query", "query_all", "rev", "rev_and_doc", "rev_and_value", "schema", "set_schema", "snapshot", "status", "taken",
     "texts", "transaction",
 ]
@@ -300,24 +300,6 @@ def _command_in(line: bytes) -> Optional[Command]:
 def outcomes_of(replies: Sequence[bytes], lines: Sequence[bytes]) -> List[Outcome]:
     """What the replies say of the changes in these lines, as far as they were answered."""
     return [_outcome_of(reply, line) for reply, line in zip(replies, lines)]
-
-
-def checked(outcomes: List[Outcome]) -> List[int]:
-    """The outcomes of a group if all are numbers; else the first refusal is raised."""
-    numbers: List[int] = []
-    for outcome in outcomes:
-        if isinstance(outcome, Refused):
-            outcome.outcomes = outcomes
-            raise outcome
-        numbers.append(outcome)
-    return numbers
-
-
-def explainable(refused: Refused, read: Callable[[], Sequence[Any]]) -> Refused:
-    """The refusal; by `read`, `why` of an `Invalid` reads the document and its schema."""
-    if isinstance(refused, Invalid):
-        refused.read = read
-    return refused
 
 
 create, patch, set_schema, delete = commands.create, commands.patch, commands.set_schema, commands.delete

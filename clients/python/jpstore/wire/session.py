@@ -6,7 +6,7 @@ import warnings
 import weakref
 from typing import Any, Callable, List, Optional, Sequence, Union
 
-from ..embedded import Embedded
+from ..embedded import Embedded, Over
 from ..errors import AccessError, Ended, JpstoreError, TimedOut
 from .commands import STATUS, Command, line_of
 from .connection import Connection
@@ -136,7 +136,7 @@ class Session:
                     return self._exchange(call, trying)
                 except StreamEnded as ended:
                     lost = self._lost(ended, call)
-                    may = self._reconnect and not isinstance(lost, TimedOut) and not (ended.sent and changes)
+                    may = self._reconnect and not isinstance(lost, TimedOut) and not (call.sent and changes)
                     if not may or not trying.again():
                         raise lost from None
                 except AccessError as error:
@@ -167,10 +167,10 @@ class Session:
         with self._lock:
             try:
                 return channel.change(command)
-            except StreamEnded as ended:
+            except Over as over:
                 call = Call([line_of(command)], True)
-                call.sent, call.replies = ended.sent, ended.replies
-                raise self._lost(ended, call) from None
+                call.sent, call.replies = True, over.error.replies
+                raise self._lost(over, call) from None
 
     def _exchange(self, call: Call, trying: Trying) -> List[bytes]:
         if self._inherited:

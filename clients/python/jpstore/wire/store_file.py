@@ -1,5 +1,4 @@
 """What is committed in a store's file, by `docs/inside/FORMAT.md`; this only reads."""
-import os
 import struct
 from typing import BinaryIO, Iterator, NamedTuple
 
@@ -30,8 +29,6 @@ class Committed(NamedTuple):
     seq: int
     opens: int
     sectors: int
-    #: Tells this file from another that takes its name.
-    inode: int
     #: How many bytes a half holds.
     capacity: int
     #: Where the half in force begins in the file.
@@ -46,21 +43,17 @@ class Committed(NamedTuple):
         """How many of the committed bytes are in the half."""
         return self.length - len(self.tail)
 
-    def read(self, file: BinaryIO, begin: int, count: int) -> bytes:
-        """The committed bytes from `begin` on, at most `count`."""
-        held = self.settled
-        file.seek(self.begin + begin)
-        settled = file.read(max(0, min(count, held - begin)))
-        return settled + self.tail[max(0, begin - held):max(0, begin + count - held)]
-
     def pieces(self, file: BinaryIO, end: int) -> Iterator[bytes]:
         """The committed bytes up to `end`, piece by piece."""
-        for begin in range(0, end, _PIECE):
-            count = min(_PIECE, end - begin)
-            piece = self.read(file, begin, count)
+        settled = min(end, self.settled)
+        file.seek(self.begin)
+        for begin in range(0, settled, _PIECE):
+            count = min(_PIECE, settled - begin)
+            piece = file.read(count)
             if len(piece) < count:
                 raise JpstoreError(f"{file.name} is shorter than a store is")
             yield piece
+        yield self.tail[:end - settled]
 
 
 def format_of(path: str) -> int:
@@ -81,14 +74,13 @@ def committed_in(file: BinaryIO) -> Committed:
     """What is committed in a file; an error if it is no store of format 2 or 3."""
     file.seek(0)
     head = file.read(SLOTS)
-    inode = os.fstat(file.fileno()).st_ino
     if head.startswith(_BEGIN) and len(head) >= SECTOR:
         _, _, half, length, seq, opens, sectors = _FIELDS.unpack_from(head)
         capacity = SECTOR * ((sectors - 1) // 2)
         begin = SECTOR + half * capacity
-        return Committed(2, head[:SECTOR], half, length, seq, opens, sectors, inode, capacity, begin, b"", b"")
+        return Committed(2, head[:SECTOR], half, length, seq, opens, sectors, capacity, begin, b"", b"")
     slot = counting(head) if len(head) == SLOTS else None
     if slot is None:
         raise JpstoreError(f"{file.name} is not a store of format 2 or 3")
-    return Committed(3, head, slot.half, slot.length, slot.seq, slot.opens, slot.sectors, inode,
+    return Committed(3, head, slot.half, slot.length, slot.seq, slot.opens, slot.sectors,
                      capacity_of(slot.sectors), begin_of(slot.half, slot.sectors), slot.tail, slot.identity)

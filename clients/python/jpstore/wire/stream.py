@@ -16,12 +16,6 @@ PIECE = 1 << 16
 class StreamEnded(Exception):
     """The other side ended before it had answered every line."""
 
-    def __init__(self, replies: List[bytes], sent: bool) -> None:
-        self.replies = replies
-        #: Whether any byte was sent.
-        self.sent = sent
-        super().__init__(len(replies), sent)
-
 
 class StreamSilent(StreamEnded):
     """The other side neither took nor sent a byte for too long."""
@@ -51,9 +45,7 @@ class Lines:
     """Two descriptors, one to read reply lines from and one to write lines to; both are this object's to close."""
 
     def __init__(self, reading: Descriptor, writing: Descriptor, timeout: Optional[float] = None) -> None:
-        self._reading, self._writing = reading, writing
-        # In milliseconds.
-        self._timeout = None if timeout is None else 1000 * timeout
+        self._reading, self._writing, self._timeout = reading, writing, timeout
         self._conversation = Conversation()
         self._buffer = LineBuffer()
         self._read_lines: Deque[bytes] = deque()
@@ -64,49 +56,44 @@ class Lines:
         """Sends the lines of a call, and takes the replies to them; `StreamEnded` if the other side ends before."""
         unsent = self._write(memoryview(self._conversation.send([call])), call)
         while unsent:
-            ready = self._ready(call, self._writing)
+            ready = self._ready(self._writing)
             if self._writing in ready:
                 unsent = self._write(unsent, call)
             if self._reading in ready:
-                self._take(call)
+                self._conversation.take(self._read())
         while not call.done:
-            self._ready(call)
-            self._take(call)
+            self._ready()
+            self._conversation.take(self._read())
 
     def send(self, line: bytes) -> None:
         """Sends a line of a few bytes, whose replies `next_line` returns."""
         unsent, call = memoryview(line), Call([])
         while unsent:
-            self._ready(call, self._writing)
+            self._ready(self._writing)
             unsent = self._write(unsent, call)
 
     def next_line(self) -> bytes:
         """The next line that the other side sends, without its LF; `StreamEnded` if none comes."""
-        call = Call([])
         while not self._read_lines:
-            self._ready(call)
-            self._read_lines += self._buffer.take(self._read(call))
+            self._ready()
+            self._read_lines += self._buffer.take(self._read())
         return self._read_lines.popleft()
 
-    def close_writing(self) -> None:
-        """Says that no further line comes."""
-        self._writing.close()
-
-    def close(self) -> None:
+    def close_both(self) -> None:
         """Closes both."""
         self._writing.close()
         self._reading.close()
 
-    def _ready(self, call: Call, *more: Descriptor) -> List[Descriptor]:
+    def _ready(self, *more: Descriptor) -> List[Descriptor]:
         """Which of them can go on: the one to read from, and more."""
         asked = {each.open_number(): each for each in (self._reading, *more)}
         # A poll has nothing in the system that a child made by fork would share.
         poll = select.poll()
         for number, each in asked.items():
             poll.register(number, select.POLLIN if each is self._reading else select.POLLOUT)
-        ready = [asked[number] for number, _ in poll.poll(self._timeout)]
+        ready = [asked[number] for number, _ in poll.poll(None if self._timeout is None else 1000 * self._timeout)]
         if not ready:
-            raise StreamSilent(call.replies, call.sent)
+            raise StreamSilent
         return ready
 
     def _write(self, unsent: memoryview, call: Call) -> memoryview:
@@ -117,11 +104,8 @@ class Lines:
         call.sent = call.sent or count > 0
         return unsent[count:]
 
-    def _take(self, call: Call) -> None:
-        self._conversation.take(self._read(call))
-
-    def _read(self, call: Call) -> bytes:
+    def _read(self) -> bytes:
         piece = read_piece(self._reading)
         if piece == b"":
-            raise StreamEnded(call.replies, call.sent)
+            raise StreamEnded
         return piece or b""
