@@ -178,7 +178,7 @@ class Embedded:
         finally:
             session.free()
 
-    def abandon(self) -> None:
+    def give_back(self) -> None:
         """Ends the session, and loses nothing that was answered."""
         self._free()
 

@@ -2,7 +2,7 @@
 import difflib
 import itertools
 import warnings
-from typing import Any, Dict, Iterator, List, Optional, Set, Tuple
+from typing import Any, Dict, Iterator, List, Optional, Tuple
 
 from .errors import JpstoreWarning
 from .wire.values import escaped
@@ -42,8 +42,11 @@ _ELSEWHERE = {
 # A name that begins with it is one's own, by custom, and no misspelled keyword.
 _OWN = "x-"
 
-# From this share of common letters on a name is perhaps a keyword.
-_NEAR = 0.75
+# The keywords by their names in lower case, and the length of the longest.
+_BY_LOWER, _LONGEST = {known.lower(): known for known in sorted(_KEYWORDS)}, max(map(len, _KEYWORDS))
+
+# From this share of common letters on a name is perhaps a keyword; and one of up to three letters, as `nto`.
+_NEAR, _NEAR_SHORT = 0.75, 0.66
 
 # The most warnings of one schema and letters of a place, and the most words that are looked at: no schema that the
 # store accepts has more.
@@ -107,45 +110,12 @@ def _subschemas(schema: Any) -> Iterator[Tuple[_Place, Any]]:
 
 
 def _meant_by(word: str) -> Optional[str]:
-    """The keyword that is one letter away from a word, upper case aside, or has its meaning or most of its letters."""
-    if len(word) > _LONGEST + 1:
-        return None
+    """The keyword that is written nearly so, upper case aside, or that has the meaning of a word."""
     lower = word.lower()
-    near = {known for form in _forms(lower) & _BY_FORM.keys() for known in _BY_FORM[form]}
-    found = min(filter(lambda known: _is_one_letter_away(lower, known.lower()), near), default=None)
-    return found or _ELSEWHERE.get(lower) or next(iter(difflib.get_close_matches(word, _SORTED, 1, _NEAR)), None)
-
-
-def _forms(word: str) -> Set[str]:
-    """A word, and the word without one letter. Two words have one in common if they are one letter away."""
-    return {word, *(word[:place] + word[place + 1:] for place in range(len(word)))}
-
-
-def _by_form() -> Dict[str, Set[str]]:
-    found: Dict[str, Set[str]] = {}
-    for known in _KEYWORDS:
-        for form in _forms(known.lower()):
-            found.setdefault(form, set()).add(known)
-    return found
-
-
-# The keywords that have a form, and the length of the longest.
-_BY_FORM, _LONGEST = _by_form(), max(map(len, _KEYWORDS))
-
-# In an order, so that the same one is found each time.
-_SORTED = sorted(_KEYWORDS)
-
-
-def _is_one_letter_away(word: str, known: str) -> bool:
-    """Whether a letter is changed, missing or too many, or two neighbours are exchanged."""
-    if abs(len(word) - len(known)) > 1:
-        return False
-    short, long = sorted((word, known), key=len)
-    first = next((index for index, pair in enumerate(zip(short, long)) if pair[0] != pair[1]), len(short))
-    if len(short) < len(long):
-        return short[first:] == long[first + 1:]
-    exchanged = long[:first] + long[first + 1:first + 2] + long[first:first + 1] + long[first + 2:]
-    return short[first + 1:] == long[first + 1:] or short == exchanged
+    if len(lower) > _LONGEST + 1:
+        return None
+    near = difflib.get_close_matches(lower, _BY_LOWER, 1, _NEAR if len(lower) > 3 else _NEAR_SHORT)
+    return _ELSEWHERE.get(lower) or (_BY_LOWER[near[0]] if near else None)
 
 
 def warn_of_command(command: Any) -> None:

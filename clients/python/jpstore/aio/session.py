@@ -9,8 +9,8 @@ from typing import Awaitable, Callable, Deque, List, Optional, Sequence, Set
 
 from ..errors import AccessError, Ended, JpstoreError, TimedOut
 from ..wire.commands import STATUS
-from ..wire.forks import check_process, in_each_child, not_here
-from ..wire.session import CLOSED, PAUSE, Trying, may_come
+from ..wire.forks import check_process, not_here
+from ..wire.session import CLOSED, PAUSE, Held, Trying, may_come
 from ..wire.stream import StreamEnded
 from .channel import AsyncCall, AsyncChannel
 
@@ -20,7 +20,7 @@ _NOT_OPEN = "the store is not open: use `async with`, or `await store.open()`"
 _OTHER_LOOP = "this store was opened by another event loop: open it in each"
 
 
-class AsyncSession:
+class AsyncSession(Held[AsyncChannel]):
     """A channel that tasks use together, and that is opened again if it was lost and that is wanted.
 
     A task that is cancelled goes away, and nothing else ends: what it sent is answered, and nobody gets the answer.
@@ -28,19 +28,13 @@ class AsyncSession:
 
     def __init__(self, start: Callable[[], Awaitable[AsyncChannel]], wait: float, reconnect: bool,
                  gathers: bool = False, hub: bool = True) -> None:
-        #: As `Session.wait`.
-        self.wait = wait
-        self._start, self._reconnect = start, reconnect
-        self._gathers, self._hub = gathers, hub
-        self._loop: Optional[asyncio.AbstractEventLoop] = None
+        super().__init__(wait, reconnect, hub)
+        self._start, self._gathers = start, gathers
         self._closed = True
         self._begin_anew()
-        in_each_child(self)
 
     def _begin_anew(self) -> None:
-        self._channel: Optional[AsyncChannel] = None
-        # Whether it is that of the process which forked this one, and whether a first channel is still to be opened.
-        self._inherited = self._unopened = False
+        self._loop: Optional[asyncio.AbstractEventLoop] = None
         # Calls that are not yet sent, and whether they are about to be.
         self._waiting: Deque[AsyncCall] = deque()
         self._sending = False
@@ -51,27 +45,14 @@ class AsyncSession:
 
     def let_go(self) -> None:
         """Forgets the channel and the calls, which are the parent's, in a child."""
-        over = self.over
+        super().let_go()
         self._begin_anew()
-        self._loop = None
-        self._unopened, self._inherited = not over and self._hub, not over and not self._hub
-
-    @property
-    def channel(self) -> Optional[AsyncChannel]:
-        """The channel; None if it was closed or lost."""
-        check_process()
-        return self._channel
-
-    @property
-    def over(self) -> bool:
-        """Whether no further line can be sent."""
-        check_process()
-        return self._closed or (self._channel is None and not self._reconnect and not self._unopened)
 
     async def open(self) -> None:
         """Begins the session."""
         check_process()
         self._begin_anew()
+        self._channel, self._inherited = None, False
         self._loop = asyncio.get_running_loop()
         self._take(await self._opened())
         self._closed = False
@@ -91,14 +72,6 @@ class AsyncSession:
             await channel.close()
         elif untold is not None and untold.status:
             raise untold
-
-    def give_back(self) -> bool:
-        """Ends the session of a store that was dropped; whether that was still to be done."""
-        check_process()
-        channel, self._channel = self._channel, None
-        if channel is not None:
-            channel.give_back()
-        return channel is not None
 
     async def exchange(self, lines: Sequence[bytes], gathered: bool, changes: bool) -> List[bytes]:
         """Sends lines, and returns the replies; with `gathered` one line more, if the program may wait for others.

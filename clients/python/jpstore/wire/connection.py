@@ -103,4 +103,4 @@ class Connection(Lines):
         self.close_both()
 
     #: The same, for one whose replies are not wanted any more.
-    abandon = close
+    give_back = close

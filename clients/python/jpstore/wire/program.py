@@ -128,7 +128,7 @@ class Program(Lines):
         if ended.status:
             raise ended
 
-    def abandon(self) -> None:
+    def give_back(self) -> None:
         """Kills the program, which loses nothing that was answered."""
         self._started.kill()
         self._started.ended()

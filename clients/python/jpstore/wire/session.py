@@ -4,7 +4,7 @@ import threading
 import time
 import warnings
 import weakref
-from typing import Any, Callable, List, Optional, Sequence, Union
+from typing import Any, Callable, Generic, List, Optional, Sequence, TypeVar, Union
 
 from ..embedded import Embedded, Over
 from ..errors import AccessError, Ended, JpstoreError, TimedOut
@@ -15,7 +15,9 @@ from .forks import check_process, in_each_child, not_here
 from .program import Program
 from .stream import StreamEnded
 
-__all__ = ["CLOSED", "PAUSE", "Channel", "Session", "Trying", "give_back_if_dropped", "may_come"]
+__all__ = ["CLOSED", "PAUSE", "Channel", "Held", "Session", "Trying", "give_back_if_dropped", "may_come"]
+
+C = TypeVar("C")
 
 #: What is said by a session that is over.
 CLOSED = "the store is closed"
@@ -63,36 +65,29 @@ class Trying:
         return now < self.until
 
 
-class Session:
-    """A channel that is used by one thread at a time, and opened again if it was lost and that is wanted.
+class Held(Generic[C]):
+    """A channel that is opened again if it was lost and that is wanted: what both kinds of session have.
 
     In a child made by fork the channel is the parent's. One to a hub is made anew there; any other is over.
     """
 
-    def __init__(self, start: Callable[[], Channel], wait: float, reconnect: bool, hub: bool = False) -> None:
+    def __init__(self, wait: float, reconnect: bool, hub: bool) -> None:
         #: How long a lost connection is made again, in seconds.
         self.wait = wait
-        self._start, self._reconnect, self._hub = start, reconnect, hub
-        self._lock = threading.RLock()
+        self._reconnect, self._hub = reconnect, hub
         self._closed = False
         # Whether it is that of the process which forked this one, and whether a first channel is still to be opened.
         self._inherited = self._unopened = False
-        self._channel: Optional[Channel] = None
+        self._channel: Optional[C] = None
         in_each_child(self)
-        self._channel = self._opened(Trying(wait))
 
     def let_go(self) -> None:
         """Forgets the channel, in a child."""
-        # Another thread, which is not here, may have held it.
-        self._lock = threading.RLock()
-        over = self.over
+        over, self._channel = self.over, None
         self._unopened, self._inherited = not over and self._hub, not over and not self._hub
-        channel, self._channel = self._channel, None
-        if isinstance(channel, Embedded):
-            channel.let_go()
 
     @property
-    def channel(self) -> Optional[Channel]:
+    def channel(self) -> Optional[C]:
         """The channel; None if it was closed or lost."""
         check_process()
         return self._channel
@@ -103,6 +98,33 @@ class Session:
         check_process()
         return self._closed or (self._channel is None and not self._reconnect and not self._unopened)
 
+    def give_back(self) -> bool:
+        """Ends the session of a store that was dropped; whether that was still to be done."""
+        check_process()
+        channel: Any
+        channel, self._channel = self._channel, None
+        if channel is not None:
+            channel.give_back()
+        return channel is not None
+
+
+class Session(Held[Channel]):
+    """A channel that is used by one thread at a time."""
+
+    def __init__(self, start: Callable[[], Channel], wait: float, reconnect: bool, hub: bool = False) -> None:
+        self._start = start
+        self._lock = threading.RLock()
+        super().__init__(wait, reconnect, hub)
+        self._channel = self._opened(Trying(wait))
+
+    def let_go(self) -> None:
+        """Forgets the channel, in a child."""
+        # Another thread, which is not here, may have held it.
+        self._lock = threading.RLock()
+        if isinstance(self._channel, Embedded):
+            self._channel.let_go()
+        super().let_go()
+
     def close(self) -> None:
         """Ends the session; `Ended` if the program ends with another status than 0."""
         check_process()
@@ -111,14 +133,6 @@ class Session:
             channel, self._channel = self._channel, None
             if channel is not None:
                 channel.close()
-
-    def give_back(self) -> bool:
-        """Ends the session of a store that was dropped; whether that was still to be done."""
-        check_process()
-        channel, self._channel = self._channel, None
-        if channel is not None:
-            channel.abandon()
-        return channel is not None
 
     def exchange(self, lines: Sequence[bytes], gathered: bool, changes: bool) -> List[bytes]:
         """Sends lines, and returns the replies; with `gathered` one line more, if the program may wait for others.
@@ -189,7 +203,7 @@ class Session:
             # What was sent may still be answered, so this channel cannot go on.
             if channel is self._channel:
                 self._channel = None
-                channel.abandon()
+                channel.give_back()
             raise
         return call.replies
 
@@ -218,6 +232,6 @@ class Session:
         except StreamEnded as ended:
             raise channel.ended(ended) from None
         except BaseException:
-            channel.abandon()
+            channel.give_back()
             raise
         return channel
