@@ -2,7 +2,7 @@
 import copy
 import itertools
 from dataclasses import dataclass
-from typing import Any, Callable, Dict, Iterable, Iterator, List, Optional, Sequence, Tuple
+from typing import Any, Callable, Dict, Iterable, Iterator, List, Optional, Sequence
 
 from .errors import Invalid, JpstoreError
 from .faults.references import References
@@ -33,10 +33,6 @@ class Fault:
         where = f"at `{self.place}`" if self.place else "the document"
         by = f" (schema `{self.keyword}`)" if self.keyword else ""
         return f"{where}: {self.message}{by}"
-
-
-class _Unread(Exception):
-    """The document and its schema can't be read from the store."""
 
 
 def explain(doc: Any, schema: Any, most: Optional[int] = None) -> List[Fault]:
@@ -112,15 +108,6 @@ def faults_of(command: Dict[str, Any], read: _Read, most: Optional[int] = None,
     If the library finds none, the only fault says so: what the store says counts. If the document can't be read, it
     says why.
     """
-    try:
-        doc, schema = _judged(command, read, before)
-    except _Unread as unread:
-        return [Fault("", "", str(unread))]
-    return explain(doc, schema, most) or [Fault("", "", _DIFFERS)]
-
-
-def _judged(command: Dict[str, Any], read: _Read, before: Sequence[Dict[str, Any]]) -> Tuple[Any, Any]:
-    """The document as the change would leave it, and the schema that it would be under."""
     changes = [*(each for each in before if each.get("name") == command.get("name")), command]
     creations = [place for place, each in enumerate(changes) if each.get("cmd") == "create"]
     if creations:
@@ -129,22 +116,16 @@ def _judged(command: Dict[str, Any], read: _Read, before: Sequence[Dict[str, Any
     elif read is None:
         raise JpstoreError("the document is not at hand: read it and its schema, and call `explain(doc, schema)`")
     else:
-        doc, schema = _values(read)
+        try:
+            doc, schema = read()
+        except JpstoreError as error:
+            return [Fault("", "", f"the document was not read while it could be: {error}")]
     for change in changes:
-        doc, schema = _changed(change, doc, schema)
-    return doc, schema
-
-
-def _values(read: Callable[[], Sequence[Any]]) -> Sequence[Any]:
-    try:
-        return read()
-    except JpstoreError as error:
-        raise _Unread(f"the document was not read while it could be: {error}") from None
-
-
-def _changed(change: Dict[str, Any], doc: Any, schema: Any) -> Tuple[Any, Any]:
-    """A document and its schema as a change leaves them."""
-    return (doc, change["schema"]) if change.get("cmd") == "schema" else (_patched(doc, change["ops"]), schema)
+        if change.get("cmd") == "schema":
+            schema = change["schema"]
+        else:
+            doc = _patched(doc, change["ops"])
+    return explain(doc, schema, most) or [Fault("", "", _DIFFERS)]
 
 
 def _patched(doc: Any, ops: List[Dict[str, Any]]) -> Any:

@@ -2,7 +2,7 @@
 import difflib
 import itertools
 import warnings
-from typing import Any, Dict, Iterator, List, Optional, Tuple
+from typing import Any, Iterator, List, Optional, Tuple
 
 from .errors import JpstoreWarning
 from .wire.values import escaped

@@ -49,13 +49,13 @@ async def in_thread(call: Callable[[], T]) -> T:
 class AsyncCall(Call):
     """A call that a task waits for, by `answered`."""
 
-    def __init__(self, lines: Sequence[bytes], changes: bool = False, gathered: bool = False) -> None:
+    def __init__(self, lines: Sequence[bytes], changes: bool = False, gathered: bool = False, wait: float = 0) -> None:
         super().__init__(lines, changes, gathered)
         self.answered: "asyncio.Future[None]" = asyncio.get_running_loop().create_future()
         #: How the connection ended over which it was sent first.
         self.lost: Optional[Ended] = None
         #: How long it is sent again then.
-        self.trying: Optional[Trying] = None
+        self.trying = Trying(wait)
 
     def tell(self, error: Optional[Exception] = None) -> None:
         """Lets the task go on, if it still waits: with the replies, or with this error."""

@@ -10,7 +10,7 @@ from typing import Awaitable, Callable, Deque, List, Optional, Sequence, Set
 from ..errors import AccessError, Ended, JpstoreError, TimedOut
 from ..wire.commands import STATUS
 from ..wire.forks import check_process, not_here
-from ..wire.session import CLOSED, PAUSE, Held, Trying, may_come
+from ..wire.session import CLOSED, PAUSE, Held, may_come
 from ..wire.stream import StreamEnded
 from .channel import AsyncCall, AsyncChannel
 
@@ -80,7 +80,7 @@ class AsyncSession(Held[AsyncChannel]):
         Changes are sent again only if no byte of them was sent before.
         """
         self._check()
-        call = AsyncCall(lines, changes, gathered)
+        call = AsyncCall(lines, changes, gathered, self.wait)
         self._waiting.append(call)
         self._send_soon()
         try:
@@ -171,11 +171,7 @@ class AsyncSession(Held[AsyncChannel]):
 
     def _may_be_sent_again(self, call: AsyncCall, lost: Ended) -> bool:
         return (self._reconnect and not self._closed and not isinstance(lost, TimedOut)
-                and not (call.sent and call.changes) and self._trying_of(call).again())
-
-    def _trying_of(self, call: AsyncCall) -> Trying:
-        call.trying = call.trying or Trying(self.wait)
-        return call.trying
+                and not (call.sent and call.changes) and call.trying.again())
 
     def _ended(self, ending: "asyncio.Task[None]") -> None:
         self._ending.discard(ending)
@@ -185,7 +181,7 @@ class AsyncSession(Held[AsyncChannel]):
         """Opens a channel for the calls that wait, or gives them the error why there is none."""
         try:
             # A connection may be lost as soon as it is made.
-            await asyncio.sleep(max((call.trying.pause for call in self._waiting if call.trying), default=0.0))
+            await asyncio.sleep(max((call.trying.pause for call in self._waiting), default=0.0))
             self._take(await self._opened())
         except JpstoreError as error:
             self._tell_waiting(error)

@@ -7,6 +7,7 @@ import sys
 import warnings
 from typing import Any, Callable, Dict, List, NoReturn, Optional, Sequence, Tuple, Type
 
+from ..client import Store
 from ..dump import LoadStopped
 from ..errors import (
     Broken, Conflict, Ended, Full, Invalid, JpstoreError, JpstoreWarning, Malformed, NoMemory, NotFound, Refused,
@@ -66,7 +67,7 @@ _ALL_COMMANDS = [*COMMANDS, "replica", "completion", *_OTHERS, "help"]
 
 _EXIT: List[Tuple[Type[JpstoreError], int]] = [
     (NotFound, 3), (Conflict, 4), (Invalid, 5), (Malformed, 6), (Unsendable, 6), (TooLarge, 7), (Full, 8), (Broken, 9),
-    (NoMemory, 10),
+    (NoMemory, 10), (MustBeMadeAnew, 12),
 ]
 
 
@@ -140,32 +141,24 @@ def _add(commands: Any, shared: argparse.ArgumentParser, prog: str, name: str, r
     sizes = command.add_mutually_exclusive_group() if has_size else command
     for word, how in arguments:
         added = (sizes if word in SIZE_WORDS else command).add_argument(word, **how)
-        _completed(added, _COMPLETERS.get(word))
+        if word in _COMPLETERS:
+            setattr(added, "completer", _COMPLETERS[word])
     command.set_defaults(do=do, parser=command)
 
 
-def _completed(action: argparse.Action, completer: Optional[Callable[..., List[str]]]) -> None:
-    if completer is not None:
-        setattr(action, "completer", completer)
+def _completer(ask: Callable[[Store, argparse.Namespace, str], List[str]]) -> Callable[..., List[str]]:
+    """What argcomplete calls for the words that begin with a prefix, of those that a store says."""
+    def complete(prefix: str, parsed_args: argparse.Namespace, **_: Any) -> List[str]:
+        try:
+            with opened(parsed_args) as store:
+                return [word for word in ask(store, parsed_args, prefix) if word.startswith(prefix)]
+        except (JpstoreError, OSError, AttributeError):
+            return []
+    return complete
 
 
-def _complete_name(prefix: str, parsed_args: argparse.Namespace, **_: Any) -> List[str]:
-    try:
-        with opened(parsed_args) as store:
-            return [name for name in store.names() if name.startswith(prefix)]
-    except (JpstoreError, OSError, AttributeError):
-        return []
-
-
-def _complete_pointer(prefix: str, parsed_args: argparse.Namespace, **_: Any) -> List[str]:
-    try:
-        with opened(parsed_args) as store:
-            return [place for place in places(store, parsed_args.name, prefix) if place.startswith(prefix)]
-    except (JpstoreError, OSError, AttributeError):
-        return []
-
-
-_COMPLETERS = {"name": _complete_name, "pointer": _complete_pointer}
+_COMPLETERS = {"name": _completer(lambda store, _, prefix: store.names(prefix)),
+               "pointer": _completer(lambda store, words, prefix: places(store, words.name, prefix))}
 
 
 def _with_command(parser: argparse.ArgumentParser, words: Sequence[str]) -> List[str]:
@@ -226,11 +219,9 @@ def _parsed(parser: argparse.ArgumentParser, given: Sequence[str]) -> argparse.N
 def main(words: Optional[Sequence[str]] = None) -> int:
     """Does what the words of the command line say, and returns the exit status."""
     parser = _parser()
-    try:
+    with contextlib.suppress(ImportError):
         import argcomplete
         argcomplete.autocomplete(parser)
-    except ImportError:
-        pass
     given = sys.argv[1:] if words is None else words
     _Parser.as_json = "--json" in given
     options = _parsed(parser, given)
@@ -276,17 +267,13 @@ def _show_warning(message: Any, category: Any, *_: Any, **__: Any) -> None:
     print(f"warning: {printable(str(message))}", file=sys.stderr)
 
 
-def _exit_status(error: Exception) -> int:
-    if isinstance(error, MustBeMadeAnew):
-        return 12
+def exit_status(error: Exception) -> int:
+    """The exit status for an error; a load that stopped has that of its first refused line."""
+    if isinstance(error, LoadStopped):
+        error = error.first[1]
     if isinstance(error, Ended) and error.change is not None:
         return 11
     return next((status for family, status in _EXIT if isinstance(error, family)), 1)
-
-
-def exit_status(error: Exception) -> int:
-    """The exit status for an error; a load that stopped has that of its first refused line."""
-    return _exit_status(error.first[1] if isinstance(error, LoadStopped) else error)
 
 
 def _told(error: Exception) -> str:

@@ -5,7 +5,7 @@ import inspect
 import os
 import re
 import sys
-from typing import Any, Callable, ContextManager, List, Optional, Sequence, Union
+from typing import Any, Callable, ContextManager, Iterator, List, Optional, Sequence, Union
 
 from ..called import called
 from ..client import Store
@@ -378,39 +378,30 @@ def run_shell(opened: Callable[[], Store], title: str) -> int:
     """Reads lines from the terminal, or from standard input that is not one; 1 if one of these was refused."""
     by_hand = sys.stdin.isatty()
     shell = Shell(opened, title, by_hand)
-    if by_hand:
-        _begin_history()
-        print("A store of JSON documents. `help` lists the commands, Ctrl-D leaves.")
-    while True:
-        try:
-            shell.cmdloop()
-            break
-        except KeyboardInterrupt:
-            print("\n" + shell.interrupted())
-    if by_hand:
-        print()
-        _end_history()
+    with _history() if by_hand else contextlib.nullcontext():
+        while True:
+            try:
+                shell.cmdloop()
+                break
+            except KeyboardInterrupt:
+                print("\n" + shell.interrupted())
     shell.leave()
     return int(shell.failed and not by_hand)
 
 
-def _begin_history() -> None:
-    try:
-        import readline
-    except ImportError:
-        return
-    # A pointer is one word, with its `/`.
-    readline.set_completer_delims(" \t\n")
+@contextlib.contextmanager
+def _history() -> Iterator[None]:
+    """Greets who types lines, and keeps the lines of this block for the next time."""
+    print("A store of JSON documents. `help` lists the commands, Ctrl-D leaves.")
     # A shell without its history is better than none.
-    with contextlib.suppress(OSError):
-        readline.read_history_file(_HISTORY)
-
-
-def _end_history() -> None:
-    try:
+    with contextlib.suppress(ImportError, OSError):
         import readline
-    except ImportError:
-        return
-    readline.set_history_length(_HISTORY_LINES)
-    with contextlib.suppress(OSError):
+        # A pointer is one word, with its `/`.
+        readline.set_completer_delims(" \t\n")
+        readline.read_history_file(_HISTORY)
+    yield
+    print()
+    with contextlib.suppress(ImportError, OSError):
+        import readline
+        readline.set_history_length(_HISTORY_LINES)
         readline.write_history_file(_HISTORY)

@@ -43,9 +43,13 @@ def version_of(program: str) -> str:
 
 def serve_words(program: str, file: Path, batch: int = 1, pump: int = 0) -> List[str]:
     """The words that start `serve`, with the options that are asked for."""
-    options = [("--batch", batch, batch > 1), ("--pump", pump, pump > 0)]
-    return [program, "serve", path_word(file), *(word for option, number, asked in options if asked
-                                                 for word in (option, str(number))), "--why"]
+    options = _options(batch=batch if batch > 1 else None, pump=pump if pump > 0 else None)
+    return [program, "serve", path_word(file), *options, "--why"]
+
+
+def _options(**given: Any) -> List[str]:
+    """The words of the options that have a value."""
+    return [word for name, value in given.items() if value is not None for word in (f"--{name}", str(value))]
 
 
 def path_word(file: Path) -> str:
@@ -153,15 +157,8 @@ def format_file(file: Path, sectors: int, program: Optional[Path] = None, mode: 
     format 2 or 3; with `sparse` its blocks are allocated as they are written. In format 3 the store gets `identity`, 32
     hexadecimal digits that no other store has, or random ones.
     """
-    words = [find_program(program), "format", path_word(file), "--sectors", str(sectors)]
-    if mode is not None:
-        words += ["--mode", f"{mode:04o}"]
-    if version is not None:
-        words += ["--format", str(version)]
-    if identity is not None:
-        words += ["--id", identity]
-    if sparse:
-        words.append("--sparse")
+    options = _options(sectors=sectors, mode=None if mode is None else f"{mode:04o}", format=version, id=identity)
+    words = [find_program(program), "format", path_word(file), *options, *(["--sparse"] if sparse else [])]
     capacity: int = _shown(words)["capacity"]
     return capacity
 
@@ -180,14 +177,10 @@ def copy_file(file: Path, new: Path, sectors: int, program: Optional[Path] = Non
     After a stop `new` holds no store, or all of this; if the program fails it removes `new`. It counts as an opening of
     `file`.
     """
-    words = [find_program(program), "copy", path_word(file), path_word(new), "--sectors", str(sectors)]
     kept = format_kept(os.fspath(file)) if version is None else version
     # Each program makes format 2 without this word, also one that doesn't know it.
-    if kept != 2:
-        words += ["--format", str(kept)]
-    if identity is not None:
-        words += ["--id", identity]
-    return Status.of(_shown(words))
+    options = _options(sectors=sectors, format=None if kept == 2 else kept, id=identity)
+    return Status.of(_shown([find_program(program), "copy", path_word(file), path_word(new), *options]))
 
 
 def upgrade_file(file: Path, version: int = 3, program: Optional[Path] = None, *,
@@ -197,8 +190,6 @@ def upgrade_file(file: Path, version: int = 3, program: Optional[Path] = None, *
     The documents, their revisions and the count of changes stay, also after a stop at any moment. It counts as an
     opening. A store that comes to format 3 gets an identity, as by `format_file`.
     """
-    words = [find_program(program), "upgrade", path_word(file), "--format", str(version)]
-    if identity is not None:
-        words += ["--id", identity]
-    before: int = _shown(words)["from"]
+    options = _options(format=version, id=identity)
+    before: int = _shown([find_program(program), "upgrade", path_word(file), *options])["from"]
     return before

@@ -24,25 +24,7 @@ _MOST_DIGITS = 30
 class _Repeating(Dict[str, Any]):
     """An object whose text has a name more than once."""
 
-    def __init__(self, pairs: List[Tuple[str, Any]]) -> None:
-        super().__init__(pairs)
-        counts = Counter(name for name, _ in pairs)
-        self.repeated = sorted(name for name, count in counts.items() if count > 1)
-
-
-class _Objects:
-    """Makes the objects of a text, and notes whether one of them has a name more than once."""
-
-    def __init__(self) -> None:
-        self.repeating = False
-
-    def make(self, pairs: List[Tuple[str, Any]]) -> Dict[str, Any]:
-        """The object of these pairs."""
-        members = dict(pairs)
-        if len(members) == len(pairs):
-            return members
-        self.repeating = True
-        return _Repeating(pairs)
+    repeated: List[str]
 
 
 def value_of_text(text: Union[str, bytes], where: str = "", quoted: str = '"{}"') -> Any:
@@ -52,9 +34,17 @@ def value_of_text(text: Union[str, bytes], where: str = "", quoted: str = '"{}"'
     were perhaps meant as a text.
     """
     prefix = f"{where}: " if where else ""
-    objects = _Objects()
+    repeating: List[_Repeating] = []
+
+    def made(pairs: List[Tuple[str, Any]]) -> Dict[str, Any]:
+        members = dict(pairs)
+        if len(members) < len(pairs):
+            members = _Repeating(members)
+            members.repeated = sorted(name for name, count in Counter(name for name, _ in pairs).items() if count > 1)
+            repeating.append(members)
+        return members
     try:
-        value = json.loads(_decoded(text), object_pairs_hook=objects.make, parse_int=_whole)
+        value = json.loads(_decoded(text), object_pairs_hook=made, parse_int=_whole)
     except json.JSONDecodeError as error:
         told = "it begins with a byte order mark: save it without" if "BOM" in error.msg else error.msg
         raise Unsendable(f"{prefix}not JSON: line {error.lineno}, column {error.colno}: {told}"
@@ -64,7 +54,7 @@ def value_of_text(text: Union[str, bytes], where: str = "", quoted: str = '"{}"'
     except UnicodeDecodeError as error:
         place, byte = _end_of(error.object[:error.start].decode("utf-8")), error.object[error.start]
         raise Unsendable(f"{prefix}not UTF-8: {place}: byte 0x{byte:02x}") from None
-    for place in _repeated(value) if objects.repeating else ():
+    for place in _repeated(value) if repeating else ():
         warnings.warn(f"{prefix}`{place}` is there more than once; the last one counts", JpstoreWarning, stacklevel=2)
     return value
 
