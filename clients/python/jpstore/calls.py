@@ -24,6 +24,9 @@ T = TypeVar("T")
 #: How often `update`, `merge_patch`, `put`, `once` and the gateway try at most if others change a document meanwhile.
 ATTEMPTS = 100
 
+# The most documents that are asked together: a reply may have 16 MiB.
+_TOGETHER = 32
+
 #: What is said if they may not try at all.
 NO_ATTEMPT = "`attempts` must be 1 or more"
 
@@ -149,8 +152,9 @@ async def noted(steps: Steps, key: str, by: Optional[str]) -> Optional[int]:
 async def query_all(steps: Steps, path: str, prefix: str) -> Dict[str, List[Node]]:
     """As `Store.query_all`."""
     found: Dict[str, List[Node]] = {}
-    for names in requests.in_pieces(await steps.ask(requests.names(prefix))):
-        found.update(await steps.ask(requests.query_all(names, path)))
+    names = await steps.ask(requests.names(prefix))
+    for begin in range(0, len(names), _TOGETHER):
+        found.update(await steps.ask(requests.query_all(names[begin:begin + _TOGETHER], path)))
     return found
 
 

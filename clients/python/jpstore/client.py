@@ -9,12 +9,12 @@ from typing import (
 from . import calls
 from .calls import ATTEMPTS, NO_ATTEMPT
 from .embedded import SECTORS, Embedded
-from .errors import Invalid, JpstoreError
+from .errors import Invalid
 from .follow import Latest, followed
 from .moment import Moment, moment_of
 from .once import Once
 from .results import Changes, Mark, Node, Pumped, Status
-from .watch import UNWATCHED, Watch
+from .watch import Watch, watched
 from .wire import requests
 from .wire.commands import AskedMark, Command
 from .wire.connection import Connection
@@ -312,9 +312,7 @@ class Store:
         It has a connection of its own, which is made again if it is lost. With `follow=False` it ends with the last
         change that is already made. If the hub doesn't know all changes after `since`, `Gone` is raised. See `Watch`.
         """
-        if self.hub is None:
-            raise JpstoreError(UNWATCHED)
-        return Watch(self.hub, since, history=history, follow=follow, wait=wait)
+        return Watch(watched(self.hub), since, history=history, follow=follow, wait=wait)
 
     def follow(self, name: str, path: str = "") -> Generator[Optional[Latest], None, None]:
         """A document of a hub's store, or the value at a place of it, at once and again after changes of it.
@@ -323,9 +321,7 @@ class Store:
         Several changes may come as one: `watch` has each. It waits for the next change, and goes on after the hub was
         ended or killed and started anew, or serves another history of the store, whose revisions count anew.
         """
-        if self.hub is None:
-            raise JpstoreError(UNWATCHED)
-        hub = self.hub
+        hub = watched(self.hub)
         return each_finished(followed(lambda wait: Watch(hub, wait=wait), _Steps(self), name, path))
 
     #: Another name of `names`.

@@ -1,6 +1,8 @@
 """All documents of a store as the lines that make them: written, and read again."""
+import contextlib
 import json
-from typing import Any, Callable, Iterable, Iterator, List, Mapping, NamedTuple, Tuple
+import tempfile
+from typing import IO, Any, Callable, Dict, Iterable, Iterator, List, Mapping, NamedTuple, Optional, Tuple
 
 from .client import Store
 from .errors import JpstoreError, Refused, Unsendable
@@ -8,7 +10,6 @@ from .larger import grow, grow_file, open_store
 from .moment import moment_of
 from .progress import Progress
 from .wire.commands import Command, changes_in, is_changing, line_of, line_of_creation, line_of_schema, patch
-from .wire.dump_end import end_line, is_end_line, whole_dump
 from .wire.limits import MOST_LINE_BYTES, MOST_OPERATIONS
 from .wire.values import escaped
 
@@ -18,20 +19,17 @@ __all__ = ["GROUP_LINES", "LoadStopped", "document_lines", "dump", "grow", "grow
 GROUP_LINES, _GROUP_BYTES = 256, 1 << 22
 
 
+# A longer dump is kept in a file until its last line was read.
+_IN_MEMORY = 1 << 24
+
+
 class _Line(NamedTuple):
-    """A line to load: its number, counted from 1, the line, and how many changes it makes."""
+    """A line to load: its number, counted from 1, the line, and how many changes it makes, or why it is no change."""
 
     number: int
     line: bytes
     changes: int
-
-
-class _NoChange(Exception):
-    """A line that is no change, by its number, and what it is instead."""
-
-    def __init__(self, number: int, error: JpstoreError) -> None:
-        self.number, self.error = number, error
-        super().__init__(number, error)
+    error: Optional[JpstoreError] = None
 
 
 class LoadStopped(JpstoreError):
@@ -70,7 +68,8 @@ def dump(store: Store, write: Callable[[bytes], Any]) -> int:
                 write(line)
                 lines += 1
             progress.step()
-    write(end_line(lines, moment.seq))
+    # It counts the lines before it, so that a dump which was cut is not taken for a whole one.
+    write(b'{"end":true,"lines":%d,"seq":%d}\n' % (lines, moment.seq))
     return moment.count
 
 
@@ -134,50 +133,52 @@ def load(store: Store, lines: Iterable[bytes], partial: bool = False) -> int:
     """
     if partial:
         return _load(store, lines)
-    with whole_dump(lines) as checked:
+    with _whole_dump(lines) as checked:
         return _load(store, checked)
 
 
 def _load(store: Store, lines: Iterable[bytes]) -> int:
     made = 0
     with Progress("load", "changes") as progress:
-        try:
-            for group in _groups(lines):
-                outcomes = store.group_lines([each.line for each in group])
-                refused = {each.number: outcome for each, outcome in zip(group, outcomes)
-                           if isinstance(outcome, Refused)}
-                step = sum(each.changes for each in group if each.number not in refused)
-                made += step
-                if refused:
-                    raise LoadStopped(made, group[-1].number, refused)
-                progress.step(step)
-        except _NoChange as wrong:
-            raise LoadStopped(made, wrong.number, {wrong.number: wrong.error}) from None
+        for group in _groups(lines):
+            sent = [each for each in group if each.error is None]
+            outcomes = zip(sent, store.group_lines([each.line for each in sent]))
+            refused = {each.number: outcome for each, outcome in outcomes if isinstance(outcome, Refused)}
+            step = sum(each.changes for each in sent if each.number not in refused)
+            made += step
+            if refused:
+                raise LoadStopped(made, sent[-1].number, refused)
+            last = group[-1]
+            if last.error is not None:
+                raise LoadStopped(made, last.number, {last.number: last.error})
+            progress.step(step)
     return made
 
 
 def _groups(lines: Iterable[bytes]) -> Iterator[List[_Line]]:
-    """The lines in groups. A line that is no change is raised after the group of those before it."""
+    """The lines in groups. A line that is no change is the last of its group."""
     group: List[_Line] = []
     size = 0
     for number, line in enumerate(lines, 1):
-        if not line.strip() or is_end_line(line):
+        if not line.strip() or _end_in(line):
             continue
-        try:
-            group.append(_change_line(number, line))
-        except JpstoreError as error:
-            if group:
-                yield group
-            raise _NoChange(number, error) from None
+        group.append(_numbered(number, line))
         size += len(line)
-        if len(group) == GROUP_LINES or size > _GROUP_BYTES:
+        if group[-1].error is not None or len(group) == GROUP_LINES or size > _GROUP_BYTES:
             yield group
             group, size = [], 0
     if group:
         yield group
 
 
-def _change_line(number: int, line: bytes) -> _Line:
+def _numbered(number: int, line: bytes) -> _Line:
+    try:
+        return _Line(number, line if line.endswith(b"\n") else line + b"\n", len(_changes_of(line)))
+    except JpstoreError as error:
+        return _Line(number, line, 0, error)
+
+
+def _changes_of(line: bytes) -> List[Command]:
     try:
         command = json.loads(line)
     except json.JSONDecodeError as error:
@@ -186,5 +187,42 @@ def _change_line(number: int, line: bytes) -> _Line:
         raise Unsendable(f"not JSON: {error}") from None
     if not is_changing(command):
         raise Unsendable("it is none of create, patch, schema, delete and transaction")
-    changes = changes_in(command)
-    return _Line(number, line if line.endswith(b"\n") else line + b"\n", len(changes))
+    return changes_in(command)
+
+
+def _end_in(line: bytes) -> Optional[Dict[str, Any]]:
+    if b'"end"' not in line or b'"cmd"' in line:
+        return None
+    try:
+        record = json.loads(line)
+    except (ValueError, RecursionError):
+        return None
+    return record if isinstance(record, dict) and record.get("end") is True else None
+
+
+@contextlib.contextmanager
+def _whole_dump(lines: Iterable[bytes]) -> Iterator[Iterable[bytes]]:
+    """The same lines, once the last was read; an error if they are not all that were dumped."""
+    with tempfile.SpooledTemporaryFile(max_size=_IN_MEMORY) as kept:
+        fault = _kept(lines, kept)
+        if fault:
+            raise JpstoreError(f"this is no whole dump: {fault}. Nothing was loaded; `--partial`, or `partial=True`, "
+                               "loads what is there")
+        kept.seek(0)
+        yield kept
+
+
+def _kept(lines: Iterable[bytes], kept: IO[bytes]) -> str:
+    """Writes the lines, and returns what shows that they are not a whole dump, if anything does."""
+    count, end = 0, None
+    for line in lines:
+        kept.write(line if line.endswith(b"\n") else line + b"\n")
+        if not line.strip():
+            continue
+        if end is not None:
+            return "lines follow its last line"
+        end = _end_in(line)
+        count += end is None
+    if end is None:
+        return "its last line, which counts the others, is missing"
+    return "" if end.get("lines") == count else f"its last line counts {end.get('lines')} lines, and {count} are there"

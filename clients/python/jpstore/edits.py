@@ -18,20 +18,21 @@ def put(store: Store, name: str, pointer: str, value: Any) -> int:
     The index of a list must have a value, and `-` is the place after its last. If another client changes the document
     meanwhile, this is done again.
     """
-    for left in range(ATTEMPTS - 1, -1, -1):
-        try:
-            rev = store.rev(name)
-            operation = "replace" if _exists(store, name, pointer) else "add"
-        except Refused as refused:
-            # What was asked for is no question.
-            refused.command = {**refused.command, "cmd": "set"}
-            raise
-        try:
-            return store.patch(name, [{"op": operation, "path": pointer, "value": value}], rev)
-        except Outdated:
-            if not left:
-                raise
-    raise AssertionError("there is a last attempt")
+    for _ in range(ATTEMPTS - 1):
+        with contextlib.suppress(Outdated):
+            return _put(store, name, pointer, value)
+    return _put(store, name, pointer, value)
+
+
+def _put(store: Store, name: str, pointer: str, value: Any) -> int:
+    try:
+        rev = store.rev(name)
+        operation = "replace" if _exists(store, name, pointer) else "add"
+    except Refused as refused:
+        # What was asked for is no question.
+        refused.command = {**refused.command, "cmd": "set"}
+        raise
+    return store.patch(name, [{"op": operation, "path": pointer, "value": value}], rev)
 
 
 def remove(store: Store, name: str, pointer: Optional[str] = None, if_rev: Optional[int] = None) -> int:

@@ -113,12 +113,6 @@ class Embedded:
         self._gathers = batch > 1
         self._session: Any = None
         self._conversation = Conversation()
-        self._pid = os.getpid()
-
-    @property
-    def pid(self) -> int:
-        """The process that opened the store."""
-        return self._pid
 
     def exchange(self, call: Call) -> None:
         """Feeds the lines of a call, and takes the replies to them; `StreamEnded` if the session is over before."""

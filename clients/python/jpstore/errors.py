@@ -6,8 +6,7 @@ import os
 import re
 from types import MappingProxyType
 from typing import (
-    TYPE_CHECKING, Any, Callable, ContextManager, Dict, Iterator, List, Mapping, NamedTuple, Optional, Sequence, Tuple,
-    Type, Union,
+    TYPE_CHECKING, Any, Callable, ContextManager, Dict, Iterator, List, Mapping, Optional, Sequence, Tuple, Type, Union,
 )
 
 from .called import as_called
@@ -268,11 +267,6 @@ def refusal_of(reply: Dict[str, Any], command: Optional[Dict[str, Any]] = None,
                   reply.get("seq"))
 
 
-class _Explained(NamedTuple):
-    meaning: str
-    advice: str
-
-
 #: What the program says with `--why` after `jpstore: file`.
 _REASON = re.compile(r"(?<=^jpstore: file\n)\{.*\}$", re.MULTILINE)
 
@@ -315,12 +309,12 @@ class Ended(JpstoreError):
         self.meaning, self.advice = self._explained()
         super().__init__(what)
 
-    def _explained(self) -> _Explained:
+    def _explained(self) -> Tuple[str, str]:
         if self.name in COMPLAINTS:
             advice = ADVICE.get("socket" if self.system_error == errno.ENXIO else self._cause_word or self.name, "")
-            return _Explained(COMPLAINTS[self.name], as_called(advice))
+            return COMPLAINTS[self.name], as_called(advice)
         row = REFUSALS.get(self.number or 0)
-        return _Explained(row.meaning, as_called(row.advice)) if row else _Explained("", "")
+        return (row.meaning, as_called(row.advice)) if row else ("", "")
 
     @property
     def document(self) -> Optional[str]:

@@ -25,10 +25,10 @@ __all__ = ["give_name", "grow", "grow_file", "open_store", "sync_folder"]
 _FOLDER, _NAMES = ".growing-", {"from", "to"}
 
 
-def open_store(file: Path, program: Optional[Path] = None, batch: int = 1) -> Store:
+def open_store(file: Path, program: Optional[Path] = None) -> Store:
     """The store in a file, which may take a while to read."""
     with Progress("open"):
-        return Store(file, program=program, batch=batch)
+        return Store(file, program=program)
 
 
 def grow(file: Path, new: Path, sectors: int, program: Optional[Path] = None, *,

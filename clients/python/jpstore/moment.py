@@ -9,6 +9,7 @@ from .errors import Ended, JpstoreError, refusal_of
 from .wire.commands import EXPORT
 from .wire.connection import Connection
 from .wire.program import Path
+from .wire.requests import all_of
 from .wire.values import text_of
 
 if TYPE_CHECKING:
@@ -57,13 +58,9 @@ def moment_of(store: "Store") -> Iterator[Moment]:
             yield moment
         return
     names, before = store.names(), store.status().seq
-    yield Moment(before, len(names), (_read(store, name) for name in names))
+    yield Moment(before, len(names), (Document(name, *store._do(all_of(name))) for name in names))
     if store.status().seq != before:
         raise JpstoreError(CHANGED)
-
-
-def _read(store: "Store", name: str) -> Document:
-    return Document(name, store.get(name), store.schema(name), store.rev(name))
 
 
 @contextlib.contextmanager

@@ -46,14 +46,10 @@ class Progress:
     def _run(self) -> None:
         pause = _FIRST
         while not self._ended.wait(pause):
-            self._show()
-            pause = _EACH
-
-    def _show(self) -> None:
-        line = self._line()
-        line, self._shown = "\r" + line.ljust(self._shown), len(line)
-        self._stream.write(line)
-        self._stream.flush()
+            line = self._line()
+            self._stream.write("\r" + line.ljust(self._shown))
+            self._stream.flush()
+            self._shown, pause = len(line), _EACH
 
     def _line(self) -> str:
         parts = [f"{self._what}: {time.monotonic() - self._began:.0f} s"]

@@ -19,13 +19,20 @@ from .wire.forks import check_process, in_each_child
 from .wire.program import Path
 from .wire.session import PAUSE, may_come
 
-__all__ = ["Change", "Gone", "Progress", "UNWATCHED", "Watch", "Watcher"]
+__all__ = ["Change", "Gone", "Progress", "UNWATCHED", "Watch", "Watcher", "watched"]
 
 C = TypeVar("C")
 S = TypeVar("S", bound="Watch")
 
 #: What is said to those who would watch a store without a hub.
 UNWATCHED = "only the store of a hub can be watched: serve the file by a hub, and connect to its socket"
+
+
+def watched(hub: Optional[str]) -> str:
+    """The socket of a store's hub; an error if it has none."""
+    if hub is None:
+        raise JpstoreError(UNWATCHED)
+    return hub
 
 
 @dataclass(frozen=True)

@@ -6,7 +6,7 @@ import errno
 import os
 import threading
 from collections import deque
-from typing import Any, Callable, Deque, List, Optional, Sequence, Tuple, TypeVar
+from typing import Any, Callable, Deque, List, Optional, Sequence, Tuple, TypeVar, Union
 
 from ..errors import AccessError, Ended
 from ..wire.connection import check_socket, doubled, ended_connection, new_socket, reaching, socket_of
@@ -67,7 +67,7 @@ class AsyncCall(Call):
             self.answered.set_exception(error)
 
 
-class AsyncChannel:
+class AsyncLines:
     """Two descriptors of an event loop: calls are sent as they are taken, and notified when they are answered.
 
     Nothing of asyncio's own holds the descriptors: in a child made by fork, that would change what the loop of the
@@ -114,18 +114,6 @@ class AsyncChannel:
             if not self._unsent:
                 self._loop.add_writer(self._writing.number, self._writable)
             self._unsent.append(sent[taken:])
-
-    async def ended(self, ended: StreamEnded) -> Ended:
-        """Closes the channel, and returns the error that says how it ended."""
-        raise NotImplementedError
-
-    async def close(self) -> None:
-        """Ends the channel; `Ended` if that is a fault."""
-        raise NotImplementedError
-
-    async def abandon(self) -> None:
-        """Ends the channel, whose replies are not wanted any more."""
-        raise NotImplementedError
 
     def close_both(self) -> None:
         """Closes both descriptors."""
@@ -212,7 +200,7 @@ class AsyncChannel:
             self.end.set_result(ended)
 
 
-class AsyncConnection(AsyncChannel):
+class AsyncConnection(AsyncLines):
     """The Unix socket of a hub."""
 
     def __init__(self, path: str, connected: Descriptor, timeout: Optional[float]) -> None:
@@ -232,7 +220,7 @@ class AsyncConnection(AsyncChannel):
     abandon = close
 
 
-class AsyncProgram(AsyncChannel):
+class AsyncProgram(AsyncLines):
     """A program that answers lines."""
 
     def __init__(self, words: Sequence[str], timeout: Optional[float]) -> None:
@@ -293,3 +281,6 @@ async def connect(path: str, timeout: Optional[float]) -> Descriptor:
     except BaseException:
         descriptor.close()
         raise
+
+
+AsyncChannel = Union[AsyncProgram, AsyncConnection]

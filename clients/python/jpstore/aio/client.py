@@ -12,7 +12,7 @@ from ..errors import Invalid, JpstoreError
 from ..follow import Latest, followed
 from ..once import Once
 from ..results import Changes, Mark, Node, Pumped, Status
-from ..watch import UNWATCHED
+from ..watch import watched
 from ..wire import requests
 from ..wire.commands import AskedMark, Command
 from ..wire.limits import MOST_TOLD_BYTES
@@ -213,15 +213,11 @@ class AsyncStore:
     def watch(self, since: Optional[int] = None, *, history: Optional[str] = None, follow: bool = True,
               wait: Optional[float] = None) -> AsyncWatch:
         """As `Store.watch`, for `async for`; it connects at its first step."""
-        if self.hub is None:
-            raise JpstoreError(UNWATCHED)
-        return AsyncWatch(self.hub, since, history=history, follow=follow, wait=wait)
+        return AsyncWatch(watched(self.hub), since, history=history, follow=follow, wait=wait)
 
     def follow(self, name: str, path: str = "") -> AsyncGenerator[Optional[Latest], None]:
         """As `Store.follow`, for `async for`."""
-        if self.hub is None:
-            raise JpstoreError(UNWATCHED)
-        hub = self.hub
+        hub = watched(self.hub)
         return followed(lambda wait: AsyncWatch(hub, wait=wait), _Steps(self), name, path)
 
     #: Another name of `names`.

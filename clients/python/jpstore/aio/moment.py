@@ -1,10 +1,11 @@
 """All documents of a store as they are at one moment, for asyncio."""
 import contextlib
 from dataclasses import dataclass
-from typing import TYPE_CHECKING, AsyncIterator, List
+from typing import TYPE_CHECKING, AsyncIterator
 
 from ..errors import JpstoreError
 from ..moment import CHANGED, EXPORT, Document, document_in, record_in
+from ..wire.requests import all_of
 from .reader import AsyncReader
 
 if TYPE_CHECKING:
@@ -30,7 +31,7 @@ async def async_moment_of(store: "AsyncStore") -> AsyncIterator[AsyncMoment]:
     """All documents of a store at one moment: of a hub's, or of one that is open here and nobody else can change."""
     if store.hub is None:
         names, before = await store.names(), (await store.status()).seq
-        yield AsyncMoment(before, len(names), _read(store, names))
+        yield AsyncMoment(before, len(names), (Document(name, *await store._do(all_of(name))) for name in names))
         if (await store.status()).seq != before:
             raise JpstoreError(CHANGED)
         return
@@ -40,11 +41,6 @@ async def async_moment_of(store: "AsyncStore") -> AsyncIterator[AsyncMoment]:
         yield AsyncMoment(begin["seq"], begin["documents"], _documents(reader))
     finally:
         reader.close()
-
-
-async def _read(store: "AsyncStore", names: List[str]) -> AsyncIterator[Document]:
-    for name in names:
-        yield Document(name, await store.get(name), await store.schema(name), await store.rev(name))
 
 
 async def _documents(reader: AsyncReader) -> AsyncIterator[Document]:

@@ -1,6 +1,5 @@
 """The sub-commands of the command line, and their words."""
 import argparse
-import json
 import os
 import sys
 from typing import Any, Dict, List, Optional, Sequence, Tuple
@@ -12,7 +11,7 @@ from ..errors import JpstoreError
 from ..server import run_server
 from ..watch import Watch
 from ..wire.commands import set_schema
-from .display import members_of, printable, shown, shown_status
+from .display import members_of, shown, shown_node, shown_status
 from .file_commands import FILE_COMMANDS
 from .opening import Row, Word, opened, program_of, value_in, value_of_word, wait_for
 from .printing import accepted, print_changes, print_record, said
@@ -69,19 +68,13 @@ def _transaction(words: argparse.Namespace) -> None:
 def _ls(words: argparse.Namespace) -> None:
     with opened(words) as store:
         names = store.names(words.prefix)
-    if getattr(words, "json", False):
-        print(json.dumps(names))
-    else:
-        sys.stdout.writelines(name + "\n" for name in names)
+    said(words, names, *names)
 
 
 def _find(words: argparse.Namespace) -> None:
     with opened(words) as store:
         nodes = store.query(words.name, words.query)
-    if getattr(words, "json", False):
-        print(json.dumps([{"path": node.path, "value": node.value} for node in nodes], ensure_ascii=False))
-    else:
-        sys.stdout.writelines(f"{printable(node.path)}  {shown(node.value)}\n" for node in nodes)
+    said(words, list(map(vars, nodes)), *map(shown_node, nodes))
 
 
 def _find_all(words: argparse.Namespace) -> None:

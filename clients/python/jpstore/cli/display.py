@@ -5,9 +5,9 @@ from typing import Any, Dict, List, Union
 from ..dump import LoadStopped
 from ..errors import Invalid
 from ..explain import first_reason
-from ..results import Status
+from ..results import Node, Status
 
-__all__ = ["members_of", "printable", "shown", "shown_error", "shown_status"]
+__all__ = ["members_of", "printable", "shown", "shown_error", "shown_node", "shown_status"]
 
 _WIDTH = 100
 
@@ -17,7 +17,12 @@ def shown(value: Any) -> str:
     line = printable(json.dumps(value, ensure_ascii=False))
     if len(line) <= _WIDTH or not value or not isinstance(value, (dict, list)):
         return line
-    return "\n".join(map(printable, json.dumps(value, ensure_ascii=False, indent=2).split("\n")))
+    return printable_lines(json.dumps(value, ensure_ascii=False, indent=2))
+
+
+def shown_node(node: Node) -> str:
+    """What a query selects: its place and its value."""
+    return f"{printable(node.path)}  {shown(node.value)}"
 
 
 def printable(text: str) -> str:

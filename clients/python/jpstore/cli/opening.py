@@ -12,7 +12,8 @@ from ..progress import Progress
 from ..wire.session import PAUSE
 from ..wire.texts import value_of_text
 
-__all__ = ["Do", "Row", "Word", "is_socket", "opened", "program_of", "value_in", "value_of_word", "wait_for"]
+__all__ = ["Do", "Row", "Word", "is_socket", "opened", "program_of", "value_in", "value_in_file",
+           "value_of_word", "wait_for"]
 
 #: What a sub-command does with its words; its result is the exit status, if that is not 0.
 Do = Callable[[argparse.Namespace], Optional[int]]
@@ -62,7 +63,10 @@ def value_of_word(text: str) -> Any:
 
 def value_in(file: str) -> Any:
     """The JSON value in a file, or with `-` that on standard input."""
-    if file == "-":
-        return value_of_word(file)
+    return value_of_word(file) if file == "-" else value_in_file(file)
+
+
+def value_in_file(file: str) -> Any:
+    """The JSON value in a file."""
     with accessing(file), open(file, "rb") as opened_file:
         return value_of_text(opened_file.read(), file)

@@ -1,6 +1,7 @@
 """How the command line and the shell print their results."""
 import argparse
 import json
+import sys
 from typing import Any, Dict
 
 from ..client import Store
@@ -9,9 +10,10 @@ from ..wire.values import canonical
 __all__ = ["accepted", "done", "print_changes", "print_record", "said"]
 
 
-def said(words: argparse.Namespace, value: Any, text: str) -> None:
-    """Prints a result: a line of JSON with --json, else a text for people."""
-    print(json.dumps(value, ensure_ascii=False) if getattr(words, "json", False) else text)
+def said(words: argparse.Namespace, value: Any, *lines: str) -> None:
+    """Prints a result: a line of JSON with --json, else lines for people."""
+    told = [json.dumps(value, ensure_ascii=False)] if getattr(words, "json", False) else lines
+    sys.stdout.writelines(line + "\n" for line in told)
 
 
 def accepted(words: argparse.Namespace, seq: int, count: int = 1) -> None:

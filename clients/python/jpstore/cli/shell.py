@@ -5,17 +5,16 @@ import inspect
 import os
 import re
 import sys
-from typing import Any, Callable, ContextManager, Iterator, List, Optional, Sequence, Union
+from typing import Any, Callable, Iterator, List, Optional, Sequence, Union
 
 from ..called import called
 from ..client import Store
 from ..edits import patched, put, remove
 from ..errors import Ended, JpstoreError, Refused
 from ..progress import Progress
-from ..results import Node
 from ..wire.commands import set_schema
 from .completion import completions
-from .display import printable, shown, shown_error, shown_status
+from .display import shown, shown_error, shown_node, shown_status
 from .nearest import no_command
 from .printing import done, print_changes, print_record
 from .shell_transaction import Draft
@@ -85,9 +84,9 @@ class Shell(cmd.Cmd):
         if not query:
             raise Usage("QUERY is missing")
         if name == "--all":
-            return "\n".join(f"{found}  {_told(node)}"
+            return "\n".join(f"{found}  {shown_node(node)}"
                              for found, nodes in self.store.query_all(query, prefix or "").items() for node in nodes)
-        return "\n".join(map(_told, self.store.query(name, query)))
+        return "\n".join(map(shown_node, self.store.query(name, query)))
 
     def do_new(self, line: str) -> str:
         """new NAME [SCHEMA-FILE] DOC, or new NAME [SCHEMA-FILE] < FILE: makes a document: `new shelf {"bolts": 40}`.
@@ -308,7 +307,9 @@ class Shell(cmd.Cmd):
         self._lines += 1
         try:
             word = line.strip().partition(" ")[0]
-            with _progress(word):
+            with contextlib.ExitStack() as shown_meanwhile:
+                if word not in _WAITING:
+                    shown_meanwhile.enter_context(Progress(word))
                 answer: Union[str, bool, None] = super().onecmd(line)
         except (JpstoreError, OSError, UnicodeError) as error:
             if isinstance(error, Ended) and self.store.closed:
@@ -334,35 +335,27 @@ class Shell(cmd.Cmd):
         return "interrupted; a change that was under way is stored whole, or not at all"
 
 
-def _pointer(rest: str) -> str:
-    if not rest:
-        return ""
-    pointer, rest = word_and_rest(rest, "POINTER")
+def _only_word(line: str, what: str) -> Optional[str]:
+    """The word of a line that has one, or none."""
+    if not line.strip():
+        return None
+    word, rest = word_and_rest(line, what)
     nothing_more(rest)
-    return pointer
+    return word
+
+
+def _pointer(rest: str) -> str:
+    return _only_word(rest, "POINTER") or ""
 
 
 def _since(line: str) -> Optional[int]:
-    if not line.strip():
-        return None
-    word, rest = word_and_rest(line, "SINCE")
-    nothing_more(rest)
-    return number_of(word, "SINCE")
+    word = _only_word(line, "SINCE")
+    return None if word is None else number_of(word, "SINCE")
 
 
 def _check_no_rev(if_rev: Optional[int]) -> None:
     if if_rev is not None:
         raise Usage("after `begin` there is no `--if-rev`: a transaction asks for the revisions that it has read")
-
-
-def _progress(word: str) -> ContextManager[Any]:
-    if word in _WAITING:
-        return contextlib.nullcontext()
-    return Progress(word)
-
-
-def _told(node: Node) -> str:
-    return f"{printable(node.path)}  {shown(node.value)}"
 
 
 def _noted(draft: Draft) -> str:

@@ -3,8 +3,9 @@ import json
 import re
 from typing import Any, List, Optional, Tuple
 
-from ..errors import JpstoreError, accessing
+from ..errors import JpstoreError
 from ..wire.texts import value_of_text
+from .opening import value_in_file
 
 __all__ = [
     "Usage", "flag_and_rest", "if_rev_and_rest", "names_and_file", "nothing_more", "number_of", "option_and_rest",
@@ -93,9 +94,7 @@ def value_in(file: str) -> Any:
     """The value of the JSON text in a file."""
     if "\0" in file:
         raise Usage("the name of a file has no NUL")
-    with accessing(file), open(file, "rb") as opened:
-        text = opened.read()
-    return value_of_text(text, file)
+    return value_in_file(file)
 
 
 def schema_and_doc(rest: str, without: Any = True) -> Tuple[Any, Any]:

@@ -117,14 +117,10 @@ def is_changing(command: Any) -> bool:
 
 def changes_in(command: Command) -> List[Command]:
     """The changes that a command makes, in order: those of a transaction, or itself."""
-    if not _is_transaction(command):
+    if command.get("cmd") != TRANSACTION:
         return [command]
     changes = command.get("changes")
     return changes if isinstance(changes, list) else []
-
-
-def _is_transaction(command: Any) -> bool:
-    return isinstance(command, dict) and command.get("cmd") == TRANSACTION
 
 
 def line_of(command: Command) -> bytes:

@@ -33,12 +33,8 @@ def _is_count(value: Any) -> bool:
     return isinstance(value, int) and not isinstance(value, bool) and value >= 0
 
 
-def _is_step(value: Any) -> bool:
-    return _is_count(value) and 1 <= value <= _MOST_SECTORS
-
-
-def _are_told(value: Any) -> bool:
-    return _is_count(value) and 1 <= value <= MOST_TOLD_BYTES
+def _is_from_1_to(most: int) -> Callable[[Any], bool]:
+    return lambda value: _is_count(value) and 1 <= value <= most
 
 
 def _is_any(_: Any) -> bool:
@@ -86,11 +82,11 @@ FORMS: Dict[str, Form] = {
     "rev": Form(Kind.QUESTION, _NAMED),
     "query": Form(Kind.QUESTION, {**_NAMED, "path": _is_text}),
     "mark": Form(Kind.QUESTION, {**_WORD, "key": _is_text}),
-    "changes": Form(Kind.QUESTION, {**_WORD, "from": _is_count, "max": _are_told}),
+    "changes": Form(Kind.QUESTION, {**_WORD, "from": _is_count, "max": _is_from_1_to(MOST_TOLD_BYTES)}),
     "list": Form(Kind.QUESTION, _WORD),
     "status": Form(Kind.QUESTION, _WORD),
     "snapshot": Form(Kind.SNAPSHOT, _WORD),
-    "pump": Form(Kind.SNAPSHOT, {**_WORD, "max": _is_step}),
+    "pump": Form(Kind.SNAPSHOT, {**_WORD, "max": _is_from_1_to(_MOST_SECTORS)}),
     "export": Form(Kind.OWN, _WORD),
     "grow": Form(Kind.OWN, {**_WORD, "sectors": _is_count}),
     "watch": Form(Kind.OWN, {**_WORD, "from": _is_count, "history": _is_text}, frozenset(["from", "history"])),

@@ -1,7 +1,7 @@
 """What each call sends, and how its result is read from the replies; the same for `Store` and `AsyncStore`."""
 import json
 from dataclasses import dataclass
-from typing import Any, Callable, Dict, Generic, Iterator, List, Optional, Sequence, Tuple, TypeVar, Union
+from typing import Any, Callable, Dict, Generic, List, Optional, Sequence, Tuple, TypeVar, Union
 
 from ..errors import Gone, JpstoreError, NotFound, Refused, Unsendable, refusal_of
 from ..notices import warn_of_command
@@ -12,9 +12,9 @@ from .replies import text_in
 from .texts import value_of_text
 
 __all__ = [
-    "Outcome", "Request", "accepted", "change", "changes", "create", "delete", "doc_and_schema",
-    "get", "grow", "in_pieces", "lines_of_group", "mark", "names", "outcomes_of", "patch", "pump", "put",
-    "query", "query_all", "rev", "rev_and_doc", "rev_and_value", "schema", "set_schema", "snapshot", "status", "taken",
+    "Outcome", "Request", "accepted", "all_of", "change", "changes", "create", "delete", "doc_and_schema",
+    "get", "grow", "lines_of_group", "mark", "names", "outcomes_of", "patch", "pump", "put",
+    "query", "query_all", "rev", "rev_and_doc", "rev_and_value", "schema", "set_schema", "snapshot", "status",
     "texts", "transaction",
 ]
 
@@ -28,9 +28,6 @@ _OF_TEXT = (11, 12)
 
 # What a server answers that knows no such command.
 _NO_COMMAND = 14
-
-# The most documents that are asked together: a reply may have 16 MiB.
-_TOGETHER = 32
 
 
 @dataclass(frozen=True)
@@ -66,9 +63,9 @@ def accepted(line: bytes, command: Command) -> Reply:
     return reply
 
 
-def taken(take: Callable[[bytes], Optional[T]], line: bytes, command: Command) -> T:
-    """What is taken of a reply, which is not parsed, as it may be long; if there is nothing, its refusal is raised."""
-    found = take(line)
+def _text(line: bytes, command: Command) -> bytes:
+    """The text in a reply, which is not parsed, as it may be long; if there is none, its refusal is raised."""
+    found = text_in(line)
     if found is None:
         raise refusal_of(json.loads(line), command)
     return found
@@ -174,6 +171,12 @@ def doc_and_schema(name: str) -> Request[Tuple[Any, Any]]:
     return _request(asked, lambda replies: (replies[0]["value"], replies[1]["value"]))
 
 
+def all_of(name: str) -> Request[Tuple[Any, Any, int]]:
+    """A document, its schema and its revision."""
+    asked = [commands.get(name), commands.get_schema(name), commands.rev(name)]
+    return _request(asked, lambda replies: (replies[0]["value"], replies[1]["value"], replies[2]["rev"]))
+
+
 def schema(name: str) -> Request[Any]:
     """The schema of a document."""
     return _request([commands.get_schema(name)], lambda replies: replies[0]["value"])
@@ -207,11 +210,6 @@ def names(prefix: str = "") -> Request[List[str]]:
     def read(replies: List[Reply]) -> List[str]:
         return [name for name in replies[0]["names"] if name.startswith(prefix)]
     return _request([{"cmd": "list"}], read)
-
-
-def in_pieces(names_asked: Sequence[str]) -> Iterator[Sequence[str]]:
-    """The names, as many at a time as are asked together."""
-    return (names_asked[begin:begin + _TOGETHER] for begin in range(0, len(names_asked), _TOGETHER))
 
 
 def status() -> Request[Status]:
@@ -250,7 +248,7 @@ def texts(name: str) -> Request[Tuple[bytes, bytes]]:
     asked = [commands.get(name), commands.get_schema(name)]
 
     def read(replies: List[bytes]) -> Tuple[bytes, bytes]:
-        doc, under = (taken(text_in, reply, command) for reply, command in zip(replies, asked))
+        doc, under = map(_text, replies, asked)
         return doc, under
     return Request(asked, read)
 

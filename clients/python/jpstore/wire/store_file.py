@@ -3,7 +3,7 @@ import struct
 from typing import BinaryIO, Iterator, NamedTuple
 
 from ..errors import JpstoreError, accessing_store
-from .store_slots import SLOTS, begin_of, capacity_of, counting
+from .store_slots import SLOTS, begin_of, counting
 
 __all__ = ["SECTOR", "Committed", "committed_in", "format_kept", "format_of"]
 
@@ -24,13 +24,9 @@ class Committed(NamedTuple):
     version: int
     #: The commit sector, or all slots, which begin the file.
     head: bytes
-    half: int
     length: int
     seq: int
-    opens: int
     sectors: int
-    #: How many bytes a half holds.
-    capacity: int
     #: Where the half in force begins in the file.
     begin: int
     #: The last committed bytes, which format 3 has in the slot.
@@ -75,12 +71,11 @@ def committed_in(file: BinaryIO) -> Committed:
     file.seek(0)
     head = file.read(SLOTS)
     if head.startswith(_BEGIN) and len(head) >= SECTOR:
-        _, _, half, length, seq, opens, sectors = _FIELDS.unpack_from(head)
-        capacity = SECTOR * ((sectors - 1) // 2)
-        begin = SECTOR + half * capacity
-        return Committed(2, head[:SECTOR], half, length, seq, opens, sectors, capacity, begin, b"", b"")
+        _, _, half, length, seq, _, sectors = _FIELDS.unpack_from(head)
+        begin = SECTOR + half * SECTOR * ((sectors - 1) // 2)
+        return Committed(2, head[:SECTOR], length, seq, sectors, begin, b"", b"")
     slot = counting(head) if len(head) == SLOTS else None
     if slot is None:
         raise JpstoreError(f"{file.name} is not a store of format 2 or 3")
-    return Committed(3, head, slot.half, slot.length, slot.seq, slot.opens, slot.sectors,
-                     capacity_of(slot.sectors), begin_of(slot.half, slot.sectors), slot.tail, slot.identity)
+    begin = begin_of(slot.half, slot.sectors)
+    return Committed(3, head, slot.length, slot.seq, slot.sectors, begin, slot.tail, slot.identity)

@@ -2,12 +2,10 @@
 import struct
 from typing import NamedTuple, Optional
 
-__all__ = ["SLOTS", "Slot", "begin_of", "capacity_of", "counting"]
+__all__ = ["SLOTS", "Slot", "begin_of", "counting"]
 
 _SECTOR, _BLOCK = 512, 4096
 _SECTORS_OF_SLOTS, _SECTORS_OF_A_SLOT, _SECTORS_OF_A_BLOCK = 128, 32, 8
-# So many blocks of a half have one block for checks.
-_CHECKED_BLOCKS = 1025
 
 #: The bytes of the four slots, which begin the file.
 SLOTS = _SECTORS_OF_SLOTS * _SECTOR
@@ -24,7 +22,6 @@ class Slot(NamedTuple):
     number: int
     length: int
     seq: int
-    opens: int
     sectors: int
     half: int
     identity: bytes
@@ -65,23 +62,14 @@ def _valid(place: int, slot: bytes) -> Optional[Slot]:
         content += sector[_HEAD.size:]
     if not content:
         return None
-    length, seq, opens, sectors, half, blocks, _, identity = _FIELDS.unpack_from(content)
+    length, seq, _, sectors, half, blocks, _, identity = _FIELDS.unpack_from(content)
     rest = length - blocks * _BLOCK
     if number % 2 != place // 2 or not 0 <= rest <= len(content) - _FIELDS.size:
         return None
-    return Slot(number, length, seq, opens, sectors, half, identity, content[_FIELDS.size:_FIELDS.size + rest])
-
-
-def _blocks_of_half(sectors: int) -> int:
-    return (sectors - _SECTORS_OF_SLOTS) // (2 * _SECTORS_OF_A_BLOCK)
+    return Slot(number, length, seq, sectors, half, identity, content[_FIELDS.size:_FIELDS.size + rest])
 
 
 def begin_of(half: int, sectors: int) -> int:
     """Where a half begins in a file of so many sectors."""
-    return SLOTS + half * _BLOCK * _blocks_of_half(sectors)
-
-
-def capacity_of(sectors: int) -> int:
-    """How many committed bytes a half holds."""
-    blocks = _blocks_of_half(sectors)
-    return _BLOCK * (blocks - -(-blocks // _CHECKED_BLOCKS))
+    blocks = (sectors - _SECTORS_OF_SLOTS) // (2 * _SECTORS_OF_A_BLOCK)
+    return SLOTS + half * _BLOCK * blocks

@@ -32,8 +32,8 @@ def test_what_is_committed_is_what_the_status_says(place, version):
     with open(place.file, "rb") as file:
         found = committed_in(file)
         frames = b"".join(found.pieces(file, found.length))
-    assert (found.version, found.sectors, found.half, found.length, found.seq, found.opens, found.capacity) == (
-        version, SECTORS, status.half, status.used, status.seq, status.opens, status.capacity)
+    assert (found.version, found.sectors, found.length, found.seq) == (version, SECTORS, status.used, status.seq)
+    assert found.identity.hex() == (status.id or "")
     assert format_of(place.file) == version
     at, seq, kinds = 0, 0, []
     while at < len(frames):
