@@ -13,7 +13,7 @@ import math
 import resource
 import sys
 import time
-from typing import Any, BinaryIO, Dict, List, Optional
+from typing import Any, Dict, List, Optional
 
 from .errors import JpstoreError
 from .explain import faults_of
@@ -43,11 +43,11 @@ def main() -> None:
         # They take as long as many documents do.
         for library in ("jsonschema", "jsonpatch"):
             importlib.import_module(library)
-    _answer(sys.stdout.buffer, b"ready")
+    print("ready", flush=True)
     for line in sys.stdin.buffer:
         _limit(resource.RLIMIT_CPU, math.ceil(time.process_time()) + _SECONDS)
-        text = json.dumps(_told(json.loads(line))).encode()
-        _answer(sys.stdout.buffer, text if len(text) <= _MOST_ANSWER else b"null")
+        text = json.dumps(_told(json.loads(line)))
+        print(text if len(text) <= _MOST_ANSWER else "null", flush=True)
 
 
 def _told(asked: Dict[str, Any]) -> Dict[str, Any]:
@@ -72,11 +72,6 @@ def _limit(what: int, most: int) -> None:
     """Sets a limit, which is raised again for the next document, so the greatest possible one stays."""
     _, hard = resource.getrlimit(what)
     resource.setrlimit(what, (most if hard == resource.RLIM_INFINITY else min(most, hard), hard))
-
-
-def _answer(output: BinaryIO, text: bytes) -> None:
-    output.write(text + b"\n")
-    output.flush()
 
 
 if __name__ == "__main__":

@@ -52,7 +52,7 @@ class AsyncSession(Held[AsyncChannel]):
         """Begins the session."""
         check_process()
         self._begin_anew()
-        self._channel, self._inherited = None, False
+        self._channel, self._inherited, self._unopened = None, False, False
         self._loop = asyncio.get_running_loop()
         self._take(await self._opened())
         self._closed = False

@@ -1,11 +1,8 @@
 """Who may read and write a file that this package makes."""
 import os
-import stat
 from typing import IO
 
 __all__ = ["create_private", "mode_of"]
-
-_ALL = 0o777
 
 
 def create_private(path: str) -> IO[bytes]:
@@ -15,4 +12,4 @@ def create_private(path: str) -> IO[bytes]:
 
 def mode_of(file: IO[bytes]) -> int:
     """The permission bits of an open file."""
-    return stat.S_IMODE(os.fstat(file.fileno()).st_mode) & _ALL
+    return os.fstat(file.fileno()).st_mode & 0o777

@@ -8,16 +8,12 @@ from typing import List
 from ..errors import Ended
 from .commands import STATUS
 from .program import ended_program
+from .session import PAUSE
 
 __all__ = ["ended_serving", "opened_serving"]
 
 # Longer than any reply of the program.
 _MOST_REPLY = (1 << 24) + (1 << 16)
-
-_PIECE = 1 << 16
-
-# How long it waits before it looks again whether a file is free, in seconds.
-_PAUSE = 0.05
 
 
 async def opened_serving(words: List[str], wait: float) -> Process:
@@ -34,7 +30,7 @@ async def opened_serving(words: List[str], wait: float) -> Process:
         ended = await ended_serving(words, program)
         if ended.name != "in-use" or time.monotonic() >= until:
             raise ended
-        await asyncio.sleep(_PAUSE)
+        await asyncio.sleep(PAUSE)
 
 
 async def ended_serving(words: List[str], program: Process) -> Ended:
@@ -42,15 +38,10 @@ async def ended_serving(words: List[str], program: Process) -> Ended:
     assert program.stdin and program.stdout and program.stderr
     program.stdin.close()
     # A program whose replies nobody reads any more would wait for that.
-    dropping = asyncio.ensure_future(_drop(program.stdout))
+    dropping = asyncio.ensure_future(program.stdout.read())
     # What was written to a program that has ended is lost, and that is no error of its own.
     with contextlib.suppress(OSError):
         await program.stdin.wait_closed()
     errors = await program.stderr.read()
     await dropping
     return ended_program(words, await program.wait(), errors)
-
-
-async def _drop(replies: asyncio.StreamReader) -> None:
-    while await replies.read(_PIECE):
-        pass
