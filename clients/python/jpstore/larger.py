@@ -20,8 +20,8 @@ from .wire.store_slots import SLOTS
 
 __all__ = ["give_name", "grow", "grow_file", "open_store", "sync_folder"]
 
-# A file that takes another's place is made in a folder, called as the other with this and what makes the name its own;
-# and what a hub, which makes one so too, has in it.
+# A file that takes another's place is made in a folder beside it, whose name is that of the file, this, and eight
+# letters. A hub makes one so too, with these names in it.
 _FOLDER, _NAMES = ".growing-", {"from", "to"}
 
 
@@ -36,9 +36,8 @@ def grow(file: Path, new: Path, sectors: int, program: Optional[Path] = None, *,
     """Makes a store of this many sectors in `new`, which must not exist, with the documents of the store in `file`.
 
     They keep their revisions, and the store its count of changes, and its format, unless `version` gives 2 or 3. They
-    are compared, as new openings read them, before
-    `new` gets its name; until then it is `new.growing`, which is removed if something fails. `file` keeps all it has.
-    Returns the status of the new store.
+    are compared, as new openings read them, before `new` gets its name; until then it is `new.growing`, which is
+    removed if something fails. `file` keeps all it has. Returns the status of the new store.
     """
     name = os.fspath(new)
     part = name + ".growing"
