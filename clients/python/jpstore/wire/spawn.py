@@ -15,6 +15,8 @@ __all__ = ["ended_serving", "opened_serving"]
 # Longer than any reply of the program.
 _MOST_REPLY = (1 << 24) + (1 << 16)
 
+_PIECE = 1 << 16
+
 
 async def opened_serving(words: List[str], wait: float) -> Process:
     """The program, once it has opened the store."""
@@ -38,10 +40,15 @@ async def ended_serving(words: List[str], program: Process) -> Ended:
     assert program.stdin and program.stdout and program.stderr
     program.stdin.close()
     # A program whose replies nobody reads any more would wait for that.
-    dropping = asyncio.ensure_future(program.stdout.read())
+    dropping = asyncio.ensure_future(_drop(program.stdout))
     # What was written to a program that has ended is lost, and that is no error of its own.
     with contextlib.suppress(OSError):
         await program.stdin.wait_closed()
     errors = await program.stderr.read()
     await dropping
     return ended_program(words, await program.wait(), errors)
+
+
+async def _drop(replies: asyncio.StreamReader) -> None:
+    while await replies.read(_PIECE):
+        pass
