@@ -1,5 +1,5 @@
 """What becomes of each keyword: a function by its name, for what 2020-12 or the store says in another way."""
-from typing import TYPE_CHECKING, Any, Callable, Container, Dict, List
+from typing import TYPE_CHECKING, Any, Callable, Container, Dict, List, NamedTuple
 
 from ..faults.references import is_anchor
 from ..wire.values import LEAST, MOST
@@ -9,10 +9,7 @@ from .numbers import BOUNDS, bound, divisor, has_unsendable
 if TYPE_CHECKING:
     from .schema import Work
 
-__all__ = ["TRANSLATED", "free_name", "unknown_in"]
-
-_Out = Dict[str, Any]
-_Translation = Callable[["Work", At, Dict[str, Any], _Out], None]
+__all__ = ["Part", "TRANSLATED", "free_name", "unknown_in"]
 
 # The draft that brought a keyword; before it, the keyword had no effect.
 _SINCE = {
@@ -41,51 +38,75 @@ def unknown_in(draft: int, word: str) -> bool:
     return draft < _SINCE.get(word, 0)
 
 
-def _one(word: str) -> _Translation:
-    def translate(work: "Work", at: At, schema: Dict[str, Any], out: _Out) -> None:
-        out[word] = work.translated(at.below(word), schema[word])
-    return translate
+class Part(NamedTuple):
+    """A schema that is being translated, its place, and what is made of it so far."""
+
+    work: "Work"
+    at: At
+    schema: Dict[str, Any]
+    out: Dict[str, Any]
+
+    @property
+    def in_profile_3(self) -> bool:
+        """Whether it is for a store that reads patterns, and references to any place."""
+        return self.work.profile > 2
+
+    @property
+    def is_root(self) -> bool:
+        """Whether it is the whole schema that was given."""
+        return not self.at.tokens and not self.at.document
+
+    def translated(self, value: Any, *way: Any) -> Any:
+        """What a schema in it becomes."""
+        return self.work.translated(self.at.below(*way), value)
+
+    def note(self, word: str, message: str) -> None:
+        """Notes that a keyword is not as it was."""
+        self.work.note(self.at.below(word), message)
+
+    def ask_also(self, *parts: Any) -> None:
+        """Adds to what it asks of the same value."""
+        before = self.out.get("allOf", [])
+        self.out["allOf"] = [*before, *parts] if isinstance(before, list) else before
 
 
-def _several(word: str) -> _Translation:
-    def translate(work: "Work", at: At, schema: Dict[str, Any], out: _Out) -> None:
-        value = schema[word]
-        if not isinstance(value, list):
-            out[word] = value
-        elif value or word not in ("allOf", "prefixItems"):
-            parts = [work.translated(at.below(word, index), part) for index, part in enumerate(value)]
-            out[word] = [*out.get(word, []), *parts]
-    return translate
+# It gets the schema, the keyword and its value.
+_Translation = Callable[[Part, str, Any], None]
 
 
-def _named(word: str) -> _Translation:
-    def translate(work: "Work", at: At, schema: Dict[str, Any], out: _Out) -> None:
-        value = schema[word]
-        out[word] = value if not isinstance(value, dict) else {
-            name: work.translated(at.below(word, name), part) for name, part in value.items()}
-    return translate
+def _one(part: Part, word: str, value: Any) -> None:
+    part.out[word] = part.translated(value, word)
 
 
-def _nothing(work: "Work", at: At, schema: Dict[str, Any], out: _Out) -> None:
+def _several(part: Part, word: str, value: Any) -> None:
+    if not isinstance(value, list):
+        part.out[word] = value
+    elif value or word not in ("allOf", "prefixItems"):
+        inner = [part.translated(each, word, index) for index, each in enumerate(value)]
+        part.out[word] = [*part.out.get(word, []), *inner]
+
+
+def _named(part: Part, word: str, value: Any) -> None:
+    part.out[word] = value if not isinstance(value, dict) else {
+        name: part.translated(each, word, name) for name, each in value.items()}
+
+
+def _nothing(part: Part, word: str, value: Any) -> None:
     """For what another keyword has translated, or what does nothing by itself."""
 
 
-def _properties(work: "Work", at: At, schema: Dict[str, Any], out: _Out) -> None:
-    _named("properties")(work, at, schema, out)
-    if not isinstance(schema["properties"], dict):
-        return
+def _properties(part: Part, word: str, value: Any) -> None:
+    _named(part, word, value)
     # Draft 3 says with each property whether it is required.
-    needed = [name for name, part in schema["properties"].items()
-              if isinstance(part, dict) and part.get("required") is True]
+    needed = [name for name, each in (value.items() if isinstance(value, dict) else ())
+              if isinstance(each, dict) and each.get("required") is True]
     if needed:
-        out["required"] = list(dict.fromkeys([*out.get("required", []), *needed]))
+        part.out["required"] = list(dict.fromkeys([*part.out.get("required", []), *needed]))
 
 
-def _required(work: "Work", at: At, schema: Dict[str, Any], out: _Out) -> None:
-    value = schema["required"]
-    if isinstance(value, bool):
-        return
-    out["required"] = _once([*out.get("required", []), *value]) if isinstance(value, list) else value
+def _required(part: Part, word: str, value: Any) -> None:
+    if not isinstance(value, bool):
+        part.out[word] = _once([*part.out.get(word, []), *value]) if isinstance(value, list) else value
 
 
 def _once(names: List[Any]) -> List[Any]:
@@ -93,306 +114,253 @@ def _once(names: List[Any]) -> List[Any]:
     return list(dict.fromkeys(names)) if all(isinstance(name, str) for name in names) else names
 
 
-def _definitions(work: "Work", at: At, schema: Dict[str, Any], out: _Out) -> None:
+def _definitions(part: Part, word: str, value: Any) -> None:
     """What is defined comes under `$defs` of the root: all of the root's, and what references lead to.
 
     In profile 3 it stays in its schema.
     """
-    if work.profile > 2 and "$defs" in out:
-        return
-    for word in ("definitions", "$defs"):
-        parts = schema.get(word)
-        for name, part in parts.items() if isinstance(parts, dict) else ():
-            if work.profile > 2:
-                defs = out.setdefault("$defs", {})
-                defs[free_name(name, defs)] = work.translated(at.below(word, name), part)
-            elif not at.tokens and not at.document:
-                work.name_of(at.below(word, name), part)
+    for name, each in value.items() if isinstance(value, dict) else ():
+        if part.in_profile_3:
+            defs = part.out.setdefault("$defs", {})
+            defs[free_name(name, defs)] = part.translated(each, word, name)
+        elif part.is_root:
+            part.work.name_of(part.at.below(word, name), each)
 
 
-def _reference(work: "Work", at: At, schema: Dict[str, Any], out: _Out) -> None:
-    _refer(work, at, "$ref", schema["$ref"], out)
-
-
-def _refer(work: "Work", at: At, word: str, reference: Any, out: _Out) -> None:
-    found = work.documents.target(at, reference) if isinstance(reference, str) else None
+def _refer(part: Part, word: str, reference: Any) -> None:
+    found = part.work.documents.target(part.at, reference) if isinstance(reference, str) else None
     if found is None or not isinstance(found[1], (dict, bool)):
-        _referring(out, word)[word] = reference
-    elif work.profile > 2:
-        part = _referring(out, "$ref")
-        part["$ref"] = reference
-        work.refers(part, *found)
+        _referring(part, word)[word] = reference
+    elif part.in_profile_3:
+        made = _referring(part, "$ref")
+        made["$ref"] = reference
+        part.work.refers(made, *found)
     else:
-        _referring(out, "$ref")["$ref"] = work.name_of(*found)
+        _referring(part, "$ref")["$ref"] = part.work.name_of(*found)
 
 
-def _referring(out: _Out, word: str) -> _Out:
+def _referring(part: Part, word: str) -> Dict[str, Any]:
     """The schema itself, or one that it asks beside, if the reference of another keyword is in it already."""
-    if word not in out:
-        return out
-    part: _Out = {}
-    _also(out, part)
-    return part
+    if word not in part.out:
+        return part.out
+    made: Dict[str, Any] = {}
+    part.ask_also(made)
+    return made
 
 
-def _also(out: _Out, *parts: Any) -> None:
-    """Adds to what a schema asks of the same value."""
-    before = out.get("allOf", [])
-    out["allOf"] = [*before, *parts] if isinstance(before, list) else before
+def _recursive(part: Part, word: str, value: Any) -> None:
+    part.note(word, "it leads to the root always, and not to the outermost `$recursiveAnchor`")
+    _refer(part, word, value)
 
 
-def _recursive(work: "Work", at: At, schema: Dict[str, Any], out: _Out) -> None:
-    work.note(at.below("$recursiveRef"), "it leads to the root always, and not to the outermost `$recursiveAnchor`")
-    _refer(work, at, "$recursiveRef", schema["$recursiveRef"], out)
-
-
-def _dynamic(work: "Work", at: At, schema: Dict[str, Any], out: _Out) -> None:
-    reference = schema["$dynamicRef"]
-    name = reference.partition("#")[2] if isinstance(reference, str) else ""
-    if name.startswith("/") or len(work.documents.anchors(name)) == 1:
+def _dynamic(part: Part, word: str, value: Any) -> None:
+    name = value.partition("#")[2] if isinstance(value, str) else ""
+    if name.startswith("/") or len(part.work.documents.anchors(name)) == 1:
         # There is only one that it may lead to.
-        _refer(work, at, "$dynamicRef", reference, out)
+        _refer(part, word, value)
     else:
-        out["$dynamicRef"] = reference
+        part.out[word] = value
 
 
-def _anchor(work: "Work", at: At, schema: Dict[str, Any], out: _Out) -> None:
+def _anchor(part: Part, word: str, value: Any) -> None:
     """In profile 2, and from other documents, references to it lead to `$defs`."""
-    name = schema["$anchor"]
-    if work.profile == 2 or at.document:
+    if not part.in_profile_3 or part.at.document:
         return
-    if not isinstance(name, str):
-        out["$anchor"] = name
-    elif is_anchor(name) and name not in work.anchors:
-        out["$anchor"] = name
-        work.anchors.add(name)
+    if not isinstance(value, str):
+        part.out[word] = value
+    elif is_anchor(value) and value not in part.work.anchors:
+        part.out[word] = value
+        part.work.anchors.add(value)
 
 
-def _identity(work: "Work", at: At, schema: Dict[str, Any], out: _Out) -> None:
-    word = "$id" if at.draft > 4 else "id"
-    value = schema.get(word)
-    if not at.tokens and not at.document and isinstance(value, str) and not value.startswith("#"):
-        out["$id"] = value
+def _identity(part: Part, word: str, value: Any) -> None:
+    """`id` is a keyword up to draft 4, and `$id` from draft 6 on; else `id` is a name as others."""
+    is_keyword = word == ("$id" if part.at.draft > 4 else "id")
+    if is_keyword and part.is_root and isinstance(value, str) and not value.startswith("#"):
+        part.out["$id"] = value
+    elif not is_keyword and word == "id":
+        part.out[word] = value
 
 
-def _foreign_identity(work: "Work", at: At, schema: Dict[str, Any], out: _Out) -> None:
-    """`id` is a keyword up to draft 4, and `$id` from draft 6 on; else they are names as others."""
-    if at.draft <= 4:
-        _identity(work, at, schema, out)
-    else:
-        out["id"] = schema["id"]
+def _dialect(part: Part, word: str, value: Any) -> None:
+    if not part.at.tokens:
+        part.out[word] = value
 
 
-def _dialect(work: "Work", at: At, schema: Dict[str, Any], out: _Out) -> None:
-    if not at.tokens:
-        out["$schema"] = schema["$schema"]
+def _vocabulary(part: Part, word: str, value: Any) -> None:
+    part.note(word, "`$vocabulary` is for schemas of this schema's own, and is left out")
 
 
-def _vocabulary(work: "Work", at: At, schema: Dict[str, Any], out: _Out) -> None:
-    work.note(at.below("$vocabulary"), "`$vocabulary` is for schemas of this schema's own, and is left out")
-
-
-def _items(work: "Work", at: At, schema: Dict[str, Any], out: _Out) -> None:
-    value = schema["items"]
+def _items(part: Part, word: str, value: Any) -> None:
     if not isinstance(value, list):
-        out["items"] = work.translated(at.below("items"), value)
+        _one(part, word, value)
         return
     if value:
-        out["prefixItems"] = [work.translated(at.below("items", index), part) for index, part in enumerate(value)]
-    if "additionalItems" in schema:
-        out["items"] = work.translated(at.below("additionalItems"), schema["additionalItems"])
+        part.out["prefixItems"] = [part.translated(each, word, index) for index, each in enumerate(value)]
+    if "additionalItems" in part.schema:
+        part.out[word] = part.translated(part.schema["additionalItems"], "additionalItems")
 
 
-def _additional_items(work: "Work", at: At, schema: Dict[str, Any], out: _Out) -> None:
-    if not isinstance(schema.get("items"), list):
-        work.note(at.below("additionalItems"), "`additionalItems` without a list of `items` had no effect, and is left "
-                                               "out")
+def _additional_items(part: Part, word: str, value: Any) -> None:
+    if not isinstance(part.schema.get("items"), list):
+        part.note(word, "`additionalItems` without a list of `items` had no effect, and is left out")
 
 
-def _dependencies(work: "Work", at: At, schema: Dict[str, Any], out: _Out) -> None:
-    value = schema["dependencies"]
-    for name, part in value.items() if isinstance(value, dict) else ():
-        if isinstance(part, (list, str)):
-            out.setdefault("dependentRequired", {})[name] = [part] if isinstance(part, str) else _once(part)
+def _dependencies(part: Part, word: str, value: Any) -> None:
+    for name, each in value.items() if isinstance(value, dict) else ():
+        if isinstance(each, (list, str)):
+            part.out.setdefault("dependentRequired", {})[name] = [each] if isinstance(each, str) else _once(each)
         else:
-            _depend(work, at.below("dependencies", name), name, part, out)
+            _depend(part, word, name, each)
 
 
-def _dependent_schemas(work: "Work", at: At, schema: Dict[str, Any], out: _Out) -> None:
-    value = schema["dependentSchemas"]
-    if work.profile > 2:
-        _named("dependentSchemas")(work, at, schema, out)
+def _dependent_schemas(part: Part, word: str, value: Any) -> None:
+    if part.in_profile_3:
+        _named(part, word, value)
         return
-    for name, part in value.items() if isinstance(value, dict) else ():
-        _depend(work, at.below("dependentSchemas", name), name, part, out)
+    for name, each in value.items() if isinstance(value, dict) else ():
+        _depend(part, word, name, each)
 
 
-def _depend(work: "Work", at: At, name: str, schema: Any, out: _Out) -> None:
-    has = {"type": "object", "required": [name]}
-    _also(out, {"if": has, "then": work.translated(at, schema)})
+def _depend(part: Part, word: str, name: str, schema: Any) -> None:
+    part.ask_also({"if": {"type": "object", "required": [name]}, "then": part.translated(schema, word, name)})
 
 
-def _unevaluated(word: str, same: str) -> _Translation:
-    def translate(work: "Work", at: At, schema: Dict[str, Any], out: _Out) -> None:
-        if not any(other in schema for other in (*_IN_PLACE, same)):
-            out[same] = work.translated(at.below(word), schema[word])
-        else:
-            out[word] = schema[word]
-    return translate
+def _unevaluated(part: Part, word: str, value: Any) -> None:
+    same = "items" if word == "unevaluatedItems" else "additionalProperties"
+    if any(other in part.schema for other in (*_IN_PLACE, same)):
+        part.out[word] = value
+    else:
+        part.out[same] = part.translated(value, word)
 
 
-def _type(work: "Work", at: At, schema: Dict[str, Any], out: _Out) -> None:
-    value = schema["type"]
-    if value == "any" and at.draft == 3:
+def _type(part: Part, word: str, value: Any) -> None:
+    if value == "any" and part.at.draft == 3:
         return
-    if isinstance(value, list) and any(isinstance(part, dict) for part in value):
-        out["anyOf"] = [part if isinstance(part, bool) else work.translated(at.below("type", index), part)
-                        if isinstance(part, dict) else {"type": part} for index, part in enumerate(value)]
+    if isinstance(value, list) and any(isinstance(each, dict) for each in value):
+        part.out["anyOf"] = [each if isinstance(each, bool) else part.translated(each, word, index)
+                             if isinstance(each, dict) else {"type": each} for index, each in enumerate(value)]
         return
-    if schema.get("nullable") is True and isinstance(value, str):
+    if part.schema.get("nullable") is True and isinstance(value, str):
         value = [value, "null"]
-    out["type"] = list(dict.fromkeys(value)) if isinstance(value, list) and all(
-        isinstance(part, str) for part in value) else value
+    part.out[word] = _once(value) if isinstance(value, list) else value
 
 
-def _nullable(work: "Work", at: At, schema: Dict[str, Any], out: _Out) -> None:
-    if schema["nullable"] is True:
-        has_type = isinstance(schema.get("type"), str)
-        work.note(at.below("nullable"), "`nullable` of OpenAPI is `null` among the types" if has_type
+def _nullable(part: Part, word: str, value: Any) -> None:
+    if value is True:
+        has_type = isinstance(part.schema.get("type"), str)
+        part.note(word, "`nullable` of OpenAPI is `null` among the types" if has_type
                   else "`nullable` without a `type` had no effect, and is left out")
 
 
-def _enum(work: "Work", at: At, schema: Dict[str, Any], out: _Out) -> None:
-    value = schema["enum"]
-    kept = [each for each in value if not has_unsendable(each)] if isinstance(value, list) else value
-    if isinstance(value, list) and schema.get("nullable") is True and None not in kept:
-        kept = [*kept, None]
-    if isinstance(value, list) and len(kept) < len(value):
-        work.note(at.below("enum"), "values with a fraction or a number beyond 64 bits are left out: no value in a "
-                                    "store is one of them")
-    out["enum"] = kept
-
-
-def _const(work: "Work", at: At, schema: Dict[str, Any], out: _Out) -> None:
-    if not has_unsendable(schema["const"]):
-        out["const"] = schema["const"]
+def _enum(part: Part, word: str, value: Any) -> None:
+    if not isinstance(value, list):
+        part.out[word] = value
         return
-    work.note(at.below("const"), "no value in a store is this one, so none is accepted")
-    out["enum"] = []
+    kept = [each for each in value if not has_unsendable(each)]
+    if len(kept) < len(value):
+        part.note(word, "values with a fraction or a number beyond 64 bits are left out: no value in a store is one of "
+                        "them")
+    part.out[word] = [*kept, None] if part.schema.get("nullable") is True and None not in kept else kept
 
 
-def _bound(word: str) -> _Translation:
-    def translate(work: "Work", at: At, schema: Dict[str, Any], out: _Out) -> None:
-        value, other = schema[word], f"exclusive{word[0].upper()}{word[1:]}"
-        if isinstance(value, bool) or not isinstance(value, (int, float)):
-            if isinstance(value, bool) and word.startswith("exclusive"):
-                # In draft 4 it says how the bound beside it is meant.
-                return
-            out[word] = value
-            return
-        _put_bound(work, at.below(word), other if schema.get(other) is True else word, value, out)
-    return translate
+def _const(part: Part, word: str, value: Any) -> None:
+    if not has_unsendable(value):
+        part.out[word] = value
+        return
+    part.note(word, "no value in a store is this one, so none is accepted")
+    part.out["enum"] = []
 
 
-def _put_bound(work: "Work", at: At, word: str, value: Any, out: _Out) -> None:
-    as_word, whole = bound(word, value)
+def _bound(part: Part, word: str, value: Any) -> None:
+    if isinstance(value, bool) and word.startswith("exclusive"):
+        # In draft 4 it says how the bound beside it is meant.
+        return
+    if isinstance(value, bool) or not isinstance(value, (int, float)):
+        part.out[word] = value
+        return
+    other = f"exclusive{word[0].upper()}{word[1:]}"
+    as_word, whole = bound(other if part.schema.get(other) is True else word, value)
     is_least = as_word.lower().endswith("minimum")
     if (is_least and whole < LEAST) or (not is_least and whole > MOST):
-        work.note(at, f"the bound {value} is beyond 64 bits, and is left out: each number in a store keeps it")
+        part.note(word, f"the bound {value} is beyond 64 bits, and is left out: each number in a store keeps it")
         return
     if isinstance(value, float) and value != whole:
-        work.note(at, f"the bound {value} is `{as_word}` {whole} for whole numbers")
-    before = out.get(as_word)
+        part.note(word, f"the bound {value} is `{as_word}` {whole} for whole numbers")
+    before = part.out.get(as_word)
     if isinstance(before, int):
         whole = max(before, whole) if is_least else min(before, whole)
-    out[as_word] = whole
+    part.out[as_word] = whole
 
 
-def _multiple(word: str) -> _Translation:
-    def translate(work: "Work", at: At, schema: Dict[str, Any], out: _Out) -> None:
-        value = schema[word]
-        if isinstance(value, float) and value > 0:
-            whole = divisor(value)
-            if whole != value:
-                work.note(at.below(word), f"whole multiples of {value} are those of {whole}")
-            value = whole
-        out["multipleOf"] = value
-    return translate
+def _multiple(part: Part, word: str, value: Any) -> None:
+    whole = value
+    if isinstance(value, float) and value > 0:
+        whole = divisor(value)
+        if whole != value:
+            part.note(word, f"whole multiples of {value} are those of {whole}")
+    part.out["multipleOf"] = whole
 
 
-def _count(word: str) -> _Translation:
-    def translate(work: "Work", at: At, schema: Dict[str, Any], out: _Out) -> None:
-        value = schema[word]
-        out[word] = int(value) if isinstance(value, float) and value == int(value) else value
-    return translate
+def _count(part: Part, word: str, value: Any) -> None:
+    part.out[word] = int(value) if isinstance(value, float) and value == int(value) else value
 
 
-def _extends(work: "Work", at: At, schema: Dict[str, Any], out: _Out) -> None:
-    value: Any = schema["extends"]
-    parts: List[Any] = value if isinstance(value, list) else [value]
-    _also(out, *(work.translated(at.below("extends"), part) for part in parts))
+def _extends(part: Part, word: str, value: Any) -> None:
+    if part.at.draft != 3:
+        part.out[word] = value
+        return
+    part.ask_also(*(part.translated(each, word) for each in (value if isinstance(value, list) else [value])))
 
 
-def _disallow(work: "Work", at: At, schema: Dict[str, Any], out: _Out) -> None:
-    value = schema["disallow"]
-    parts = value if isinstance(value, list) else [value]
-    out["not"] = {"anyOf": [work.translated(at.below("disallow"), part) if isinstance(part, dict)
-                            else {} if part == "any" else {"type": part} for part in parts]}
+def _disallow(part: Part, word: str, value: Any) -> None:
+    if part.at.draft != 3:
+        part.out[word] = value
+        return
+    part.out["not"] = {"anyOf": [part.translated(each, word) if isinstance(each, dict)
+                                 else {} if each == "any" else {"type": each}
+                                 for each in (value if isinstance(value, list) else [value])]}
 
 
-def _only_in_draft_3(word: str, translation: _Translation) -> _Translation:
-    def translate(work: "Work", at: At, schema: Dict[str, Any], out: _Out) -> None:
-        if at.draft == 3:
-            translation(work, at, schema, out)
-        else:
-            out[word] = schema[word]
-    return translate
+def _pattern(part: Part, word: str, value: Any) -> None:
+    is_read = part.in_profile_3 and isinstance(value, str)
+    part.out[word] = part.work.rewritten(part.at.below(word), value, part.out, (word,)) if is_read else value
 
 
-def _pattern(work: "Work", at: At, schema: Dict[str, Any], out: _Out) -> None:
-    value = schema["pattern"]
-    is_read = work.profile > 2 and isinstance(value, str)
-    out["pattern"] = work.rewritten(at.below("pattern"), value, out, ("pattern",)) if is_read else value
-
-
-def _patterned(work: "Work", at: At, schema: Dict[str, Any], out: _Out) -> None:
-    _named("patternProperties")(work, at, schema, out)
-    parts = out["patternProperties"]
-    if work.profile == 2 or not isinstance(parts, dict):
+def _patterned(part: Part, word: str, value: Any) -> None:
+    _named(part, word, value)
+    if not part.in_profile_3 or not isinstance(value, dict):
         return
     made: Dict[str, Any] = {}
-    out["patternProperties"] = made
-    for pattern, part in parts.items():
-        way = ("patternProperties", pattern)
-        name = work.rewritten(at.below(*way), pattern, out, way)
+    parts, part.out[word] = part.out[word], made
+    for pattern, each in parts.items():
+        name = part.work.rewritten(part.at.below(word, pattern), pattern, part.out, (word, pattern))
         # Two may be written alike now.
-        made[name] = {"allOf": [made[name], part]} if name in made else part
+        made[name] = {"allOf": [made[name], each]} if name in made else each
 
 
-def _additional(work: "Work", at: At, schema: Dict[str, Any], out: _Out) -> None:
-    if "patternProperties" in schema and "patternProperties" in work.drop:
+def _additional(part: Part, word: str, value: Any) -> None:
+    if "patternProperties" in part.schema and "patternProperties" in part.work.drop:
         # Without the patterns it would refuse the members that these allow.
-        work.dropped(at, "additionalProperties")
-        return
-    _one("additionalProperties")(work, at, schema, out)
+        part.work.dropped(part.at, word)
+    else:
+        _one(part, word, value)
 
 
 #: What becomes of each keyword that is not kept as it is.
 TRANSLATED: Dict[str, _Translation] = {
-    **{word: _one(word) for word in ("propertyNames", "contains", "not", "if", "then", "else")},
-    **{word: _several(word) for word in ("allOf", "anyOf", "oneOf", "prefixItems")},
-    **{word: _bound(word) for word in BOUNDS},
-    **{word: _count(word) for word in ("minLength", "maxLength", "minItems", "maxItems", "minProperties",
-                                       "maxProperties", "minContains", "maxContains")},
-    "$anchor": _anchor, "$defs": _definitions, "$dynamicAnchor": _nothing, "$dynamicRef": _dynamic, "$id": _identity,
-    "$recursiveAnchor": _nothing, "$recursiveRef": _recursive, "$ref": _reference, "$schema": _dialect,
+    **dict.fromkeys(("propertyNames", "contains", "not", "if", "then", "else"), _one),
+    **dict.fromkeys(("allOf", "anyOf", "oneOf", "prefixItems"), _several),
+    **dict.fromkeys(BOUNDS, _bound),
+    **dict.fromkeys(("minLength", "maxLength", "minItems", "maxItems", "minProperties", "maxProperties", "minContains",
+                     "maxContains"), _count),
+    **dict.fromkeys(("$dynamicAnchor", "$recursiveAnchor"), _nothing),
+    **dict.fromkeys(("$defs", "definitions"), _definitions), **dict.fromkeys(("$id", "id"), _identity),
+    **dict.fromkeys(("divisibleBy", "multipleOf"), _multiple),
+    **dict.fromkeys(("unevaluatedItems", "unevaluatedProperties"), _unevaluated),
+    "$anchor": _anchor, "$dynamicRef": _dynamic, "$recursiveRef": _recursive, "$ref": _refer, "$schema": _dialect,
     "$vocabulary": _vocabulary, "additionalItems": _additional_items, "additionalProperties": _additional,
-    "const": _const, "definitions": _definitions, "dependencies": _dependencies,
-    "dependentSchemas": _dependent_schemas, "disallow": _only_in_draft_3("disallow", _disallow),
-    "divisibleBy": _multiple("divisibleBy"), "enum": _enum, "extends": _only_in_draft_3("extends", _extends),
-    "id": _foreign_identity, "items": _items, "multipleOf": _multiple("multipleOf"), "nullable": _nullable,
-    "pattern": _pattern, "patternProperties": _patterned, "properties": _properties, "required": _required,
-    "type": _type,
-    "unevaluatedItems": _unevaluated("unevaluatedItems", "items"),
-    "unevaluatedProperties": _unevaluated("unevaluatedProperties", "additionalProperties"),
+    "const": _const, "dependencies": _dependencies, "dependentSchemas": _dependent_schemas, "disallow": _disallow,
+    "enum": _enum, "extends": _extends, "items": _items, "nullable": _nullable, "pattern": _pattern,
+    "patternProperties": _patterned, "properties": _properties, "required": _required, "type": _type,
 }

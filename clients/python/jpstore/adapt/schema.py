@@ -15,7 +15,7 @@ from ..faults.words import pointer_of
 from ..patterns import NoPattern, read_ecma, written
 from ..wire.values import escaped
 from .documents import At, Documents, Read, Tokens
-from .keywords import TRANSLATED, free_name, unknown_in
+from .keywords import TRANSLATED, Part, free_name, unknown_in
 from .numbers import has_unsendable
 
 __all__ = ["Adapted", "Change", "Schema", "Work"]
@@ -147,7 +147,7 @@ class Work:
         elif unknown_in(at.draft, word):
             self.note(at.below(word), f"`{word}` is no keyword of the draft and had no effect, so it is left out")
         elif word in TRANSLATED:
-            TRANSLATED[word](self, at, schema, out)
+            TRANSLATED[word](Part(self, at, schema, out), word, value)
         elif has_unsendable(value):
             self.note(at.below(word), f"`{word}` has a fraction or a number beyond 64 bits, which a store can't keep; "
                                       "it asserts nothing, and is left out")
