@@ -1,6 +1,6 @@
 """Where a text is not a JSONPath query that the store reads (50, 51): a reader of RFC 9535 that tells the place."""
 import re
-from typing import Callable, List, NamedTuple, Optional, Pattern
+from typing import List, NamedTuple, Optional, Pattern
 
 __all__ = ["QueryFault", "fault_of_query"]
 
@@ -9,14 +9,16 @@ _LEAST, _MOST = -(1 << 63), (1 << 63) - 1
 _MOST_INDEX = (1 << 53) - 1
 
 _BLANKS = re.compile(r"[ \t\n\r]*")
+_SEGMENT = re.compile(r"[ \t\n\r]*(\.\.\[|\.\.|\.|\[)")
 _NAME = re.compile(r"[A-Za-z_\u0080-\U0010ffff][A-Za-z0-9_\u0080-\U0010ffff]*")
-_INT = re.compile(r"0|-?[1-9][0-9]*")
+# A number, or a slice by its colon.
+_SLICE = re.compile("(-?[0-9]+)?(?:{0}(:){0}(-?[0-9]+)?(?:{0}:{0}(-?[0-9]+)?)?)?".format(_BLANKS.pattern))
 _NUMBER = re.compile(r"(?:-?0|-?[1-9][0-9]*)(\.[0-9]+)?([eE][-+]?[0-9]+)?")
 _TEXT = re.compile(r"""'(?:[^'\\\x00-\x1f]|\\(?:[bfnrt/\\']|u[0-9A-Fa-f]{4}))*'|"""
                    r'''"(?:[^"\\\x00-\x1f]|\\(?:[bfnrt/\\"]|u[0-9A-Fa-f]{4}))*"''')
 _WORD = re.compile(r"(?:true|false|null)(?![a-z0-9_(])")
 _CALL = re.compile(r"([a-z][a-z0-9_]*)\(")
-_COMPARISON = re.compile(r"[=!<>]=|[<>]")
+_COMPARISONS = ("==", "!=", "<=", ">=", "<", ">")
 _FUNCTIONS = ("length", "count", "value", "match", "search")
 
 
@@ -71,11 +73,11 @@ class _Reader:
     def _looking_at(self, *texts: str) -> bool:
         return self._query.startswith(texts, self._at)
 
-    def _take(self, text: str) -> bool:
-        if not self._looking_at(text):
-            return False
-        self._at += len(text)
-        return True
+    def _take(self, *texts: str) -> bool:
+        """Reads the first of these texts that is here; whether there is one."""
+        text = next(filter(self._looking_at, texts), None)
+        self._at += len(text or "")
+        return text is not None
 
     def _match(self, pattern: Pattern[str]) -> Optional[str]:
         found = pattern.match(self._query, self._at)
@@ -88,6 +90,14 @@ class _Reader:
         """Reads blanks; whether there are any."""
         return bool(self._match(_BLANKS))
 
+    def _after_blanks(self, *texts: str) -> bool:
+        """Reads blanks and then one of these texts, or nothing; whether there is one."""
+        before = self._at
+        self._blanks()
+        is_there = self._take(*texts)
+        self._at = self._at if is_there else before
+        return is_there
+
     def _need(self, text: str, message: str) -> None:
         if not self._take(text):
             self._stop(message)
@@ -96,24 +106,11 @@ class _Reader:
         """Reads segments; whether they lead to one value at most."""
         is_singular = True
         while True:
-            before = self._at
-            self._blanks()
-            if not self._looking_at(".", "["):
-                self._at = before
+            begin = (self._match(_SEGMENT) or "").lstrip()
+            if not begin:
                 return is_singular
-            is_singular = self._segment() and is_singular
-
-    def _segment(self) -> bool:
-        if self._take(".."):
-            if not self._take("["):
-                self._after_dots()
-            else:
-                self._selectors()
-            return False
-        if self._take("."):
-            return self._after_dots()
-        self._at += 1
-        return self._selectors()
+            selects_one = self._selectors() if begin.endswith("[") else self._after_dots()
+            is_singular = is_singular and selects_one and not begin.startswith("..")
 
     def _after_dots(self) -> bool:
         if self._take("*"):
@@ -142,61 +139,27 @@ class _Reader:
             return False
         if self._take("?"):
             self._blanks()
-            self._disjunction()
+            self._tests()
             return False
-        begin = self._at
-        index = self._index()
-        before = self._at
-        self._blanks()
-        if self._take(":"):
-            self._rest_of_slice()
-            return False
-        self._at = before
-        if index is None:
-            self._at = begin
+        found = _SLICE.match(self._query, self._at)
+        if not found or not found.group():
             self._stop("in brackets is a name in quotes, a number, a slice, `*`, or `?` with a filter")
-        return True
-
-    def _rest_of_slice(self) -> None:
-        self._blanks()
-        self._index()
-        before = self._at
-        self._blanks()
-        if self._take(":"):
-            self._blanks()
-            self._index()
-        else:
-            self._at = before
-
-    def _index(self) -> Optional[int]:
-        begin = self._at
-        found = self._match(_INT)
-        if found is None:
-            return None
-        if self._looking_at(*"0123456789") or found == "-0":
-            raise _Stopped(begin, "an index has no leading zeros")
-        if abs(int(found[:20])) > _MOST_INDEX:
-            raise _Stopped(begin, "an index is within -(2^53)+1 to 2^53-1")
-        return int(found)
+            return False
+        for group in (1, 3, 4):
+            _check_index(found.start(group), found[group] or "0")
+        self._at = found.end()
+        return found[2] is None
 
     def _text(self) -> None:
-        begin = self._at
         if self._match(_TEXT) is None:
-            raise _Stopped(begin, "this text in quotes has no end, or a character or an escape that is not allowed")
+            self._stop("this text in quotes has no end, or a character or an escape that is not allowed")
 
-    def _disjunction(self) -> None:
-        self._several("||", lambda: self._several("&&", self._basic))
-
-    def _several(self, between: str, part: Callable[[], None]) -> None:
-        part()
-        while True:
-            before = self._at
+    def _tests(self) -> None:
+        """Reads tests that `&&` and `||` join."""
+        self._basic()
+        while self._after_blanks("&&", "||"):
             self._blanks()
-            if not self._take(between):
-                self._at = before
-                return
-            self._blanks()
-            part()
+            self._basic()
 
     def _basic(self) -> None:
         negated = self._take("!")
@@ -204,48 +167,32 @@ class _Reader:
             self._blanks()
         if self._take("("):
             self._blanks()
-            self._disjunction()
+            self._tests()
             self._blanks()
             self._need(")", "`)` is missing here")
             return
         begin = self._at
         kind = self._operand()
-        before = self._at
-        self._blanks()
-        if self._match(_COMPARISON) is not None:
+        if self._after_blanks(*_COMPARISONS):
             if negated:
                 raise _Stopped(begin, "what `!` negates is in parentheses, if it is a comparison")
-            self._check_compared(begin, kind)
+            _check_compared(begin, kind)
             self._blanks()
             begin = self._at
-            self._check_compared(begin, self._operand())
-            return
-        if self._looking_at("="):
-            self._stop("one `=` compares nothing: write `==`")
-        self._at = before
-        if kind in ("literal", "length", "count", "value"):
+            _check_compared(begin, self._operand())
+        elif self._after_blanks("="):
+            raise _Stopped(self._at - 1, "one `=` compares nothing: write `==`")
+        elif kind in ("literal", "length", "count", "value"):
             raise _Stopped(begin, "a value by itself tests nothing: compare it, as by `==`")
-
-    def _check_compared(self, begin: int, kind: str) -> None:
-        if kind == "nodes":
-            raise _Stopped(begin, "only a query that leads to one value can be compared: without `*`, `..`, slices, "
-                                  "filters and several selectors")
-        if kind in ("match", "search"):
-            raise _Stopped(begin, f"`{kind}` is true or false by itself, and can't be compared")
 
     def _operand(self) -> str:
         """Reads a query, a literal or a call; what it is."""
-        if self._looking_at("$", "@"):
-            self._at += 1
+        if self._take("$", "@"):
             return "value of a query" if self._segments() else "nodes"
         if self._looking_at("'", '"'):
             self._text()
             return "literal"
-        if self._match(_WORD) is not None:
-            return "literal"
-        if self._number():
-            return "literal"
-        return self._call()
+        return "literal" if self._match(_WORD) is not None or self._number() else self._call()
 
     def _number(self) -> bool:
         begin = self._at
@@ -293,3 +240,18 @@ class _Reader:
         elif kind in ("nodes", "match", "search"):
             raise _Stopped(place, f"`{name}` needs a value, or a query that leads to one at most")
         return kind
+
+
+def _check_index(place: int, index: str) -> None:
+    if re.fullmatch("0|-?[1-9][0-9]*", index) is None:
+        raise _Stopped(place, "an index has no leading zeros")
+    if abs(int(index[:20])) > _MOST_INDEX:
+        raise _Stopped(place, "an index is within -(2^53)+1 to 2^53-1")
+
+
+def _check_compared(place: int, kind: str) -> None:
+    if kind == "nodes":
+        raise _Stopped(place, "only a query that leads to one value can be compared: without `*`, `..`, slices, "
+                              "filters and several selectors")
+    if kind in ("match", "search"):
+        raise _Stopped(place, f"`{kind}` is true or false by itself, and can't be compared")
