@@ -8,7 +8,7 @@ from typing import List, NamedTuple, Optional, Tuple
 from .cases import cases_of
 from .characters import DIGITS, NEVER, WORD, Characters, by_name, combined, of, outside, united
 from .properties import dialect_property
-from .tokens import Kind, NoPattern, Token
+from .tokens import Kind, NoPattern, Reader, Token
 
 __all__ = ["MOST_NESTED", "read_dialect", "script_in"]
 
@@ -71,10 +71,10 @@ def _deepest(parts: List[int]) -> int:
     return max(parts, default=0) + (len(parts) > 1)
 
 
-class _Reader:
+class _Reader(Reader):
     def __init__(self, pattern: str) -> None:
-        self._pattern, self._at, self._flags = pattern, 0, _Flags()
-        self.tokens: List[Token] = []
+        super().__init__(pattern)
+        self._flags = _Flags()
         self._groups = [_Group(0, self._flags, [[]])]
         self._names: List[str] = []
 
@@ -89,16 +89,10 @@ class _Reader:
             self._stop("this group is not closed")
         self._check(_deepest([_deepest(row) for row in self._groups[0].branches]), 0)
 
-    def _stop(self, message: str) -> None:
-        raise NoPattern(self._at, message)
-
     def _check(self, depth: int, begin: int) -> None:
         if depth > MOST_NESTED:
             self._at = begin
             self._stop(f"it nests deeper than {MOST_NESTED} levels")
-
-    def _is_at(self, *texts: str) -> bool:
-        return self._pattern.startswith(texts, self._at)
 
     def _next(self, length: int = 1) -> None:
         self._at += length
@@ -114,9 +108,6 @@ class _Reader:
                 self._at += 1
             else:
                 return
-
-    def _add(self, kind: Kind, value: object, begin: int) -> None:
-        self.tokens.append(Token(kind, value, self._pattern[begin:self._at]))
 
     def _part(self) -> None:
         begin, sign = self._at, self._pattern[self._at]
@@ -217,7 +208,6 @@ class _Reader:
         found = re.compile(r"\{\s*([0-9]+)\s*(?:(,)\s*([0-9]*)\s*)?\}").match(self._pattern, begin)
         if found is None:
             self._stop("a count is `{N}`, `{N,}` or `{N,M}`: else write `\\{`")
-            return 0, None
         least, most = int(found[1]), int(found[3]) if found[3] else None
         bounds = least, most if found[2] else least
         if max(least, most or 0) > _MOST_COUNT or (most is not None and most < least):
@@ -336,7 +326,6 @@ class _Reader:
         found = found or re.compile("([0-9A-Fa-f]{%d})" % most).match(self._pattern, self._at)
         if found is None:
             self._stop(f"{most} hexadecimal digits are missing here, or some in braces")
-            return 0
         self._at = found.end()
         return int(found[1], 16)
 
@@ -423,7 +412,6 @@ class _Reader:
         if code is None or last is None or last < code:
             self._at = hyphen
             self._stop("this is no range of characters: write `\\-` for the sign")
-            return NEVER, 0
         return Characters(united([(code, last)])), 0
 
     def _ends_after_hyphen(self) -> bool:

@@ -4,11 +4,11 @@ What only a pattern without the flag may have (its annex B.1.2) is read too, whe
 such as `\\-`, single brackets, and a hyphen beside `\\w` in a class. What has no counterpart in the store is refused.
 """
 import re
-from typing import List, NamedTuple, Optional, Tuple
+from typing import Any, List, NamedTuple, Optional, Tuple
 
-from .characters import DIGITS, LINE_ENDS, NEVER, SPACES, WORD, Characters, of, outside, united
+from .characters import DIGITS, LINE_ENDS, SPACES, WORD, Characters, of, outside, united
 from .properties import ecma_property
-from .tokens import Kind, NoPattern, Token
+from .tokens import Kind, Reader, Token
 
 __all__ = ["Read", "read_ecma"]
 
@@ -48,10 +48,11 @@ def read_ecma(pattern: str) -> Read:
     return Read(reader.tokens, reader.notes())
 
 
-class _Reader:
+class _Reader(Reader):
     def __init__(self, pattern: str) -> None:
-        self._pattern, self._at = pattern, 0
-        self.tokens: List[Token] = []
+        super().__init__(pattern)
+        # Which groups are open, by the places of their begins.
+        self._groups: List[int] = []
         # Where the pattern is none with the flag `u`, and the characters of classes that are no text by themselves.
         self._loose: Optional[Tuple[int, str]] = None
         self._surrogates = False
@@ -74,77 +75,55 @@ class _Reader:
 
     def read(self) -> None:
         """Reads the whole pattern."""
-        open_groups: List[int] = []
         while self._at < len(self._pattern):
-            sign = self._pattern[self._at]
-            if sign == "(":
-                open_groups.append(self._at)
-                self._group()
-            elif sign == ")":
-                if not open_groups:
-                    self._stop("no group is open here: write `\\)`")
-                open_groups.pop()
-                self._add(Kind.CLOSE, None, 1)
-            elif sign == "|":
-                self._add(Kind.OR, None, 1)
-            else:
-                self._part(sign)
-        if open_groups:
-            self._at = open_groups[-1]
+            begin = self._at
+            kind, value = self._part(self._pattern[begin])
+            self._add(kind, value, begin)
+        if self._groups:
+            self._at = self._groups[-1]
             self._stop("this group is not closed")
         if self._loose is not None and (self._has_far_range or _ONLY_WITH_FLAG.search(self._pattern)):
             self._at = self._loose[0]
             self._stop(f"{self._loose[1]} is not read with the flag `u`, which `\\p{{..}}`, `\\u{{..}}`, surrogate "
                        "pairs and ranges beyond U+FFFF need")
 
-    def _stop(self, message: str) -> None:
-        raise NoPattern(self._at, message)
-
-    def _add(self, kind: Kind, value: object, length: int) -> None:
-        self.tokens.append(Token(kind, value, self._pattern[self._at:self._at + length]))
-        self._at += length
-
     def _only_without_flag(self, what: str) -> None:
         if self._loose is None:
             self._loose = self._at, what
 
-    def _group(self) -> None:
-        if self._pattern.startswith(("(?=", "(?!"), self._at):
+    def _part(self, sign: str) -> Tuple[Kind, Any]:
+        edge = sign if sign in "^$" else self._pattern[self._at:self._at + 2]
+        count = _COUNT.match(self._pattern, self._at)
+        if edge in _EDGES:
+            self._at += len(edge)
+            return Kind.EDGE, _EDGES[edge]
+        if count is not None:
+            return Kind.COUNT, self._count(count)
+        if sign == "(":
+            self._open()
+            return Kind.OPEN, None
+        if sign not in ")|":
+            return Kind.CHARACTERS, self._characters(sign)
+        if sign == ")" and not self._groups:
+            self._stop("no group is open here: write `\\)`")
+        if sign == ")":
+            self._groups.pop()
+        self._at += 1
+        return Kind.OR if sign == "|" else Kind.CLOSE, None
+
+    def _open(self) -> None:
+        if self._is_at("(?=", "(?!"):
             self._stop("looking ahead is not possible in the store; a second pattern, by `allOf` or `not`, may say the "
                        "same")
-        if self._pattern.startswith(("(?<=", "(?<!"), self._at):
+        if self._is_at("(?<=", "(?<!"):
             self._stop("looking behind is not possible in the store")
         found = _GROUP.match(self._pattern, self._at)
         if found is None or self._pattern.startswith("?", found.end()):
             self._stop("ECMA-262 has no such group")
-        else:
-            self._add(Kind.OPEN, None, len(found.group()))
+        self._groups.append(self._at)
+        self._at = found.end()
 
-    def _part(self, sign: str) -> None:
-        """An edge, a count, or what matches one character."""
-        edge = sign if sign in "^$" else self._pattern[self._at:self._at + 2]
-        if edge in _EDGES:
-            self._add(Kind.EDGE, _EDGES[edge], len(edge))
-            return
-        count = _COUNT.match(self._pattern, self._at)
-        if count is not None:
-            self._count(count)
-            return
-        begin = self._at
-        if sign == "[":
-            value = self._bracket()
-        elif sign == ".":
-            value = Characters(outside(LINE_ENDS))
-            self._at += 1
-        elif sign == "\\":
-            value = self._escape(False)
-        else:
-            if sign in "]{}":
-                self._only_without_flag(f"`{sign}` without a backslash")
-            value = self._character()
-        self.tokens.append(Token(Kind.CHARACTERS, value, self._pattern[begin:self._at]))
-
-    def _count(self, found: "re.Match[str]") -> None:
+    def _count(self, found: "re.Match[str]") -> Tuple[int, Optional[int]]:
         if not self.tokens or self.tokens[-1].kind not in (Kind.CHARACTERS, Kind.CLOSE):
             self._stop("there is nothing here to repeat")
         sign, least, comma, most = found.groups()
@@ -156,7 +135,21 @@ class _Reader:
             self._stop("the least count is over the most")
         if max(bounds[0], bounds[1] or 0) > _MOST:
             self._stop("the store reads no such count")
-        self._add(Kind.COUNT, bounds, len(found.group()))
+        self._at = found.end()
+        return bounds
+
+    def _characters(self, sign: str) -> Characters:
+        """What matches one character."""
+        if sign == "[":
+            return self._bracket()
+        if sign == ".":
+            self._at += 1
+            return Characters(outside(LINE_ENDS))
+        if sign == "\\":
+            return self._escape(False)
+        if sign in "]{}":
+            self._only_without_flag(f"`{sign}` without a backslash")
+        return self._character()
 
     def _character(self) -> Characters:
         self._at += 1
@@ -218,7 +211,6 @@ class _Reader:
         value = ecma_property(found[2], found[3], found[1] == "P") if found is not None else None
         if found is None or value is None:
             self._stop("ECMA-262 has no such property; a script is `\\p{Script=NAME}`")
-            return NEVER
         self._at = found.end()
         return value
 
@@ -234,10 +226,10 @@ class _Reader:
 
     def _bracket(self) -> Characters:
         begin = self._at
-        is_negated = self._pattern.startswith("[^", begin)
+        is_negated = self._is_at("[^")
         self._at += 2 if is_negated else 1
         parts: List[Characters] = []
-        while not self._pattern.startswith("]", self._at):
+        while not self._is_at("]"):
             if self._at >= len(self._pattern):
                 self._at = begin
                 self._stop("this class is not closed")
@@ -253,15 +245,14 @@ class _Reader:
         """A character, a range of characters, or what an escape names."""
         begin = self._at
         low, low_code = self._member()
-        pattern = self._pattern
-        if not pattern.startswith("-", self._at) or pattern.startswith("-]", self._at) or self._at + 1 >= len(pattern):
+        if not self._is_at("-") or self._is_at("-]") or self._at + 1 >= len(self._pattern):
             return [low]
         hyphen = self._at
         self._at += 1
         high, high_code = self._member()
         if low_code is None or high_code is None:
             self._at, after = begin, self._at
-            self._only_without_flag(f"the hyphen in `{pattern[begin:after]}`")
+            self._only_without_flag(f"the hyphen in `{self._pattern[begin:after]}`")
             self._at = after
             return [low, of(ord("-")), high]
         if low_code > high_code:
@@ -272,7 +263,7 @@ class _Reader:
 
     def _member(self) -> Tuple[Characters, Optional[int]]:
         """What one member of a class matches, and its code if it is a character."""
-        if not self._pattern.startswith("\\", self._at):
+        if not self._is_at("\\"):
             code = ord(self._pattern[self._at])
             return self._character(), code
         before = self._at

@@ -1,8 +1,8 @@
 """The parts of a pattern, which are the same in ECMA-262 and in the store's dialect, and how they nest."""
 from enum import Enum
-from typing import Any, List, NamedTuple
+from typing import Any, List, NamedTuple, NoReturn
 
-__all__ = ["Kind", "NoPattern", "Token", "same"]
+__all__ = ["Kind", "NoPattern", "Reader", "Token", "same"]
 
 
 class Kind(Enum):
@@ -34,6 +34,24 @@ class NoPattern(Exception):
     def __init__(self, place: int, message: str) -> None:
         super().__init__(message)
         self.place, self.message = place, message
+
+
+class Reader:
+    """Reads a pattern from its begin to its end, and stops where it is none."""
+
+    def __init__(self, pattern: str) -> None:
+        self._pattern, self._at = pattern, 0
+        self.tokens: List[Token] = []
+
+    def _stop(self, message: str) -> NoReturn:
+        raise NoPattern(self._at, message)
+
+    def _is_at(self, *texts: str) -> bool:
+        return self._pattern.startswith(texts, self._at)
+
+    def _add(self, kind: Kind, value: Any, begin: int) -> None:
+        """Adds the part that begins at this character and ends here."""
+        self.tokens.append(Token(kind, value, self._pattern[begin:self._at]))
 
 
 def same(tokens: List[Token], others: List[Token]) -> bool:
