@@ -10,7 +10,6 @@ from typing import Any, Deque, Dict, List, NamedTuple, Optional, Sequence, Tuple
 
 from ..errors import JpstoreError
 from ..wire.replies import done, line_of_reply, refusal, seq_in
-from ..wire.values import canonical
 from .capacity import Need, Reckoning, Verdict
 from .changes import Line, line_in
 from .errors import Astray, Changed
@@ -175,21 +174,16 @@ class Applier:
         return done, replies[done] if done < len(group) else b""
 
     def _line(self, task: _Task, left: Sequence[int], before: Optional[Place], after: Place) -> bytes:
-        return marked([task.lines[at].text for at in left], key_of(self._log), before, after)
+        return marked([text for at in left for text in task.lines[at].texts], key_of(self._log), before, after)
 
     def _take(self, after: Place, task: _Task, left: Sequence[int], reply: bytes) -> None:
         """Takes lines as accepted by this reply, and the place after them."""
-        texts: List[bytes] = []
-        sizes: List[int] = []
         for at in left:
-            some = _texts_of(task.lines[at])
-            texts += some
-            sizes.append(len(some))
-            task.answers[at] = done(self.seq + len(texts))
-        if seq_in(reply) != self.seq + len(texts):
-            raise Astray(f"the store answered {reply.decode().strip()} for change {self.seq + len(texts)}")
-        self.seq += len(texts)
-        self.history.add(texts, sizes)
+            self.seq += len(task.lines[at].changes)
+            task.answers[at] = done(self.seq)
+        if seq_in(reply) != self.seq:
+            raise Astray(f"the store answered {reply.decode().strip()} for change {self.seq}")
+        self.history.add(task.lines[at].texts for at in left)
         self.place = self._stored = after
 
     async def _settle(self, task: _Task, reply: bytes) -> Done:
@@ -265,10 +259,3 @@ def _as_alone(told: Dict[str, int], line: Line, begin: int) -> bytes:
     if line.several and change is not None:
         told["change"] = change - begin
     return line_of_reply(told)
-
-
-def _texts_of(line: Line) -> List[bytes]:
-    """The text of each change of a line."""
-    if not line.several:
-        return [line.text]
-    return [canonical(each) for each in json.loads(b"[" + line.text + b"]")]

@@ -2,7 +2,7 @@
 import json
 from typing import Any, Dict, List, NamedTuple, Tuple
 
-from ..wire.commands import changes_in, texts_in_transaction
+from ..wire.commands import changes_in
 from ..wire.forms import TRANSACTION
 from ..wire.limits import MOST_DOCUMENT_BYTES
 from ..wire.store_frames import length_of_frames
@@ -28,16 +28,16 @@ class Change(NamedTuple):
 
 
 class Line(NamedTuple):
-    """A line of the log: the texts of its changes as a list without brackets, and what they are."""
+    """A line of the log: the texts of its changes, whether they are a transaction, and what they are."""
 
-    text: bytes
+    texts: List[bytes]
     several: bool
     changes: Tuple[Change, ...]
 
     @property
     def cost(self) -> int:
-        """The bytes that its changes take in a file."""
-        return length_of_frames(len(self.text), len(self.changes))
+        """The bytes that its changes take in a file, and a comma between two."""
+        return length_of_frames(sum(map(len, self.texts)) + len(self.texts) - 1, len(self.changes))
 
     @property
     def growth(self) -> int:
@@ -48,12 +48,9 @@ class Line(NamedTuple):
 def line_in(text: bytes) -> Line:
     """A line of the log, which is the compact text of a change or of a transaction."""
     command: Dict[str, Any] = json.loads(text)
-    several = command["cmd"] == TRANSACTION
-    inner = texts_in_transaction(text) if several else text[:-1]
-    commands = changes_in(command)
-    if not several:
-        return Line(inner, False, (_change(command, len(inner)),))
-    return Line(inner, True, tuple(_change(each, len(canonical(each))) for each in commands))
+    several, commands = command["cmd"] == TRANSACTION, changes_in(command)
+    texts = [canonical(each) for each in commands] if several else [text[:-1]]
+    return Line(texts, several, tuple(map(_change, commands, map(len, texts))))
 
 
 def _change(command: Dict[str, Any], length: int) -> Change:

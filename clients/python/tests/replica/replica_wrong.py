@@ -70,7 +70,7 @@ WRONG = [
     Wrong("a node that tells the place of a change in the entry", "applying.py",
           'told["change"] = change - begin', 'told["change"] = change', "refusals_in_one_entry"),
     Wrong("a node that numbers the lines of an entry by their last change", "applying.py",
-          "done(self.seq + len(texts))", "done(self.seq + 1)", "refusals_in_one_entry"),
+          "= done(self.seq)", "= done(seq_in(reply) or 0)", "refusals_in_one_entry"),
     Wrong("marks that ask for none before, so that an entry is done after one that was refused", "place.py",
           "before and before.text", "False", rounds=8),
     Wrong("questions that are asked of no majority", "running.py",
