@@ -11,7 +11,7 @@ from ..wire.replies import refusal
 from ..wire.standard_streams import complain
 from ..wire.store_frames import length_of_frames
 from .applying import Applier
-from .capacity import FULL, Room
+from .capacity import FULL
 from .changes import LINES_OF_ENTRY
 from .engine import NoSpace, Rejected
 from .line_reader import MOST_TEXT
@@ -44,8 +44,8 @@ class _Waiting(NamedTuple):
 class Appending:
     """Appends an entry at a time. What comes meanwhile shares the next one."""
 
-    def __init__(self, node: str, room: Room, applier: Applier) -> None:
-        self._node, self._room, self._applier = node, room, applier
+    def __init__(self, node: str, applier: Applier) -> None:
+        self._node, self._room, self._applier = node, applier.room, applier
         self._waiting: Deque[_Waiting] = deque()
         self._flying: Dict[str, List[_Waiting]] = {}
         self._more, self._space = asyncio.Event(), asyncio.Event()

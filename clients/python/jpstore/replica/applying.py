@@ -68,6 +68,8 @@ class Applier:
     def __init__(self, store: ReplicaStore, agreed: Agreed, stored: Optional[Place], place: Place,
                  version: str) -> None:
         self._store, self._log, self._reckoning = store, agreed.log, Reckoning(agreed.capacity)
+        #: What the agreed capacity has room for.
+        self.room = self._reckoning.room
         #: The version of the program.
         self.version = version
         #: The place of the store, and the number of its last change.

@@ -70,7 +70,7 @@ class Reckoning:
     """Upper bounds of what the documents of a store have, and the verdicts by them."""
 
     def __init__(self, capacity: int) -> None:
-        self._room = room_of(capacity)
+        self.room = room_of(capacity)
         # The length of a snapshot at most, and whether it is exact; nothing is known at first.
         self._total, self._exact, self._known = 0, False, False
         self._lengths: Dict[str, int] = {}
@@ -83,15 +83,15 @@ class Reckoning:
 
     def _without_room(self, lines: Sequence[Line]) -> Dict[int, int]:
         growth = sum(line.growth for line in lines)
-        out = {place: FULL for place, line in enumerate(lines) if line.cost > self._room.changes}
+        out = {place: FULL for place, line in enumerate(lines) if line.cost > self.room.changes}
         # The mark may be longer than it was when the snapshot was measured.
-        if self._known and self._total + growth + MOST_MARK <= self._room.documents:
+        if self._known and self._total + growth + MOST_MARK <= self.room.documents:
             return out
         if not self._exact:
             raise Need(True, set())
         total = self._total
         for place, line in enumerate(lines):
-            if line.growth and total + line.growth > self._room.documents:
+            if line.growth and total + line.growth > self.room.documents:
                 out[place] = FULL
             elif place not in out:
                 total += line.growth
@@ -104,7 +104,7 @@ class Reckoning:
             if place not in out:
                 weights[place] = sum(self._weight(change, lengths) for change in line.changes)
         # A node makes no larger entries, so this holds unless one has a fault.
-        fits = (sum(lines[place].cost for place in weights) <= min(self._room.changes, MOST_TEXT)
+        fits = (sum(lines[place].cost for place in weights) <= min(self.room.changes, MOST_TEXT)
                 and sum(len(lines[place].changes) for place in weights) <= limits.MOST_CHANGES)
         if sum(weights.values()) <= limits.MOST_TRANSACTION_BYTES:
             return Verdict(out, fits)

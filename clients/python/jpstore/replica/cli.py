@@ -62,11 +62,11 @@ def _init(words: argparse.Namespace) -> None:
 
 def _serve(words: argparse.Namespace) -> int:
     from .node import Settings
-    from .running import Serving, run_node
+    from .running import run_node
     _check_node(words.node)
-    serving = Serving(words.file, _members(words), words.log, words.socket, words.local,
-                      getattr(words, "program", None), words.pump, getattr(words, "wait", 20.0), words.first)
-    return run_node(serving, Settings(words.node, words.patience, words.compare))
+    return run_node(Settings(
+        words.node, words.file, _members(words), words.log, words.socket, words.local, getattr(words, "program", None),
+        words.pump, getattr(words, "wait", 20.0), words.first, words.patience, words.compare))
 
 
 def _join(words: argparse.Namespace) -> None:

@@ -3,15 +3,14 @@ import asyncio
 import contextlib
 import time
 from collections import deque
-from typing import IO, Any, Awaitable, Callable, Deque, Dict, List, NamedTuple, Optional, TypeVar
+from typing import IO, Any, Awaitable, Callable, Deque, Dict, List, NamedTuple, Optional, Sequence, TypeVar
 
 from ..errors import JpstoreError
 from .appending import Appending
 from .applying import Applier, Done, OtherVersion
-from .capacity import Room
 from .copying import Copy, copy_of
 from .digest import Comparing, digest_of
-from .engine import NoAnswer, NoSpace, Rejected, Trimmed
+from .engine import Member, NoAnswer, NoSpace, Rejected, Trimmed
 from .export import export
 from .log import PATIENCE, Entry, EntryKind, Head, Log
 from .questions import Asking
@@ -34,29 +33,42 @@ _SILENCE = 0.7
 
 
 class Settings(NamedTuple):
-    """The settings of a node: its name, how long clients wait, and how often nodes are compared."""
+    """What a node serves: a file, a log, and the sockets of its clients; its name, how long clients wait, and how often
+    nodes are compared."""
 
     node: str
+    file: str
+    members: Sequence[Member]
+    log: str
+    socket: str
+    local: Optional[str] = None
+    program: Optional[str] = None
+    pump: int = 0
+    wait: float = 0
+    first: int = 0
     patience: float = 10.0
     compare: float = 60.0
+
+    def new_log(self) -> Log:
+        """The log, for one more task."""
+        return Log(self.members, self.log, self.first)
 
 
 class Node:
     """The tasks of a node. They run until one of them fails, or the node is stopped."""
 
-    def __init__(self, settings: Settings, store: ReplicaStore, applier: Applier, room: Room,
-                 logs: Callable[[], Log]) -> None:
-        self._settings, self._store, self._applier, self._logs = settings, store, applier, logs
+    def __init__(self, settings: Settings, store: ReplicaStore, applier: Applier) -> None:
+        self._settings, self._store, self._applier, self._logs = settings, store, applier, settings.new_log
         #: The changes that the node has made since it started, and those who wait for further ones.
         self.history, self.news = applier.history, News()
         self._woken, self._space = asyncio.Event(), asyncio.Event()
         self._entries: Deque[Entry] = deque()
         self._jobs: Deque[Callable[[], Awaitable[None]]] = deque()
         #: Changes and questions on their way.
-        self.appending = Appending(settings.node, room, applier)
+        self.appending = Appending(settings.node, applier)
         self.asking = Asking(Head(applier.place.n, applier.place.r), self._woken.set)
-        self._comparing = Comparing(settings.node, settings.compare, logs)
-        self._watched = logs().watch()
+        self._comparing = Comparing(settings.node, settings.compare, self._logs)
+        self._watched = self._logs().watch()
         self._received = Head(applier.place.n, applier.place.r)
         self._held = 0
         # When the store had all that a majority had, and since when the watch shows nothing new.

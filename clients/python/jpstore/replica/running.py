@@ -4,23 +4,20 @@ import faulthandler
 import os
 import signal
 import sys
-from typing import Any, Awaitable, Dict, List, NamedTuple, Optional, Sequence
+from typing import Any, Awaitable, Dict, List
 
 from ..errors import JpstoreError
 from ..wire.standard_streams import announce
 from .applying import Applier
-from .capacity import room_of
 from .clients import Clients
-from .engine import Member
 from .errors import Astray, Changed
-from .log import Log
 from .node import Node, Settings
 from .place import begin_of, furthest
 from .store import ReplicaStore, judge_of
 from .tasks import end_tasks
 from .unix_socket import Listening, check_free
 
-__all__ = ["Serving", "run_node"]
+__all__ = ["run_node"]
 
 _BACKLOG = 1024
 
@@ -31,25 +28,11 @@ _FAREWELL = 5.0
 _OURS: Dict[str, Any] = {"cleanup_socket": False} if sys.version_info >= (3, 13) else {}
 
 
-class Serving(NamedTuple):
-    """What a node serves: a file, a log, and the sockets of its clients."""
-
-    file: str
-    members: Sequence[Member]
-    log: str
-    socket: str
-    local: Optional[str] = None
-    program: Optional[str] = None
-    pump: int = 0
-    wait: float = 0
-    first: int = 0
-
-
 class _Sockets:
     """The sockets of a node, and those who are connected to them."""
 
-    def __init__(self, node: Node, serving: Serving) -> None:
-        self._paths = [(serving.socket, True)] + ([(serving.local, False)] if serving.local else [])
+    def __init__(self, node: Node, settings: Settings) -> None:
+        self._paths = [(settings.socket, True)] + ([(settings.local, False)] if settings.local else [])
         self._clients = [Clients(node, linear) for _, linear in self._paths]
         self._servers: List[asyncio.AbstractServer] = []
         self._listening: List[Listening] = []
@@ -70,40 +53,37 @@ class _Sockets:
             await clients.close()
 
 
-async def _made(serving: Serving, settings: Settings, store: ReplicaStore) -> Node:
+async def _made(settings: Settings, store: ReplicaStore) -> Node:
     """The node, after its file was found to be one of the log."""
-    def logs() -> Log:
-        return Log(serving.members, serving.log, serving.first)
-    agreed, nodes = await logs().agreed(None), await logs().nodes(None)
+    agreed, nodes = await settings.new_log().agreed(None), await settings.new_log().nodes(None)
     stored = await store.place(agreed)
     if store.status["capacity"] < agreed.capacity:
-        raise JpstoreError(f"{serving.file} has halves of {store.status['capacity']:,} bytes, and the nodes have "
+        raise JpstoreError(f"{store.file} has halves of {store.status['capacity']:,} bytes, and the nodes have "
                            f"agreed on {agreed.capacity:,} at least: make the store in a larger file by `replica join`")
     place = furthest(stored or begin_of(agreed), nodes.get(settings.node, {}), agreed.log, store.status["seq"])
-    applier = Applier(store, agreed, stored, place, judge_of(serving.program))
-    return Node(settings, store, applier, room_of(agreed.capacity), logs)
+    return Node(settings, store, Applier(store, agreed, stored, place, judge_of(settings.program)))
 
 
-async def _run(serving: Serving, settings: Settings, store: ReplicaStore) -> None:
+async def _run(settings: Settings, store: ReplicaStore) -> None:
     """Runs the node, once etcd answers, until it is cancelled or something fails."""
-    node = await _made(serving, settings, store)
-    sockets = _Sockets(node, serving)
+    node = await _made(settings, store)
+    sockets = _Sockets(node, settings)
 
     async def begun() -> None:
         await sockets.open()
         place = f"entry {node.told()['applied']}"
-        announce(f"{serving.file} is served as node {settings.node} at {serving.socket}, from {place} on")
+        announce(f"{settings.file} is served as node {settings.node} at {settings.socket}, from {place} on")
     try:
         await node.run(begun)
     finally:
         await sockets.close()
 
 
-async def _serve(serving: Serving, settings: Settings) -> None:
-    check_free(serving.socket)
-    store = await ReplicaStore.open(serving.file, serving.program, serving.pump, serving.wait)
+async def _serve(settings: Settings) -> None:
+    check_free(settings.socket)
+    store = await ReplicaStore.open(settings.file, settings.program, settings.pump, settings.wait)
     try:
-        await _until_stopped(_run(serving, settings, store), store)
+        await _until_stopped(_run(settings, store), store)
     finally:
         ended = await store.close()
     if ended.status != 0:
@@ -131,17 +111,18 @@ def _stop(stopped: "asyncio.Future[None]") -> None:
     faulthandler.dump_traceback_later(_FAREWELL, exit=True)
 
 
-def run_node(serving: Serving, settings: Settings) -> int:
+def run_node(settings: Settings) -> int:
     """Serves a node until it is ended by SIGTERM or SIGINT; returns 0.
 
     `Astray`, `WrongLog`, `Trimmed` and `Changed` are raised if the store can't go on, and must be made anew. After any
     other error a new start may go on.
     """
-    astray = serving.file + ".astray"
+    astray = settings.file + ".astray"
     if os.path.lexists(astray):
-        raise Astray(f"the store in {serving.file} has left the log, as {astray} tells: make it anew by `replica join`")
+        raise Astray(f"the store in {settings.file} has left the log, as {astray} tells: make it anew by `replica "
+                     "join`")
     try:
-        asyncio.run(_serve(serving, settings))
+        asyncio.run(_serve(settings))
     except (Astray, Changed) as error:
         with open(astray, "w", encoding="utf-8") as opened:
             opened.write(f"{error}\n")

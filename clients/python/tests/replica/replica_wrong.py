@@ -74,7 +74,8 @@ WRONG = [
     Wrong("marks that ask for none before, so that an entry is done after one that was refused", "place.py",
           "before and before.text", "False", rounds=8),
     Wrong("questions that are asked of no majority", "running.py",
-          "self._paths = [(serving.socket, True)]", "self._paths = [(serving.socket, False)]", "reads_at_another_node"),
+          "self._paths = [(settings.socket, True)]", "self._paths = [(settings.socket, False)]",
+          "reads_at_another_node"),
     Wrong("an answer before the change is made here", "appending.py",
           "                self._refusing = False\n",
           "                self._refusing = False\n"
@@ -83,7 +84,7 @@ WRONG = [
           "                    waiting.answer.set_result(reply)\n",
           rounds=6),
     Wrong("a change that its own file has no room for is left to the store", "capacity.py",
-          "if self._known and self._total + growth + MOST_MARK <= self._room.documents:", "if True:", "full_store"),
+          "if self._known and self._total + growth + MOST_MARK <= self.room.documents:", "if True:", "full_store"),
     Wrong("a heavy entry that is sent as one transaction", "capacity.py",
           "if sum(weights.values()) <= limits.MOST_TRANSACTION_BYTES:", "if True:", "heavy_entries"),
     Wrong("a log that isn't kept for a node that is being made", "init_join.py",
