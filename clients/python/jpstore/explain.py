@@ -5,7 +5,9 @@ from dataclasses import dataclass
 from typing import Any, Callable, Dict, Iterable, Iterator, List, Optional, Sequence
 
 from .errors import Invalid, JpstoreError
+from .faults.depths import values_in
 from .faults.references import References
+from .faults.words import pointer_of
 from .patterns import finds
 from .wire.values import escaped
 
@@ -151,24 +153,11 @@ def _fault(error: Any, schema: Any) -> Fault:
 
 def _keyword(error: Any, schema: Any) -> str:
     """The place of the keyword in the schema; that in the `$defs` if a `$ref` leads there."""
-    place = _place_of(error.schema, schema)
+    places = (trail for trail, part in values_in(schema) if part is error.schema)
+    place = next(places, None) if isinstance(error.schema, dict) else None
     if place is None or not isinstance(error.validator, str):
         return _pointer(error.absolute_schema_path)
-    return f"{place}/{escaped(error.validator)}"
-
-
-def _place_of(part: Any, schema: Any) -> Optional[str]:
-    """Where this very object is in the schema."""
-    waiting = [("", schema)]
-    while waiting:
-        place, value = waiting.pop()
-        if value is part and isinstance(value, dict):
-            return place
-        if isinstance(value, dict):
-            waiting.extend((f"{place}/{escaped(name)}", member) for name, member in value.items())
-        elif isinstance(value, (list, tuple)):
-            waiting.extend((f"{place}/{index}", item) for index, item in enumerate(value))
-    return None
+    return pointer_of((place, error.validator))
 
 
 def _pointer(tokens: Iterable[Any]) -> str:

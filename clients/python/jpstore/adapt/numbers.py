@@ -3,6 +3,7 @@ import math
 from fractions import Fraction
 from typing import Any, Tuple
 
+from ..faults.depths import values_in
 from ..wire.values import LEAST, MOST
 
 __all__ = ["BOUNDS", "bound", "divisor", "has_unsendable"]
@@ -27,13 +28,5 @@ def divisor(value: float) -> int:
 
 def has_unsendable(value: Any) -> bool:
     """Whether a value has a number that no line can carry."""
-    waiting = [value]
-    while waiting:
-        part = waiting.pop()
-        if isinstance(part, dict):
-            waiting.extend(part.values())
-        elif isinstance(part, list):
-            waiting.extend(part)
-        elif isinstance(part, float) or (isinstance(part, int) and not LEAST <= part <= MOST):
-            return True
-    return False
+    return any(isinstance(part, float) or (isinstance(part, int) and not LEAST <= part <= MOST)
+               for _, part in values_in(value))

@@ -5,7 +5,7 @@ from typing import Any, Dict, Iterator, Tuple
 from ..wire.forms import CHANGES, FORMS, MARKING, TRANSACTION, Kind, Members
 from ..wire.limits import MOST_CHANGES, MOST_TOLD_BYTES
 from .depths import deeper_than
-from .words import nearest, place_in, shown
+from .words import nearest, perhaps, place_in, shown
 
 __all__ = ["NO_MARKS", "fault_of_depth", "fault_of_form", "fault_of_name"]
 
@@ -34,9 +34,8 @@ def fault_of_form(command: Any, words: Tuple[str, ...] = tuple(FORMS)) -> str:
         return "it lacks `cmd`, which says what to do"
     word = command["cmd"]
     if not isinstance(word, str) or word not in words:
-        near = nearest(word, words) if isinstance(word, str) else None
-        return f"`cmd` is {shown(word)}, and no such {'command' if len(words) > len(CHANGES) else 'change'} exists" + (
-            f": perhaps \"{near}\" is meant" if near else f"; it is one of {', '.join(words)}")
+        what = "command" if len(words) > len(CHANGES) else "change"
+        return f"`cmd` is {shown(word)}, and no such {what} exists{perhaps(word, words)}"
     if MARKING.keys() & command.keys() and len(words) > len(CHANGES) and FORMS[word].kind is Kind.CHANGE:
         # In a line alone.
         return _fault_of_mark(word, command)

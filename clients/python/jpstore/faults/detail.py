@@ -5,11 +5,9 @@ from .command import fault_of_depth, fault_of_form, fault_of_name
 from .patch import fault_of_patch, fault_of_pointer
 from .query import fault_of_query
 from .schema import faults_of_schema, unsure_of_schema
-from .words import place_in
+from .words import place_in, text_at
 
 __all__ = ["detail_of"]
-
-_MOST_LETTERS = 20
 
 
 def detail_of(number: int, command: Optional[Dict[str, Any]], operation: Optional[int] = None) -> str:
@@ -52,11 +50,4 @@ def _of_query(number: int, query: Any) -> str:
     fault = fault_of_query(query) if isinstance(query, str) else None
     if fault is None or fault.number != number:
         return ""
-    rest = fault_text(str(query), fault.place)
-    return f"at character {fault.place + 1}{rest}: {fault.message}"
-
-
-def fault_text(query: str, place: int) -> str:
-    """What is at the place, if anything is."""
-    rest = query[place:place + _MOST_LETTERS]
-    return f" (`{rest}{'..' if len(query) > place + _MOST_LETTERS else ''}`)" if rest else " (the end)"
+    return f"at character {fault.place + 1}{text_at(query, fault.place)}: {fault.message}"

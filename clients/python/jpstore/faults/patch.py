@@ -2,7 +2,7 @@
 import re
 from typing import Any, Dict, List, Optional
 
-from .words import nearest, place_in, shown
+from .words import perhaps, place_in, shown
 
 __all__ = ["fault_of_patch", "fault_of_pointer"]
 
@@ -53,9 +53,7 @@ def _fault_of_shape(operation: Any) -> str:
         return "it lacks `op`, which says what to do"
     word = operation["op"]
     if not isinstance(word, str) or word not in _MEMBERS:
-        near = nearest(word, _MEMBERS) if isinstance(word, str) else None
-        return f"`op` is {shown(word)}" + (f": perhaps \"{near}\" is meant" if near
-                                           else f"; it is one of {', '.join(_MEMBERS)}")
+        return f"`op` is {shown(word)}{perhaps(word, tuple(_MEMBERS))}"
     missing = next((name for name in _MEMBERS[word] if name not in operation), None)
     if missing is not None:
         return f"`{word}` lacks `{missing}`"

@@ -9,7 +9,8 @@ from .words import Trail, nearest, place_in, pointer_of, shown
 
 __all__ = ["References", "is_anchor", "reference_to"]
 
-_REFERENCE = re.compile(r"#/\$defs/([A-Za-z0-9_.-]+)")
+# All that profile 2 reads, but for the whole schema.
+_REFERENCE = re.compile(r"#/\$defs/[A-Za-z0-9_.-]+")
 
 # The name of a schema (JSON Schema Core, section 8.2.2).
 _ANCHOR = re.compile("[A-Za-z_][-A-Za-z0-9._]*")
@@ -56,14 +57,8 @@ class References:
         return self._known[reference]
 
     def _target(self, reference: str) -> Optional[_Place]:
-        if self._profile > 2:
-            return self._in_profile_3(reference)
-        if reference == "#":
-            return (), self._root
-        found = _REFERENCE.fullmatch(reference)
-        if found is None or not isinstance(self._defs, dict) or found[1] not in self._defs:
-            return None
-        return (((), "$defs"), found[1]), self._defs[found[1]]
+        is_read = self._profile > 2 or reference == "#" or _REFERENCE.fullmatch(reference)
+        return self._in_profile_3(reference) if is_read else None
 
     def _in_profile_3(self, reference: str) -> Optional[_Place]:
         fragment = self._fragment(reference)

@@ -11,7 +11,7 @@ from ..wire.values import canonical
 from .depths import deeper_than
 from .positions import subschemas
 from .references import References, is_anchor
-from .words import Trail, place_in, pointer_of, shown
+from .words import Trail, place_in, pointer_of, shown, text_at
 
 __all__ = ["DIALECT", "FORMAT_3_ONLY", "NOT_SUPPORTED", "SchemaFault", "faults_of_schema", "told_pattern",
            "unsure_of_schema"]
@@ -39,9 +39,6 @@ _MOST_BYTES, _MOST_LEVELS, _MOST_PATTERNS, _MOST_PATTERN_BYTES = 262_144, 64, 64
 
 # The most steps of a loop that are shown.
 _MOST_STEPS = 4
-
-# So many letters of a pattern are shown.
-_MOST_LETTERS = 20
 
 _TYPES = ("null", "boolean", "object", "array", "number", "string", "integer")
 
@@ -214,9 +211,7 @@ def unsure_of_schema(schema: Any) -> str:
 
 def told_pattern(pattern: str, none: NoPattern) -> str:
     """Where a text is no pattern, and why."""
-    rest = pattern[none.place:none.place + _MOST_LETTERS]
-    shown_rest = f" (`{rest}{'..' if len(pattern) > none.place + _MOST_LETTERS else ''}`)" if rest else " (the end)"
-    return f"it is no pattern from character {none.place + 1}{shown_rest} on: {none.message}"
+    return f"it is no pattern from character {none.place + 1}{text_at(pattern, none.place)} on: {none.message}"
 
 
 def _told_loop(loop: List[Trail]) -> str:
@@ -226,8 +221,13 @@ def _told_loop(loop: List[Trail]) -> str:
 
 
 def _no_schema(trail: Trail, part: Any) -> str:
-    earlier = _EARLIER_FORMS.get((trail[1] if trail else "", type(part).__name__))
-    return f"{shown(part)} is no schema: it is an object, true or false" + (f" ({earlier})" if earlier else "")
+    return f"{shown(part)} is no schema: it is an object, true or false{_hint(trail[1] if trail else '', part)}"
+
+
+def _hint(word: Any, value: Any) -> str:
+    """What is said of a value that the keyword had in earlier drafts."""
+    earlier = _EARLIER_FORMS.get((word, type(value).__name__))
+    return f" ({earlier})" if earlier else ""
 
 
 def _of_member(references: References, profile: int, trail: Trail, word: Any, value: Any) -> Iterator[SchemaFault]:
@@ -239,9 +239,7 @@ def _of_member(references: References, profile: int, trail: Trail, word: Any, va
     elif word in ("$id", "$schema"):
         fault = _of_identity(bool(trail), word, value)
     elif word in _FORMS and not _FORMS[word][0](value):
-        earlier = _EARLIER_FORMS.get((word, type(value).__name__))
-        hint = f" ({earlier})" if earlier else ""
-        fault = 40, f"`{word}` is {shown(value)}, and must be {_FORMS[word][1]}{hint}"
+        fault = 40, f"`{word}` is {shown(value)}, and must be {_FORMS[word][1]}{_hint(word, value)}"
     elif word == "$ref" and references.target(value) is None:
         fault = 42, references.dangling(value, f"`{called()} schema adapt`")
     if fault is not None:

@@ -2,16 +2,16 @@
 import difflib
 import json
 from itertools import islice
-from typing import Any, Iterable, List, Optional, Tuple
+from typing import Any, Iterable, List, Optional, Sequence, Tuple
 
 from ..wire.values import escaped
 
-__all__ = ["Trail", "nearest", "place_in", "pointer_of", "shown"]
+__all__ = ["Trail", "nearest", "perhaps", "place_in", "pointer_of", "shown", "text_at"]
 
 #: The way to a value: that to its parent, and the name or the index in it. A pointer for each would be long for many.
 Trail = Tuple[Any, ...]
 
-_MOST_LETTERS = 60
+_MOST_LETTERS, _FEW_LETTERS = 60, 20
 
 # A list or an object with more is not shown.
 _MOST_MEMBERS = 4
@@ -41,6 +41,18 @@ def nearest(word: str, known: Iterable[str]) -> Optional[str]:
     short = (name for name in islice(known, _MOST_NAMES) if len(name) <= _MOST_LETTERS)
     found = difflib.get_close_matches(word, short, 1, 0.6)
     return found[0] if found else None
+
+
+def perhaps(word: Any, known: Sequence[str]) -> str:
+    """What is said after a word that isn't known: which one is meant, or which ones there are."""
+    near = nearest(word, known) if isinstance(word, str) else None
+    return f": perhaps \"{near}\" is meant" if near else f"; it is one of {', '.join(known)}"
+
+
+def text_at(text: str, place: int) -> str:
+    """What is at a place of a text, in a few letters."""
+    rest = text[place:place + _FEW_LETTERS]
+    return f" (`{rest}{'..' if len(text) > place + _FEW_LETTERS else ''}`)" if rest else " (the end)"
 
 
 def pointer_of(trail: Trail) -> str:

@@ -11,6 +11,7 @@ reckons the same:
 
 The lengths are measured only if bounds that are easily kept don't decide. That changes no verdict.
 """
+import math
 from typing import Dict, List, NamedTuple, Sequence, Set
 
 from ..wire import limits
@@ -72,7 +73,7 @@ class Reckoning:
     def __init__(self, capacity: int) -> None:
         self.room = room_of(capacity)
         # The length of a snapshot at most, and whether it is exact; nothing is known at first.
-        self._total, self._exact, self._known = 0, False, False
+        self._total, self._exact = math.inf, False
         self._lengths: Dict[str, int] = {}
         self._measured: Set[str] = set()
 
@@ -85,7 +86,7 @@ class Reckoning:
         growth = sum(line.growth for line in lines)
         out = {place: FULL for place, line in enumerate(lines) if line.cost > self.room.changes}
         # The mark may be longer than it was when the snapshot was measured.
-        if self._known and self._total + growth + MOST_MARK <= self.room.documents:
+        if self._total + growth + MOST_MARK <= self.room.documents:
             return out
         if not self._exact:
             raise Need(True, set())
@@ -129,7 +130,7 @@ class Reckoning:
     async def measure(self, need: Need, store: ReplicaStore) -> None:
         """Measures what a verdict needs, at the place of the log where the store is."""
         if need.total:
-            self._total, self._exact, self._known = await store.snapshot_length(), True, True
+            self._total, self._exact = await store.snapshot_length(), True
         if need.names:
             self._lengths.update(await store.lengths(sorted(need.names)))
             self._measured |= need.names

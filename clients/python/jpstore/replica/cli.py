@@ -1,5 +1,6 @@
 """The words of `python3 -m jpstore replica`, and what each does."""
 import argparse
+import contextlib
 import json
 import re
 import time
@@ -36,12 +37,9 @@ def _with_log(words: argparse.Namespace, do: "Callable[[Log], Awaitable[T]]") ->
     from .log import Log
 
     async def with_log() -> T:
-        log = Log(_members(words), words.log)
-        try:
+        with contextlib.closing(Log(_members(words), words.log)) as log:
             await log.agreed()
             return await do(log)
-        finally:
-            log.close()
     return asyncio.run(with_log())
 
 
@@ -78,8 +76,10 @@ def _join(words: argparse.Namespace) -> None:
 
 
 def _status(words: argparse.Namespace) -> None:
+    from .log import PLACES
+
     async def read(log: "Log") -> Dict[str, Any]:
-        agreed, head, nodes = await log.agreed(), await log.head(), await log.nodes()
+        agreed, head, nodes = await log.agreed(), await log.head(), await log.told(PLACES)
         return {"capacity": agreed.capacity, "head": head.n, "log": agreed.log, "nodes": nodes}
     told = _with_log(words, read)
     rows = [f"log {told['log']}, {told['head']:,} entries, capacity {told['capacity']:,}"]

@@ -109,7 +109,7 @@ class _Client:
     async def _own(self, command: Dict[str, Any], lines: AsyncIterator[bytes]) -> bool:
         """Answers a line that is for the node itself; returns whether further lines may come."""
         if command["cmd"] == "watch":
-            await serve_watch(command, lines, self._writer, self._node.history, self._node.news)
+            await serve_watch(command, lines, self._writer, self._node.history)
             return False
         if command["cmd"] == "node":
             told = {"ok": True, **self._node.told()}
@@ -139,5 +139,5 @@ class _Client:
         except (OSError, JpstoreError) as error:
             self._writer.write(json.dumps({"error": str(error), "ok": False}).encode() + b"\n")
             return
-        self._writer.write(copy.line())
+        self._writer.write(copy.line)
         await send(copy.spool, self._writer)

@@ -19,30 +19,18 @@ _IN_MEMORY = 1 << 22
 
 
 class Copy(NamedTuple):
-    """The bytes that begin a store's file, and the committed ones in its half.
+    """The line that comes before the bytes of a store, and a file with these."""
 
-    How many bytes these are together, how many of them begin the file, where the others belong, and a file with both.
-    `mode` are the permission bits of the store's file, and `place` is the text of its place in the log.
-    """
-
-    length: int
-    head: int
-    begin: int
-    sectors: int
-    seq: int
+    line: bytes
     spool: IO[bytes]
-    mode: int
-    place: str
-
-    def line(self) -> bytes:
-        """The line that comes before the bytes."""
-        told = {"begin": self.begin, "bytes": self.length, "head": self.head, "mode": self.mode, "ok": True,
-                "place": self.place, "sectors": self.sectors, "seq": self.seq}
-        return line_of_reply(told)
 
 
 def copy_of(file: str, place: str) -> Copy:
-    """The bytes of a store that nobody writes now."""
+    """The bytes that begin the file of a store that nobody writes now, and the committed ones in its half.
+
+    The line tells how many bytes these are together (`bytes`), how many of them begin the file (`head`), the place in
+    it of the others (`begin`), the permission bits of the file (`mode`), and the text of its place in the log.
+    """
     spool: IO[bytes] = tempfile.SpooledTemporaryFile(_IN_MEMORY)
     with accessing(file), open(file, "rb") as opened:
         found = committed_in(opened)
@@ -50,9 +38,10 @@ def copy_of(file: str, place: str) -> Copy:
         spool.write(found.head)
         for piece in found.pieces(opened, found.settled):
             spool.write(piece)
-    length = spool.tell()
+    told = {"begin": found.begin, "bytes": spool.tell(), "head": len(found.head), "mode": mode, "ok": True,
+            "place": place, "sectors": found.sectors, "seq": found.seq}
     spool.seek(0)
-    return Copy(length, len(found.head), found.begin, found.sectors, found.seq, spool, mode, place)
+    return Copy(line_of_reply(told), spool)
 
 
 def receive_copy(path: str, target: str) -> Tuple[int, str]:

@@ -9,7 +9,7 @@ from typing import Any, Callable, Dict, Iterable, Optional, Set, Tuple
 
 from .engine import NoAnswer, Rejected
 from .errors import Astray
-from .log import EntryKind, Log
+from .log import DIGESTS, EntryKind, Log
 
 __all__ = ["Comparing", "digest_of", "is_outvoted"]
 
@@ -76,12 +76,8 @@ class Comparing:
             raise self._astray
 
     async def _vote(self, n: int, digest: str) -> None:
-        log = self._logs()
-        try:
-            with contextlib.suppress(Rejected, NoAnswer):
-                await log.tell_digest(self._node, n, digest)
-                await asyncio.sleep(min(_VOTES, self._every / 2))
-                if is_outvoted(self._node, n, await log.digests()):
-                    self._astray = Astray(f"as many nodes have other documents at entry {n} as have those of this one")
-        finally:
-            log.close()
+        with contextlib.closing(self._logs()) as log, contextlib.suppress(Rejected, NoAnswer):
+            await log.tell(DIGESTS, self._node, {"n": n, "digest": digest})
+            await asyncio.sleep(min(_VOTES, self._every / 2))
+            if is_outvoted(self._node, n, await log.told(DIGESTS)):
+                self._astray = Astray(f"as many nodes have other documents at entry {n} as have those of this one")

@@ -1,4 +1,6 @@
 """The newest changes of a store, which a node sends to those who watch. They are in memory alone."""
+import asyncio
+import contextlib
 from collections import deque
 from typing import Deque, Iterable, List, Sequence
 
@@ -6,6 +8,9 @@ __all__ = ["History"]
 
 # The most changes that are kept, and the most bytes of them.
 _MOST_CHANGES, _MOST_BYTES = 1 << 16, 1 << 24
+
+# How often one who waits for the next change looks whether its client is still there, in seconds.
+_LOOK = 1.0
 
 
 class History:
@@ -19,6 +24,7 @@ class History:
         # How many lines each transaction has.
         self._sizes: Deque[int] = deque()
         self._bytes = 0
+        self._grown = asyncio.Event()
 
     def has(self, seq: int, name: str) -> bool:
         """Whether all changes up to this one that were sent under a name are of this history."""
@@ -52,3 +58,10 @@ class History:
             for _ in range(self._sizes.popleft()):
                 self._bytes -= len(self._lines.popleft())
                 self.base += 1
+        self._grown.set()
+        self._grown = asyncio.Event()
+
+    async def wait(self) -> None:
+        """Waits for the next change, but a second at most."""
+        with contextlib.suppress(asyncio.TimeoutError):
+            await asyncio.wait_for(self._grown.wait(), _LOOK)

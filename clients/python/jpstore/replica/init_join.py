@@ -14,7 +14,7 @@ from .capacity import LEAST_CAPACITY, room_of
 from .copying import receive_copy
 from .engine import Member
 from .errors import OLDER
-from .log import PATIENCE, Agreed, Log
+from .log import PLACES, Agreed, Log
 from .place import as_told, place_in
 from .store import ReplicaStore, judge_of
 
@@ -58,11 +58,9 @@ async def _check_capacity(store: ReplicaStore, capacity: int) -> None:
 
 
 async def _agree(log: Log, wanted: Agreed) -> Agreed:
-    try:
+    with contextlib.closing(log):
         agreed = await log.agree(wanted)
         head = await log.head()
-    finally:
-        log.close()
     if head.n:
         raise JpstoreError(f"the log exists already, and has {head.n} entries: make a further node by `replica join`")
     if (agreed.digest, agreed.capacity) != (wanted.digest, wanted.capacity):
@@ -97,24 +95,21 @@ def join(new: str, node: str, source: str, members: Sequence[Member], name: str,
 
 async def _hold(members: Sequence[Member], name: str, node: str) -> None:
     """Keeps the log from its beginning on, until it is known from which place the node needs it."""
-    log = Log(members, name)
-    try:
+    with contextlib.closing(Log(members, name)) as log:
         await log.agreed()
-        await log.publish(node, {"n": 0, "r": 0}, PATIENCE)
-    finally:
-        log.close()
+        await log.tell(PLACES, node, {"n": 0, "r": 0})
 
 
 async def _begin(file: str, program: Optional[str], members: Sequence[Member], name: str, node: str,
                  place: str) -> None:
     """Keeps the log from the place of a copy on; an error if the file belongs to another log, or is too small."""
-    log, store = Log(members, name), await ReplicaStore.open(file, program)
-    try:
-        agreed = await log.agreed()
-        await store.place(agreed)
-        if store.status["capacity"] < agreed.capacity:
-            raise JpstoreError(f"the nodes have agreed on halves of {agreed.capacity:,} bytes: choose more sectors")
-        await log.publish(node, as_told(place_in(place), agreed.log, store.status["seq"]), PATIENCE)
-    finally:
-        log.close()
-        await store.close()
+    store = await ReplicaStore.open(file, program)
+    with contextlib.closing(Log(members, name)) as log:
+        try:
+            agreed = await log.agreed()
+            await store.place(agreed)
+            if store.status["capacity"] < agreed.capacity:
+                raise JpstoreError(f"the nodes have agreed on halves of {agreed.capacity:,} bytes: choose more sectors")
+            await log.tell(PLACES, node, as_told(place_in(place), agreed.log, store.status["seq"]))
+        finally:
+            await store.close()

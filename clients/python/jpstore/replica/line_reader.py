@@ -7,6 +7,7 @@ refused here, as the program refuses it.
 import json
 from typing import Any, Dict, List, NamedTuple, Optional, Tuple
 
+from ..faults.depths import deeper_than
 from ..wire import limits
 from ..wire.forms import FORMS, Kind, has_form
 from ..wire.line_splitter import TOO_LONG
@@ -52,7 +53,7 @@ class _Reader:
             value = self._decoder.decode(line.decode("utf-8"))
         except (ValueError, RecursionError):
             raise _Unreadable(11) from None
-        if line.count(b"[") + line.count(b"{") > MOST_DEPTH and _depth(value) > limits.MOST_DEPTH:
+        if _is_deeper(line, value, limits.MOST_DEPTH):
             raise _Unreadable(11)
         if self._numbers:
             raise _Unreadable(12)
@@ -79,16 +80,9 @@ class _Reader:
 _READER = _Reader()
 
 
-def _depth(value: Any) -> int:
-    """How many lists and objects are around the innermost part of a value, itself included."""
-    deepest, waiting = 0, [(value, 0)]
-    while waiting:
-        part, depth = waiting.pop()
-        if isinstance(part, (dict, list)):
-            deepest = max(deepest, depth + 1)
-            parts = part.values() if isinstance(part, dict) else part
-            waiting.extend((each, depth + 1) for each in parts)
-    return deepest
+def _is_deeper(text: bytes, value: Any, levels: int) -> bool:
+    """Whether the value of a text nests deeper."""
+    return text.count(b"[") + text.count(b"{") > levels and deeper_than(value, levels) is not None
 
 
 def read_line(line: bytes) -> Asked:
@@ -109,7 +103,7 @@ def read_line(line: bytes) -> Asked:
     kind = FORMS[command["cmd"]].kind
     if kind is Kind.CHANGE and len(text) > MOST_TEXT:
         return _refused(10)
-    if kind is Kind.CHANGE and text.count(b"[") + text.count(b"{") > MOST_DEPTH and _depth(command) > MOST_DEPTH:
+    if kind is Kind.CHANGE and _is_deeper(text, command, MOST_DEPTH):
         return _refused(11)
     return Asked(kind, text, command)
 

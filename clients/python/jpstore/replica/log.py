@@ -15,10 +15,13 @@ from .engine import Engine, Member, NoAnswer, Rejected, Trimmed, packed, unpacke
 from .errors import OLDER, WrongLog
 from .tasks import end_tasks, started
 
-__all__ = ["Agreed", "Entry", "EntryKind", "Head", "Log", "TakenOver"]
+__all__ = ["Agreed", "DIGESTS", "Entry", "EntryKind", "Head", "Log", "PATIENCE", "PLACES", "TakenOver"]
 
-# How long the calls of an operator may take, in seconds.
+#: How long the calls of an operator may take, in seconds.
 PATIENCE = 10.0
+
+#: What nodes tell of themselves.
+PLACES, DIGESTS = "nodes", "digests"
 
 # How long it waits before it watches at another member.
 _PAUSE = 0.05
@@ -182,26 +185,14 @@ class Log:
                     raise
             await asyncio.sleep(_PAUSE)
 
-    async def publish(self, node: str, place: Dict[str, Any], patience: Optional[float] = None) -> None:
-        """Tells the place of a node: the log is kept from there."""
-        body = {"key": self._key("nodes/" + node), "value": packed(json.dumps(place).encode())}
+    async def tell(self, what: str, node: str, told: Dict[str, Any], patience: Optional[float] = PATIENCE) -> None:
+        """Tells the place of a node, from which the log is kept, or what it has after an entry."""
+        body = {"key": self._key(f"{what}/{node}"), "value": packed(json.dumps(told).encode())}
         await self._engine.call("/kv/put", body, patience)
 
-    async def nodes(self, patience: Optional[float] = PATIENCE) -> Dict[str, Dict[str, Any]]:
-        """What each node has written of itself."""
-        return await self._under("nodes/", patience)
-
-    async def tell_digest(self, node: str, n: int, digest: str) -> None:
-        """Tells what a node has after entry n."""
-        body = {"key": self._key("digests/" + node), "value": packed(json.dumps({"n": n, "digest": digest}).encode())}
-        await self._engine.call("/kv/put", body, PATIENCE)
-
-    async def digests(self) -> Dict[str, Dict[str, Any]]:
-        """The last digest of each node, and after which entry."""
-        return await self._under("digests/", PATIENCE)
-
-    async def _under(self, word: str, patience: Optional[float]) -> Dict[str, Dict[str, Any]]:
-        begin = f"{self._name}/{word}".encode()
+    async def told(self, what: str, patience: Optional[float] = PATIENCE) -> Dict[str, Dict[str, Any]]:
+        """What each node has told last."""
+        begin = f"{self._name}/{what}/".encode()
         end = begin[:-1] + bytes([begin[-1] + 1])
         answer = await self._engine.call("/kv/range", {"key": packed(begin), "range_end": packed(end)}, patience)
         return {unpacked(each["key"])[len(begin):].decode(): json.loads(unpacked(each["value"]))
@@ -209,13 +200,13 @@ class Log:
 
     async def forget(self, node: str) -> bool:
         """Keeps the log no longer for a node; returns whether it was known."""
-        answer = await self._engine.call("/kv/deleterange", {"key": self._key("nodes/" + node)}, PATIENCE)
-        await self._engine.call("/kv/deleterange", {"key": self._key("digests/" + node)}, PATIENCE)
-        return bool(int(answer.get("deleted", 0)))
+        place, _ = [await self._engine.call("/kv/deleterange", {"key": self._key(f"{what}/{node}")}, PATIENCE)
+                    for what in (PLACES, DIGESTS)]
+        return bool(int(place.get("deleted", 0)))
 
     async def trim(self) -> Optional[int]:
         """Drops the entries that all nodes have; returns up to which revision, or None if there are none."""
-        nodes = await self.nodes()
+        nodes = await self.told(PLACES)
         # A node that is being made holds the log by 0. The last entry of each stays, since a node looks for it.
         until = min((int(place["r"]) for place in nodes.values()), default=0) - 1
         if until < 1:

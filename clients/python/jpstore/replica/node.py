@@ -3,6 +3,7 @@ import asyncio
 import contextlib
 import time
 from collections import deque
+from functools import partial
 from typing import IO, Any, Awaitable, Callable, Deque, Dict, List, NamedTuple, Optional, Sequence, TypeVar
 
 from ..errors import JpstoreError
@@ -12,11 +13,10 @@ from .copying import Copy, copy_of
 from .digest import Comparing, digest_of
 from .engine import Member, NoAnswer, NoSpace, Rejected, Trimmed
 from .export import export
-from .log import PATIENCE, Entry, EntryKind, Head, Log
+from .log import PATIENCE, PLACES, Entry, EntryKind, Head, Log
 from .questions import Asking
 from .store import Faulty, ReplicaStore
 from .tasks import apart, end_tasks
-from .watching import News
 
 __all__ = ["Node", "Settings"]
 
@@ -59,8 +59,8 @@ class Node:
 
     def __init__(self, settings: Settings, store: ReplicaStore, applier: Applier) -> None:
         self._settings, self._store, self._applier, self._logs = settings, store, applier, settings.new_log
-        #: The changes that the node has made since it started, and those who wait for further ones.
-        self.history, self.news = applier.history, News()
+        #: The changes that the node has made since it started.
+        self.history = applier.history
         self._woken, self._space = asyncio.Event(), asyncio.Event()
         self._entries: Deque[Entry] = deque()
         self._jobs: Deque[Callable[[], Awaitable[None]]] = deque()
@@ -79,10 +79,8 @@ class Node:
 
     async def local(self, text: bytes) -> bytes:
         """The reply to a line that changes the file of this node alone."""
-        async def do() -> bytes:
-            reply, = await self._store.ask([text])
-            return reply
-        return await self._between(do)
+        reply, = await self._between(lambda: self._store.ask([text]))
+        return reply
 
     async def export(self) -> IO[bytes]:
         """All documents of one moment."""
@@ -90,10 +88,7 @@ class Node:
 
     async def copy(self) -> Copy:
         """The committed bytes of the file, between two changes."""
-        async def do() -> Copy:
-            place = self._applier.place.text
-            return await apart(lambda: copy_of(self._store.file, place))
-        return await self._between(do)
+        return await self._between(lambda: apart(partial(copy_of, self._store.file, self._applier.place.text)))
 
     async def _between(self, do: Callable[[], Awaitable[T]]) -> T:
         """Does something while no change is made."""
@@ -147,7 +142,6 @@ class Node:
                 for done in await self._applied():
                     await self._finish(done)
                 self._space.set()
-                self.news.tell()
             await self._answer_due()
             self._comparing.check()
             if self._jobs:
@@ -233,6 +227,6 @@ class Node:
 
     async def _publish(self, log: Log, patience: Optional[float] = None) -> None:
         status = self._store.status
-        await log.publish(self._settings.node, {
+        await log.tell(PLACES, self._settings.node, {
             **self._applier.told(), "version": self._applier.version, "time": int(time.time()), "used": status["used"],
             "capacity": status["capacity"], "documents": status["documents"]}, patience)

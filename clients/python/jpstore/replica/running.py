@@ -11,6 +11,7 @@ from ..wire.standard_streams import announce
 from .applying import Applier
 from .clients import Clients
 from .errors import Astray, Changed
+from .log import PLACES
 from .node import Node, Settings
 from .place import begin_of, furthest
 from .store import ReplicaStore, judge_of
@@ -55,7 +56,7 @@ class _Sockets:
 
 async def _made(settings: Settings, store: ReplicaStore) -> Node:
     """The node, after its file was found to be one of the log."""
-    agreed, nodes = await settings.new_log().agreed(None), await settings.new_log().nodes(None)
+    agreed, nodes = await settings.new_log().agreed(None), await settings.new_log().told(PLACES, None)
     stored = await store.place(agreed)
     if store.status["capacity"] < agreed.capacity:
         raise JpstoreError(f"{store.file} has halves of {store.status['capacity']:,} bytes, and the nodes have "

@@ -8,36 +8,16 @@ from ..refusals import GONE, WATCHING
 from ..wire.replies import line_of_reply, refusal
 from .history import History
 
-__all__ = ["News", "serve_watch"]
+__all__ = ["serve_watch"]
 
 # The bytes of changes that are handed on at once.
 _PIECE = 1 << 16
 
-# How often it looks whether a client that sends nothing more is still there, in seconds.
-_LOOK = 1.0
-
-
-class News:
-    """Wakes those who wait for the next change."""
-
-    def __init__(self) -> None:
-        self._event = asyncio.Event()
-
-    def tell(self) -> None:
-        """Wakes all that wait now."""
-        self._event.set()
-        self._event = asyncio.Event()
-
-    async def wait(self) -> None:
-        """Waits for the next change, but a second at most."""
-        with contextlib.suppress(asyncio.TimeoutError):
-            await asyncio.wait_for(self._event.wait(), _LOOK)
-
 
 async def serve_watch(watch: Dict[str, Any], lines: AsyncIterator[bytes], writer: asyncio.StreamWriter,
-                      history: History, news: News) -> None:
+                      history: History) -> None:
     """Tells a client changes until it goes away, or sends a further line, which is refused."""
-    telling = asyncio.ensure_future(_tell(watch, writer, history, news))
+    telling = asyncio.ensure_future(_tell(watch, writer, history))
     further = asyncio.ensure_future(_next_of(lines))
     try:
         await asyncio.wait([telling, further], return_when=asyncio.FIRST_COMPLETED)
@@ -58,7 +38,7 @@ async def _next_of(lines: AsyncIterator[bytes]) -> Optional[bytes]:
     return None
 
 
-async def _tell(watch: Dict[str, Any], writer: asyncio.StreamWriter, history: History, news: News) -> None:
+async def _tell(watch: Dict[str, Any], writer: asyncio.StreamWriter, history: History) -> None:
     """Tells a client the changes after a number, until it goes away, or is so slow that the next ones are gone."""
     since = watch.get("from", history.last)
     if not history.has(since, watch.get("history", history.name)):
@@ -79,7 +59,7 @@ async def _tell(watch: Dict[str, Any], writer: asyncio.StreamWriter, history: Hi
         elif _has_gone(writer):
             return
         else:
-            await news.wait()
+            await history.wait()
 
 
 def _gone(since: int) -> bytes:

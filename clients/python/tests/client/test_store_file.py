@@ -66,7 +66,7 @@ def hand_out(listening, file):
     with listening.accept()[0] as joining:
         joining.recv(4096)
         copy = copy_of(file, "place")
-        joining.sendall(copy.line())
+        joining.sendall(copy.line)
         joining.sendall(copy.spool.read())
 
 
