@@ -1,68 +1,64 @@
 """The properties of Unicode that ECMA-262 names (its tables 67 to 70), as the store's dialect names them."""
 import re
 from functools import lru_cache
-from typing import Dict, Optional, Tuple
+from typing import Dict, Iterable, Optional, Tuple
 
-from .characters import ALL, NEVER, Characters, by_name, united
+from .characters import ALL, NEVER, Characters, by_name, outside
 
 __all__ = ["dialect_property", "ecma_property"]
 
-# The general categories by their short names, each with its long ones.
-_CATEGORIES = {
-    short: tuple(names.split()) for short, names in (row.split(":") for row in (
-        "LC:Cased_Letter", "Pe:Close_Punctuation", "Pc:Connector_Punctuation", "Cc:Control cntrl",
-        "Sc:Currency_Symbol", "Pd:Dash_Punctuation", "Nd:Decimal_Number digit", "Me:Enclosing_Mark",
-        "Pf:Final_Punctuation", "Cf:Format", "Pi:Initial_Punctuation", "L:Letter", "Nl:Letter_Number",
-        "Zl:Line_Separator", "Ll:Lowercase_Letter", "M:Mark Combining_Mark", "Sm:Math_Symbol", "Lm:Modifier_Letter",
-        "Sk:Modifier_Symbol", "Mn:Nonspacing_Mark", "N:Number", "Ps:Open_Punctuation", "C:Other", "Lo:Other_Letter",
-        "No:Other_Number", "Po:Other_Punctuation", "So:Other_Symbol", "Zp:Paragraph_Separator", "Co:Private_Use",
-        "P:Punctuation punct", "Z:Separator", "Zs:Space_Separator", "Mc:Spacing_Mark", "Cs:Surrogate", "S:Symbol",
-        "Lt:Titlecase_Letter", "Cn:Unassigned", "Lu:Uppercase_Letter"))}
 
-_CATEGORY_OF = {name: short for short, names in _CATEGORIES.items() for name in (short, *names)}
+def _by_each_name(rows: Iterable[str]) -> Dict[str, str]:
+    """The first name of each row by each of its names."""
+    return {name: row.split()[0] for row in rows for name in row.split()}
+
+
+# The general categories by each name, with the short one.
+_CATEGORY_OF = _by_each_name((
+    "LC Cased_Letter", "Pe Close_Punctuation", "Pc Connector_Punctuation", "Cc Control cntrl", "Sc Currency_Symbol",
+    "Pd Dash_Punctuation", "Nd Decimal_Number digit", "Me Enclosing_Mark", "Pf Final_Punctuation", "Cf Format",
+    "Pi Initial_Punctuation", "L Letter", "Nl Letter_Number", "Zl Line_Separator", "Ll Lowercase_Letter",
+    "M Mark Combining_Mark", "Sm Math_Symbol", "Lm Modifier_Letter", "Sk Modifier_Symbol", "Mn Nonspacing_Mark",
+    "N Number", "Ps Open_Punctuation", "C Other", "Lo Other_Letter", "No Other_Number", "Po Other_Punctuation",
+    "So Other_Symbol", "Zp Paragraph_Separator", "Co Private_Use", "P Punctuation punct", "Z Separator",
+    "Zs Space_Separator", "Mc Spacing_Mark", "Cs Surrogate", "S Symbol", "Lt Titlecase_Letter", "Cn Unassigned",
+    "Lu Uppercase_Letter"))
 
 # The properties that a character has or has not, by each name, with the long one.
-_BINARY = {
-    name: row.split()[0] for row in (
-        "ASCII_Hex_Digit AHex", "Alphabetic Alpha", "Assigned", "Bidi_Control Bidi_C", "Bidi_Mirrored Bidi_M",
-        "Case_Ignorable CI", "Cased", "Changes_When_Casefolded CWCF", "Changes_When_Casemapped CWCM",
-        "Changes_When_Lowercased CWL", "Changes_When_NFKC_Casefolded CWKCF", "Changes_When_Titlecased CWT",
-        "Changes_When_Uppercased CWU", "Dash", "Default_Ignorable_Code_Point DI", "Deprecated Dep", "Diacritic Dia",
-        "Emoji", "Emoji_Component EComp", "Emoji_Modifier EMod", "Emoji_Modifier_Base EBase",
-        "Emoji_Presentation EPres", "Extended_Pictographic ExtPict", "Extender Ext", "Grapheme_Base Gr_Base",
-        "Grapheme_Extend Gr_Ext", "Hex_Digit Hex", "IDS_Binary_Operator IDSB", "IDS_Trinary_Operator IDST",
-        "ID_Continue IDC", "ID_Start IDS", "Ideographic Ideo", "Join_Control Join_C",
-        "Logical_Order_Exception LOE", "Lowercase Lower", "Math", "Noncharacter_Code_Point NChar",
-        "Pattern_Syntax Pat_Syn", "Pattern_White_Space Pat_WS", "Quotation_Mark QMark", "Radical",
-        "Regional_Indicator RI", "Sentence_Terminal STerm", "Soft_Dotted SD", "Terminal_Punctuation Term",
-        "Unified_Ideograph UIdeo", "Uppercase Upper", "Variation_Selector VS", "White_Space space",
-        "XID_Continue XIDC", "XID_Start XIDS")
-    for name in row.split()}
+_BINARY = _by_each_name((
+    "ASCII_Hex_Digit AHex", "Alphabetic Alpha", "Assigned", "Bidi_Control Bidi_C", "Bidi_Mirrored Bidi_M",
+    "Case_Ignorable CI", "Cased", "Changes_When_Casefolded CWCF", "Changes_When_Casemapped CWCM",
+    "Changes_When_Lowercased CWL", "Changes_When_NFKC_Casefolded CWKCF", "Changes_When_Titlecased CWT",
+    "Changes_When_Uppercased CWU", "Dash", "Default_Ignorable_Code_Point DI", "Deprecated Dep", "Diacritic Dia",
+    "Emoji", "Emoji_Component EComp", "Emoji_Modifier EMod", "Emoji_Modifier_Base EBase",
+    "Emoji_Presentation EPres", "Extended_Pictographic ExtPict", "Extender Ext", "Grapheme_Base Gr_Base",
+    "Grapheme_Extend Gr_Ext", "Hex_Digit Hex", "IDS_Binary_Operator IDSB", "IDS_Trinary_Operator IDST",
+    "ID_Continue IDC", "ID_Start IDS", "Ideographic Ideo", "Join_Control Join_C", "Logical_Order_Exception LOE",
+    "Lowercase Lower", "Math", "Noncharacter_Code_Point NChar", "Pattern_Syntax Pat_Syn",
+    "Pattern_White_Space Pat_WS", "Quotation_Mark QMark", "Radical", "Regional_Indicator RI",
+    "Sentence_Terminal STerm", "Soft_Dotted SD", "Terminal_Punctuation Term", "Unified_Ideograph UIdeo",
+    "Uppercase Upper", "Variation_Selector VS", "White_Space space", "XID_Continue XIDC", "XID_Start XIDS"))
+
+# Those that are ranges alone.
+_RANGES = {"Any": ALL.ranges, "ASCII": ((0, 0x7F),)}
 
 _SCRIPTS = {"Script": "sc", "sc": "sc", "Script_Extensions": "scx", "scx": "scx"}
 
 
 def ecma_property(name: str, value: Optional[str], is_negated: bool) -> Optional[Characters]:
     """What `\\p{name=value}` or `\\p{name}` means; None if ECMA-262 has no such property."""
-    if value is None and name in ("Any", "ASCII"):
-        return _or_outside(ALL if name == "Any" else Characters(united([(0, 0x7F)])), is_negated)
+    if value is None and name in _RANGES:
+        return Characters(outside(_RANGES[name]) if is_negated else _RANGES[name])
     if value is None:
         key = ("gc", _CATEGORY_OF[name]) if name in _CATEGORY_OF else ("", _BINARY.get(name, ""))
     elif name in ("General_Category", "gc"):
         key = "gc", _CATEGORY_OF.get(value, "")
     else:
         key = _SCRIPTS.get(name, ""), value.replace("_", "").lower() if name in _SCRIPTS else ""
-    if not key[1]:
-        return None
     if key == ("gc", "Cs"):
         # No text has a surrogate.
-        return _or_outside(NEVER, is_negated)
-    return Characters((), frozenset([(*key, is_negated)]))
-
-
-def _or_outside(characters: Characters, is_negated: bool) -> Characters:
-    return characters if not is_negated else NEVER if characters == ALL else ALL if characters == NEVER else (
-        Characters(((characters.ranges[0][1] + 1, ALL.ranges[0][1]),)))
+        return ALL if is_negated else NEVER
+    return Characters((), frozenset([(*key, is_negated)])) if key[1] else None
 
 
 # ---- the store's dialect, where names are loose
@@ -81,7 +77,7 @@ def dialect_property(name: str) -> Tuple[Characters, bool]:
 
 def _named(kind: str, name: str) -> Characters:
     if not kind and name in ("any", "ascii"):
-        return ALL if name == "any" else Characters(united([(0, 0x7F)]))
+        return Characters(_RANGES["Any" if name == "any" else "ASCII"])
     known = _loose_names().get((kind, name))
     return by_name(*known) if known is not None else by_name(kind or "sc", name)
 

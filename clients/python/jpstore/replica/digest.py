@@ -5,6 +5,7 @@ import contextlib
 import hashlib
 import os
 import time
+from collections import Counter
 from typing import Any, Callable, Dict, Iterable, Optional, Set, Tuple
 
 from .engine import NoAnswer, Rejected
@@ -32,10 +33,7 @@ def is_outvoted(node: str, n: int, told: Dict[str, Dict[str, Any]]) -> bool:
     """Whether of the nodes that have written a digest of entry n, as many have another digest as have this node's."""
     if told.get(node, {}).get("n") != n:
         return False
-    votes: Dict[str, int] = {}
-    for each in told.values():
-        if each["n"] == n:
-            votes[each["digest"]] = votes.get(each["digest"], 0) + 1
+    votes = Counter(each["digest"] for each in told.values() if each["n"] == n)
     mine = votes.pop(told[node]["digest"])
     return max(votes.values(), default=0) >= mine
 
