@@ -3,7 +3,7 @@
 It tells where a text is no pattern, and its parts. Sets that only the tables of Unicode know are kept by their names.
 """
 import re
-from typing import List, NamedTuple, Optional, Tuple
+from typing import List, NamedTuple, Optional, Tuple, Union
 
 from .cases import cases_of
 from .characters import DIGITS, NEVER, WORD, Characters, by_name, combined, of, outside, united
@@ -24,8 +24,9 @@ _POSIX = {
     "digit": "09", "graph": "!~", "lower": "az", "print": " ~", "punct": "!/:@[`{~", "space": "\t\r  ", "upper": "AZ",
     "word": "09AZ__az", "xdigit": "09AFaf",
 }
-_BOUNDARIES = {"start": "word start", "end": "word end", "start-half": "word start half",
-               "end-half": "word end half"}
+_BOUNDARIES = {"A": "start", "z": "end", "b": "word", "B": "no word", "<": "word start", ">": "word end",
+               "{start}": "word start", "{end}": "word end", "{start-half}": "word start half",
+               "{end-half}": "word end half"}
 _OPERATORS = ("&&", "--", "~~")
 
 
@@ -220,25 +221,20 @@ class _Reader(Reader):
     def _atom(self, sign: str) -> int:
         """Reads what can be repeated, other than a group; answers how deep it is."""
         begin, depth = self._at, 0
-        if sign in "^$":
-            self._at += 1
-            edge = "start" if sign == "^" else "end"
-            lines = " of line" + " with CR" * self._flags.R if self._flags.m else ""
-            self._add(Kind.EDGE, edge + lines, begin)
-            return 0
-        value: object
-        if sign == ".":
-            self._at += 1
-            value = self._dot()
-        elif sign == "[":
+        value: Union[str, Characters]
+        if sign == "[":
             value, depth = self._bracket()
         elif sign == "\\":
             value = self._escape()
         else:
             self._at += 1
-            value = self._folded(of(ord(sign)))
+            value = self._edge(sign) if sign in "^$" else self._dot() if sign == "." else self._folded(of(ord(sign)))
         self._add(Kind.EDGE if isinstance(value, str) else Kind.CHARACTERS, value, begin)
         return depth
+
+    def _edge(self, sign: str) -> str:
+        of_line = " of line" + " with CR" * self._flags.R if self._flags.m else ""
+        return ("start" if sign == "^" else "end") + of_line
 
     def _dot(self) -> Characters:
         if not self._flags.u:
@@ -265,39 +261,29 @@ class _Reader(Reader):
 
     # ---- escapes
 
-    def _escape(self) -> object:
+    def _escape(self) -> Union[str, Characters]:
         """What an escape matches, or the name of the edge that it is."""
         sign = self._pattern[self._at + 1:self._at + 2]
-        if sign in ("b", "B", "A", "z", "<", ">"):
+        if sign in _BOUNDARIES:
             self._at += 2
             return self._boundary(sign)
-        if sign in tuple("dDsSwW"):
-            self._at += 2
-            return self._perl(sign)
         if sign in ("p", "P"):
             return self._property(sign == "P")
-        return self._folded(of(self._code(sign)))
+        letter = sign.lower()
+        if letter not in _ASCII:
+            return self._folded(of(self._code(sign)))
+        self._at += 2
+        return self._negated(by_name("perl", letter) if self._flags.u else Characters(_ASCII[letter]), sign != letter)
 
     def _boundary(self, sign: str) -> str:
-        if sign in "Az":
-            return "start" if sign == "A" else "end"
-        unicode = "Unicode " * self._flags.u
-        if sign in "<>":
-            return unicode + ("word start" if sign == "<" else "word end")
-        blank = r"\s*" if self._flags.x else ""
+        name, blank = sign, r"\s*" if self._flags.x else ""
         if sign == "b" and re.compile(r"\{%s[A-Za-z-]" % blank).match(self._pattern, self._at):
             end = self._pattern.find("}", self._at)
-            name = self._pattern[self._at + 1:max(end, self._at)].replace(" " if self._flags.x else "\0", "")
+            name = self._pattern[self._at:end + 1].replace(" " if self._flags.x else "\0", "")
             if name not in _BOUNDARIES:
                 self._stop("no edge of a word is called so")
             self._at = end + 1
-            return unicode + _BOUNDARIES[name]
-        return unicode + ("word" if sign == "b" else "no word")
-
-    def _perl(self, sign: str) -> Characters:
-        letter = sign.lower()
-        known = Characters(_ASCII[letter]) if not self._flags.u else by_name("perl", letter)
-        return self._negated(known, sign != letter)
+        return "Unicode " * (self._flags.u and sign not in "Az") + _BOUNDARIES[name]
 
     def _code(self, sign: str) -> int:
         """The character that an escape is."""
@@ -309,7 +295,7 @@ class _Reader(Reader):
             if code > 0x10FFFF or 0xD800 <= code <= 0xDFFF:
                 self._stop("no text has this character")
             return code
-        if sign in _CONTROLS and sign:
+        if sign in _CONTROLS:
             self._at += 2
             return _CONTROLS[sign]
         if not sign:
