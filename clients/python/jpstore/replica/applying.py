@@ -13,10 +13,10 @@ from ..wire.replies import done, line_of_reply, refusal, seq_in
 from .capacity import Need, Reckoning, Verdict
 from .changes import Line, line_in
 from .errors import Astray, Changed
-from .history import History
 from .log import Agreed, Entry, EntryKind
 from .place import Place, as_told, key_of, marked
 from .store import ReplicaStore
+from .watching import History
 
 __all__ = ["Applier", "Done", "OtherVersion"]
 

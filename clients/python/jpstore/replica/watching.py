@@ -1,17 +1,73 @@
-"""The answer of a node to `watch`."""
+"""The newest changes of a store, in memory alone, and the answer of a node to `watch`, which tells them."""
 import asyncio
 import contextlib
 import select
-from typing import Any, AsyncIterator, Dict, Optional
+from collections import deque
+from typing import Any, AsyncIterator, Deque, Dict, Iterable, List, Optional, Sequence
 
 from ..refusals import GONE, WATCHING
 from ..wire.replies import line_of_reply, refusal
-from .history import History
 
-__all__ = ["serve_watch"]
+__all__ = ["History", "serve_watch"]
+
+# The most changes that are kept, and the most bytes of them.
+_MOST_CHANGES, _MOST_BYTES = 1 << 16, 1 << 24
 
 # The bytes of changes that are handed on at once.
 _PIECE = 1 << 16
+
+# How often it looks whether a client that sends nothing more is still there, in seconds.
+_LOOK = 1.0
+
+
+class History:
+    """The changes after number `base`, each as its line, without its LF."""
+
+    def __init__(self, base: int, name: str) -> None:
+        #: Tells this history from that of another store.
+        self.name = name
+        self.base = base
+        self._lines: Deque[bytes] = deque()
+        # How many lines each transaction has.
+        self._sizes: Deque[int] = deque()
+        self._bytes = 0
+        self._grown = asyncio.Event()
+
+    @property
+    def last(self) -> int:
+        """The number of the last change."""
+        return self.base + len(self._lines)
+
+    def after(self, seq: int, most: int) -> List[bytes]:
+        """The lines of the next changes after number `seq`: about `most` bytes, but one line if there is one."""
+        lines: List[bytes] = []
+        for index in range(seq - self.base, len(self._lines)):
+            lines.append(self._lines[index])
+            most -= len(lines[-1])
+            if most <= 0:
+                break
+        return lines
+
+    def add(self, transactions: Iterable[Sequence[bytes]]) -> None:
+        """Adds changes, or transactions of several, by the texts of their changes. The oldest ones make room."""
+        for texts in transactions:
+            self._sizes.append(len(texts))
+            first, last = self.last + 1, self.last + len(texts)
+            span = b',"first":%d,"last":%d' % (first, last) if len(texts) > 1 else b""
+            for seq, text in enumerate(texts, first):
+                self._lines.append(b'{"change":%b%b,"seq":%d}' % (text, span, seq))
+                self._bytes += len(self._lines[-1])
+        while len(self._lines) > _MOST_CHANGES or self._bytes > _MOST_BYTES:
+            for _ in range(self._sizes.popleft()):
+                self._bytes -= len(self._lines.popleft())
+                self.base += 1
+        self._grown.set()
+        self._grown = asyncio.Event()
+
+    async def wait(self) -> None:
+        """Waits for the next change, but a second at most."""
+        with contextlib.suppress(asyncio.TimeoutError):
+            await asyncio.wait_for(self._grown.wait(), _LOOK)
 
 
 async def serve_watch(watch: Dict[str, Any], lines: AsyncIterator[bytes], writer: asyncio.StreamWriter,
@@ -41,29 +97,21 @@ async def _next_of(lines: AsyncIterator[bytes]) -> Optional[bytes]:
 async def _tell(watch: Dict[str, Any], writer: asyncio.StreamWriter, history: History) -> None:
     """Tells a client the changes after a number, until it goes away, or is so slow that the next ones are gone."""
     since = watch.get("from", history.last)
-    if not history.has(since, watch.get("history", history.name)):
-        writer.write(_gone(history.base))
-        return
-    if since >= history.base:
+    is_known = since <= history.last and watch.get("history", history.name) == history.name
+    if is_known and since >= history.base:
         writer.write(line_of_reply({"from": since, "history": history.name, "ok": True, "seq": history.last}))
-    while not writer.is_closing():
-        if since < history.base:
-            writer.write(_gone(history.base))
-            return
+    while is_known and since >= history.base:
         lines = history.after(since, _PIECE)
         if lines:
             writer.write(b"\n".join(lines) + b"\n")
             since += len(lines)
             # Waits as long as the client does not read. What it has still to read is then in the history alone.
             await writer.drain()
-        elif _has_gone(writer):
-            return
         else:
             await history.wait()
-
-
-def _gone(since: int) -> bytes:
-    return refusal(GONE, **{"from": since})
+        if writer.is_closing() or not lines and _has_gone(writer):
+            return
+    writer.write(refusal(GONE, **{"from": history.base}))
 
 
 def _has_gone(writer: asyncio.StreamWriter) -> bool:
