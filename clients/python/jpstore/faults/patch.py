@@ -16,15 +16,11 @@ _SHAPE, _POINTER, _MISSING, _INTO_ITSELF, _TEST = 30, 31, 32, 33, 34
 
 
 def fault_of_patch(number: int, command: Dict[str, Any], at: Optional[int]) -> str:
-    """What is wrong with the operation at this place in `ops`, or the first one that has this fault."""
+    """What is wrong with the operation at this place in `ops`, or with `ops` itself."""
     operations = command.get("ops")
     if not isinstance(operations, (list, tuple)):
         return f"`ops` is {shown(operations)}, and must be a list of operations" if number == _SHAPE else ""
-    places = range(len(operations)) if at is None or at >= len(operations) else [at]
-    found = ((place, _fault_of(number, operations[place])) for place in places)
-    place, fault = next((row for row in found if row[1]), (0, ""))
-    # The refusal itself says which operation it is, if it is known.
-    return fault if at is not None or not fault else f"operation {place}, counted from 0: {fault}"
+    return "" if at is None or at >= len(operations) else _fault_of(number, operations[at])
 
 
 def _fault_of(number: int, operation: Any) -> str:

@@ -54,20 +54,8 @@ class SchemaFault(NamedTuple):
         return f"at {place_in(self.place)}: {self.message}" if self.place else self.message
 
 
-def _is_text(value: Any) -> bool:
-    return isinstance(value, str)
-
-
 def _is_number(value: Any) -> bool:
     return isinstance(value, int) and not isinstance(value, bool)
-
-
-def _is_count(value: Any) -> bool:
-    return _is_number(value) and value >= 0
-
-
-def _is_type(value: Any) -> bool:
-    return _is_text(value) and value in _TYPES
 
 
 def _is_list_of(value: Any, test: Callable[[Any], bool]) -> bool:
@@ -77,22 +65,19 @@ def _is_list_of(value: Any, test: Callable[[Any], bool]) -> bool:
 
 
 def _are_names(value: Any) -> bool:
-    return _is_list_of(value, _is_text)
-
-
-def _are_dependents(value: Any) -> bool:
-    return isinstance(value, dict) and all(map(_are_names, value.values()))
+    return _is_list_of(value, lambda each: isinstance(each, str))
 
 
 _Form = Tuple[Callable[[Any], bool], str]
-_COUNT: _Form = (_is_count, "a whole number from 0")
+_TEXT: _Form = (lambda value: isinstance(value, str), "a text")
+_COUNT: _Form = (lambda value: _is_number(value) and value >= 0, "a whole number from 0")
 _NUMBER: _Form = (_is_number, "a whole number")
 _SCHEMAS: _Form = (lambda value: isinstance(value, (list, tuple)) and len(value) > 0, "a list of one schema or more")
 _OBJECT: _Form = (lambda value: isinstance(value, dict), "an object of schemas by name")
 
 # The form of a keyword's value, if it is not a schema.
 _FORMS: Dict[str, _Form] = {
-    "type": (lambda value: _is_type(value) or _is_list_of(value, _is_type),
+    "type": (lambda value: value in _TYPES or _is_list_of(value, _TYPES.__contains__),
              f"one of {', '.join(_TYPES)}, or a list of different ones"),
     "enum": (lambda value: isinstance(value, (list, tuple)), "a list"),
     "multipleOf": (lambda value: _is_number(value) and value >= 1, "a whole number from 1"),
@@ -101,11 +86,12 @@ _FORMS: Dict[str, _Form] = {
     "maxProperties": _COUNT, "minContains": _COUNT, "maxContains": _COUNT,
     "uniqueItems": (lambda value: isinstance(value, bool), "true or false"),
     "required": (_are_names, "a list of different names"),
-    "dependentRequired": (_are_dependents, "an object whose members are lists of different names"),
+    "dependentRequired": (lambda value: isinstance(value, dict) and all(map(_are_names, value.values())),
+                          "an object whose members are lists of different names"),
     "prefixItems": _SCHEMAS, "allOf": _SCHEMAS, "anyOf": _SCHEMAS, "oneOf": _SCHEMAS,
-    "properties": _OBJECT, "$defs": _OBJECT, "$ref": (_is_text, "a text"),
+    "properties": _OBJECT, "$defs": _OBJECT, "$ref": _TEXT,
     # Those of profile 3, which profile 2 refuses whatever they have.
-    "pattern": (_is_text, "a text"), "patternProperties": (_OBJECT[0], "an object of schemas by patterns"),
+    "pattern": _TEXT, "patternProperties": (_OBJECT[0], "an object of schemas by patterns"),
     "dependentSchemas": _OBJECT,
     "$anchor": (is_anchor, "a letter or `_`, then letters, digits, `_`, `-` and `.`"),
 }
@@ -249,7 +235,7 @@ def _of_member(references: References, profile: int, trail: Trail, word: Any, va
 def _of_identity(is_below: bool, word: str, value: Any) -> Optional[Tuple[int, str]]:
     if is_below:
         return 41, f"`{word}` is for the root only: leave it out, and keep the schema under `$defs` of the root"
-    if not _is_text(value):
+    if not isinstance(value, str):
         return 40, f"`{word}` is {shown(value)}, and must be a text"
     if word == "$schema" and value != DIALECT:
         return 41, (f"{shown(value)} is another dialect than {DIALECT}: `{called()} schema adapt` translates "

@@ -160,16 +160,15 @@ class Log:
         if answer.get("succeeded"):
             self._last = int(answer["header"]["revision"])
             return True
-        found = answer["responses"][0]["response_range"].get("kvs")
-        if not found or int(found[0]["mod_revision"]) == self._last:
+        found, = answer["responses"][0]["response_range"].get("kvs") or [{}]
+        revision = int(found.get("mod_revision", 0))
+        if revision == self._last and after is not None:
             # Nothing of this node's came between: the log has another head.
-            if found and after is not None:
-                return False
-            raise TakenOver(f"another process runs as node {self._node}")
-        if unpacked(found[0]["value"]).decode() != id:
+            return False
+        if revision in (0, self._last) or unpacked(found["value"]).decode() != id:
             raise TakenOver(f"another process runs as node {self._node}")
         # An earlier try was committed, and its answer was lost.
-        self._last = int(found[0]["mod_revision"])
+        self._last = revision
         return True
 
     async def _sent(self, body: Dict[str, Any]) -> Dict[str, Any]:
