@@ -1,15 +1,17 @@
 """What becomes of each keyword: a function by its name, for what 2020-12 or the store says in another way."""
-from typing import TYPE_CHECKING, Any, Callable, Container, Dict, List, NamedTuple
+import math
+from fractions import Fraction
+from typing import TYPE_CHECKING, Any, Callable, Container, Dict, List, NamedTuple, Tuple
 
+from ..faults.depths import values_in
 from ..faults.references import is_anchor
 from ..wire.values import LEAST, MOST
 from .documents import At
-from .numbers import BOUNDS, bound, divisor, has_unsendable
 
 if TYPE_CHECKING:
     from .schema import Work
 
-__all__ = ["Part", "TRANSLATED", "free_name", "unknown_in"]
+__all__ = ["Part", "TRANSLATED", "free_name", "has_unsendable", "unknown_in"]
 
 # The draft that brought a keyword; before it, the keyword had no effect.
 _SINCE = {
@@ -36,6 +38,12 @@ def free_name(name: str, taken: Container[str]) -> str:
 def unknown_in(draft: int, word: str) -> bool:
     """Whether a keyword came later than the draft."""
     return draft < _SINCE.get(word, 0)
+
+
+def has_unsendable(value: Any) -> bool:
+    """Whether a value has a number that no line can carry."""
+    return any(isinstance(part, float) or (isinstance(part, int) and not LEAST <= part <= MOST)
+               for _, part in values_in(value))
 
 
 class Part(NamedTuple):
@@ -272,6 +280,15 @@ def _const(part: Part, word: str, value: Any) -> None:
     part.out["enum"] = []
 
 
+def _of_whole_numbers(word: str, value: float) -> Tuple[str, int]:
+    """The keyword and the whole number that bound whole numbers as this one does."""
+    if value == int(value):
+        return word, int(value)
+    if word in ("minimum", "exclusiveMinimum"):
+        return "minimum", math.ceil(value)
+    return "maximum", math.floor(value)
+
+
 def _bound(part: Part, word: str, value: Any) -> None:
     if isinstance(value, bool) and word.startswith("exclusive"):
         # In draft 4 it says how the bound beside it is meant.
@@ -280,7 +297,7 @@ def _bound(part: Part, word: str, value: Any) -> None:
         part.out[word] = value
         return
     other = f"exclusive{word[0].upper()}{word[1:]}"
-    as_word, whole = bound(other if part.schema.get(other) is True else word, value)
+    as_word, whole = _of_whole_numbers(other if part.schema.get(other) is True else word, value)
     is_least = as_word.lower().endswith("minimum")
     if (is_least and whole < LEAST) or (not is_least and whole > MOST):
         part.note(word, f"the bound {value} is beyond 64 bits, and is left out: each number in a store keeps it")
@@ -296,7 +313,8 @@ def _bound(part: Part, word: str, value: Any) -> None:
 def _multiple(part: Part, word: str, value: Any) -> None:
     whole = value
     if isinstance(value, float) and value > 0:
-        whole = divisor(value)
+        # The least whole number whose multiples are the whole multiples of this one.
+        whole = Fraction(repr(value)).numerator
         if whole != value:
             part.note(word, f"whole multiples of {value} are those of {whole}")
     part.out["multipleOf"] = whole
@@ -351,7 +369,7 @@ def _additional(part: Part, word: str, value: Any) -> None:
 TRANSLATED: Dict[str, _Translation] = {
     **dict.fromkeys(("propertyNames", "contains", "not", "if", "then", "else"), _one),
     **dict.fromkeys(("allOf", "anyOf", "oneOf", "prefixItems"), _several),
-    **dict.fromkeys(BOUNDS, _bound),
+    **dict.fromkeys(("minimum", "maximum", "exclusiveMinimum", "exclusiveMaximum"), _bound),
     **dict.fromkeys(("minLength", "maxLength", "minItems", "maxItems", "minProperties", "maxProperties", "minContains",
                      "maxContains"), _count),
     **dict.fromkeys(("$dynamicAnchor", "$recursiveAnchor"), _nothing),

@@ -15,8 +15,7 @@ from ..faults.words import pointer_of
 from ..patterns import NoPattern, read_ecma, written
 from ..wire.values import escaped
 from .documents import At, Documents, Read, Tokens
-from .keywords import TRANSLATED, Part, free_name, unknown_in
-from .numbers import has_unsendable
+from .keywords import TRANSLATED, Part, free_name, has_unsendable, unknown_in
 
 __all__ = ["Adapted", "Change", "Schema", "Work"]
 
@@ -138,7 +137,8 @@ class Work:
             return schema
         ignored = [word for word in schema if word not in _BESIDE_REFERENCE]
         if ignored:
-            self.note(at, f"{_listed(ignored)} beside `$ref` had no effect in the draft, and is left out")
+            words = ", ".join(f"`{word}`" for word in ignored)
+            self.note(at, f"{words} beside `$ref` had no effect in the draft, and is left out")
         return {word: value for word, value in schema.items() if word in _BESIDE_REFERENCE}
 
     def _member(self, at: At, schema: Dict[str, Any], word: str, value: Any, out: Dict[str, Any]) -> None:
@@ -234,7 +234,3 @@ def _is_same(made: Dict[str, Any], out: Dict[str, Any], schema: Any) -> bool:
 def _own_name(at: At) -> str:
     own = at.tokens[-1] if at.tokens else re.sub(r"\.json$", "", at.document.rpartition("/")[2])
     return _NO_NAME.sub("_", str(own)) or "schema"
-
-
-def _listed(words: List[str]) -> str:
-    return ", ".join(f"`{word}`" for word in words)

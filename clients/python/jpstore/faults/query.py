@@ -19,7 +19,8 @@ _TEXT = re.compile(r"""'(?:[^'\\\x00-\x1f]|\\(?:[bfnrt/\\']|u[0-9A-Fa-f]{4}))*'|
 _WORD = re.compile(r"(?:true|false|null)(?![a-z0-9_(])")
 _CALL = re.compile(r"([a-z][a-z0-9_]*)\(")
 _COMPARISONS = ("==", "!=", "<=", ">=", "<", ">")
-_FUNCTIONS = ("length", "count", "value", "match", "search")
+# The functions, and how many arguments each has.
+_FUNCTIONS = {"length": 1, "count": 1, "value": 1, "match": 2, "search": 2}
 
 
 class QueryFault(NamedTuple):
@@ -227,7 +228,7 @@ class _Reader:
             arguments.append(self._argument(place, name))
             self._blanks()
         self._need(")", "`)` is missing here")
-        wanted = 2 if name in ("match", "search") else 1
+        wanted = _FUNCTIONS[name]
         if len(arguments) != wanted:
             raise _Stopped(begin, f"`{name}` has {wanted} argument{'s' if wanted > 1 else ''}")
         return name

@@ -58,12 +58,9 @@ def outside(ranges: Ranges) -> Ranges:
 
 def combined(operator: str, one: Ranges, other: Ranges) -> Ranges:
     """What is in both (`&&`), in the first alone (`--`), or in one of them alone (`~~`)."""
-    first_only = outside(united([*outside(one), *other]))
-    if operator == "--":
-        return first_only
-    if operator == "&&":
-        return outside(united([*outside(one), *outside(other)]))
-    return united([*first_only, *outside(united([*outside(other), *one]))])
+    if operator == "~~":
+        return united([*combined("--", one, other), *combined("--", other, one)])
+    return outside(united([*outside(one), *(other if operator == "--" else outside(other))]))
 
 
 def by_name(kind: str, value: object) -> Characters:

@@ -14,13 +14,13 @@ __all__ = ["Read", "read_ecma"]
 
 _SYNTAX = "^$\\.*+?()[]{}|/"
 _CLASSES = {"d": DIGITS, "D": outside(DIGITS), "s": SPACES, "S": outside(SPACES), "w": WORD, "W": outside(WORD)}
-_CONTROLS = {"t": 0x09, "n": 0x0A, "v": 0x0B, "f": 0x0C, "r": 0x0D}
+_CONTROLS = {"t": 0x09, "n": 0x0A, "v": 0x0B, "f": 0x0C, "r": 0x0D, "0": 0x00}
 _EDGES = {"^": "start", "$": "end", "\\b": "word", "\\B": "no word"}
 
 _COUNT = re.compile(r"(?:([*+?])|\{([0-9]+)(?:(,)([0-9]*))?\})\??")
 _GROUP = re.compile(r"\((?:\?(?::|<(?![=!])[^<>()]*>))?")
 _PAIR = re.compile(r"\\u([dD][89abAB][0-9a-fA-F]{2})\\u([dD][c-fC-F][0-9a-fA-F]{2})")
-_CODE = re.compile(r"\\(?:x([0-9a-fA-F]{2})|u([0-9a-fA-F]{4})|u\{([0-9a-fA-F]+)\})")
+_CODE = re.compile(r"\\(?:x([0-9a-fA-F]{2})|u([0-9a-fA-F]{4})|u\{([0-9a-fA-F]+)\}|([tnvfr]|0(?![0-9]))|c([a-zA-Z]))")
 _PROPERTY = re.compile(r"\\([pP])\{([A-Za-z_]+)(?:=([A-Za-z0-9_]+))?\}")
 
 # What authors mean by escapes of other languages.
@@ -179,32 +179,22 @@ class _Reader(Reader):
 
     def _code(self, in_class: bool) -> Optional[int]:
         """The character that an escape names by its code; None if it names none so."""
-        pair = _PAIR.match(self._pattern, self._at)
+        if in_class and self._is_at("\\b"):
+            self._at += 2
+            return 0x08
+        pair, found = _PAIR.match(self._pattern, self._at), _CODE.match(self._pattern, self._at)
         if pair is not None:
             self._at = pair.end()
             return 0x10000 + ((int(pair[1], 16) - 0xD800) << 10) + int(pair[2], 16) - 0xDC00
-        found = _CODE.match(self._pattern, self._at)
-        if found is not None:
-            code = int(found[1] or found[2] or found[3], 16)
-            if code > 0x10FFFF:
-                self._stop("Unicode has no such character")
-            self._surrogates = self._surrogates or 0xD800 <= code <= 0xDFFF
-            self._at = found.end()
-            return code
-        following = self._pattern[self._at + 1:self._at + 3]
-        if following[:1] in _CONTROLS and following:
-            self._at += 2
-            return _CONTROLS[following[0]]
-        if following[:1] == "0" and not following[1:].isdigit():
-            self._at += 2
-            return 0
-        if following[:1] == "c" and following[1:].isascii() and following[1:].isalpha():
-            self._at += 3
-            return ord(following[1]) % 32
-        if following[:1] == "b" and in_class:
-            self._at += 2
-            return 0x08
-        return None
+        if found is None:
+            return None
+        digits = found[1] or found[2] or found[3]
+        code = int(digits, 16) if digits else _CONTROLS[found[4]] if found[4] else ord(found[5]) % 32
+        if code > 0x10FFFF:
+            self._stop("Unicode has no such character")
+        self._surrogates = self._surrogates or 0xD800 <= code <= 0xDFFF
+        self._at = found.end()
+        return code
 
     def _property(self) -> Characters:
         found = _PROPERTY.match(self._pattern, self._at)
