@@ -9,10 +9,9 @@ from ..refusals import NO_MAJORITY
 from ..wire.limits import MOST_CHANGES
 from ..wire.replies import refusal
 from ..wire.standard_streams import complain
-from ..wire.store_frames import length_of_frames
 from .applying import Applier
 from .capacity import FULL
-from .changes import LINES_OF_ENTRY
+from .changes import LINES_OF_ENTRY, length_of_frames
 from .engine import NoSpace, Rejected
 from .line_reader import MOST_TEXT
 from .log import EntryKind, Log

@@ -15,8 +15,7 @@ import math
 from typing import Dict, List, NamedTuple, Sequence, Set
 
 from ..wire import limits
-from ..wire.store_frames import MOST_MARK, length_of_frames
-from .changes import Change, Line
+from .changes import MOST_MARK, Change, Line, length_of_frames
 from .line_reader import MOST_TEXT
 from .store import ReplicaStore
 

@@ -4,14 +4,24 @@ from typing import Any, Dict, List, NamedTuple, Tuple
 
 from ..wire.commands import changes_in
 from ..wire.forms import TRANSACTION
-from ..wire.limits import MOST_DOCUMENT_BYTES
-from ..wire.store_frames import length_of_frames
+from ..wire.limits import MOST_DOCUMENT_BYTES, MOST_MARK_BYTES
 from ..wire.values import canonical
 
-__all__ = ["Change", "Line", "LINES_OF_ENTRY", "line_in"]
+__all__ = ["Change", "Line", "LINES_OF_ENTRY", "MOST_MARK", "length_of_frames", "line_in"]
 
 #: The most lines of an entry.
 LINES_OF_ENTRY = 256
+
+# A frame in a store's file is the length of its body, its seq, and the body (`docs/inside/FORMAT.md`).
+_HEAD = 12
+
+#: The most bytes that a mark takes, with the longest key.
+MOST_MARK = 61 + 64 + MOST_MARK_BYTES
+
+
+def length_of_frames(texts: int, changes: int) -> int:
+    """The bytes of the frames of changes whose texts have `texts` bytes together."""
+    return texts + _HEAD * changes
 
 
 class Change(NamedTuple):

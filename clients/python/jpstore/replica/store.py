@@ -1,16 +1,18 @@
 """The program under a node, and what its replies mean."""
+import asyncio
+import contextlib
 import hashlib
 import json
-from asyncio.subprocess import Process
+import time
+from asyncio.subprocess import PIPE, Process
 from typing import Any, Dict, List, Optional, Sequence, Tuple
 
 from ..errors import Ended, JpstoreError
 from ..wire import commands
 from ..wire.commands import LIST, SNAPSHOT, STATUS, line_of
 from ..wire.limits import MOST_GROUP
-from ..wire.program import find_program, serve_words, version_of
+from ..wire.program import ended_program, find_program, serve_words, version_of
 from ..wire.replies import REFUSED, text_in
-from ..wire.spawn import ended_serving, opened_serving
 from ..wire.store_file import format_of
 from .errors import Changed, WrongLog
 from .log import Agreed
@@ -21,6 +23,12 @@ __all__ = ["Faulty", "ReplicaStore", "judge_of"]
 # Refusals that are no answers of the log: those of this machine (60 to 64), as another node may have accepted the
 # change, and that of an entry as a whole (65), which the reckoning leaves to none.
 _FAULTS = (60, 61, 62, 63, 64, 65)
+
+# Longer than any reply of the program, and the bytes of replies that are dropped at once.
+_MOST_REPLY, _PIECE = (1 << 24) + (1 << 16), 1 << 16
+
+# How long it waits before it looks again whether a file is free, in seconds.
+_PAUSE = 0.05
 
 # How many letters the digest of a long version has.
 _DIGEST = 16
@@ -42,28 +50,48 @@ class ReplicaStore:
     """The program that serves a node's file. One call at a time."""
 
     def __init__(self, file: str, words: List[str], program: Process) -> None:
-        assert program.stdin and program.stdout
+        assert program.stdin and program.stdout and program.stderr
         self.file = file
         self.process = program
-        self._words, self._input, self._output = words, program.stdin, program.stdout
+        self._words, self._input, self._output, self._errors = words, program.stdin, program.stdout, program.stderr
         #: The last status of the store.
         self.status: Dict[str, Any] = {}
 
     @classmethod
     async def open(cls, file: str, program: Optional[str], pump: int = 0, wait: float = 0) -> "ReplicaStore":
-        """Starts the program. `Ended` if it can't open the file."""
+        """Starts the program. `Ended` if it can't open the file, which may be in use for so many seconds."""
         if format_of(file) != 3:
             raise JpstoreError(f"{file} is of format 2, and nodes keep their place in format 3 alone: bring it to that "
                                "by `jpstore upgrade`")
-        path = find_program(program)
-        words = serve_words(path, file, MOST_GROUP, pump)
-        store = cls(file, words, await opened_serving(words, wait))
-        await store.ask([])
-        return store
+        words, until = serve_words(find_program(program), file, MOST_GROUP, pump), time.monotonic() + wait
+        while True:
+            # In a session of its own, so that an interrupt at the terminal does not end it before the node.
+            store = cls(file, words, await asyncio.create_subprocess_exec(
+                *words, stdin=PIPE, stdout=PIPE, stderr=PIPE, limit=_MOST_REPLY, start_new_session=True))
+            store._input.write(STATUS)
+            if await store._output.readline():
+                await store.ask([])
+                return store
+            ended = await store.close()
+            if ended.name != "in-use" or time.monotonic() >= until:
+                raise ended
+            await asyncio.sleep(_PAUSE)
 
     async def close(self) -> Ended:
-        """Ends the program, and returns how it ended."""
-        return await ended_serving(self._words, self.process)
+        """Ends the program, which gets no more lines, and returns how it ended."""
+        self._input.close()
+        # A program whose replies nobody reads any more would wait for that.
+        dropping = asyncio.ensure_future(self._drop())
+        # What was written to a program that has ended is lost, and that is no error of its own.
+        with contextlib.suppress(OSError):
+            await self._input.wait_closed()
+        errors = await self._errors.read()
+        await dropping
+        return ended_program(self._words, await self.process.wait(), errors)
+
+    async def _drop(self) -> None:
+        while await self._output.read(_PIECE):
+            pass
 
     async def exchange(self, lines: Sequence[bytes]) -> List[bytes]:
         """The replies to lines, one each."""

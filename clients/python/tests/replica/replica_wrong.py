@@ -108,7 +108,7 @@ WRONG = [
     Wrong("a node that waits at its end for the look-up of a name", "tasks.py",
           "threading.Thread(target=run, daemon=True).start()", "threading.Thread(target=run).start()",
           "ended_as_a_name_is_looked_up"),
-    Wrong("a node that waits at its end for a program whose answers it doesn't read", "../wire/spawn.py",
-          "    while await replies.read(_PIECE):\n        pass\n", "    await asyncio.sleep(0)\n",
+    Wrong("a node that waits at its end for a program whose answers it doesn't read", "store.py",
+          "        while await self._output.read(_PIECE):\n            pass\n", "        await asyncio.sleep(0)\n",
           "ended_in_the_midst_of_answers"),
 ]

@@ -7,14 +7,13 @@ from collections import deque
 
 import pytest
 from jpstore.replica.applying import Applier, OtherVersion
-from jpstore.replica.changes import LINES_OF_ENTRY
+from jpstore.replica.changes import LINES_OF_ENTRY, MOST_MARK
 from jpstore.replica.line_reader import MOST_TEXT, read_line
 from jpstore.replica.log import Agreed, Entry, EntryKind
 from jpstore.replica.place import MOST_VERSION, Place, begin_of, furthest, key_of, marked, place_in
 from jpstore.replica.store import ReplicaStore
 from jpstore.wire.limits import MOST_MARK_BYTES
 from jpstore.wire.program import format_file
-from jpstore.wire.store_frames import MOST_MARK
 from replica_check import played
 
 CAPACITY = 70_000

@@ -6,14 +6,13 @@ import json
 import random
 
 import pytest
-from jpstore.replica.changes import line_in
+from jpstore.replica.changes import MOST_MARK, line_in
 from jpstore.replica.digest import digest_of, is_outvoted
 from jpstore.replica.engine import Engine, Member
 from jpstore.replica.line_reader import MOST_TEXT, read_line
 from jpstore.replica.capacity import LEAST_CAPACITY, Need, Reckoning, room_of
 from jpstore.replica.tasks import end_tasks
 from jpstore.wire.forms import Kind
-from jpstore.wire.store_frames import MOST_MARK
 from replica_check import Alone
 from replica_wrong import WRONG
 from support import raised
