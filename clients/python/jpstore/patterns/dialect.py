@@ -28,6 +28,7 @@ _BOUNDARIES = {"A": "start", "z": "end", "b": "word", "B": "no word", "<": "word
                "{start}": "word start", "{end}": "word end", "{start-half}": "word start half",
                "{end-half}": "word end half"}
 _OPERATORS = ("&&", "--", "~~")
+_IGNORED = re.compile(r"(?:[^\S\x1c-\x1f]|#[^\n]*\n?)+")
 
 
 class _Flags(NamedTuple):
@@ -101,14 +102,8 @@ class _Reader(Reader):
 
     def _skip(self) -> None:
         """Passes over white space and comments, if these are to be ignored."""
-        while self._flags.x and self._at < len(self._pattern):
-            if self._pattern[self._at] == "#":
-                end = self._pattern.find("\n", self._at)
-                self._at = len(self._pattern) if end < 0 else end + 1
-            elif self._pattern[self._at].isspace() and self._pattern[self._at] not in "\x1c\x1d\x1e\x1f":
-                self._at += 1
-            else:
-                return
+        found = _IGNORED.match(self._pattern, self._at) if self._flags.x else None
+        self._at = found.end() if found else self._at
 
     def _part(self) -> None:
         begin, sign = self._at, self._pattern[self._at]

@@ -92,9 +92,7 @@ class Applier:
         if not group:
             return [await self._alone(waiting.popleft())]
         done, reply = await self._together(group)
-        for _ in range(done):
-            waiting.popleft()
-        finished = [Done(task.entry, task.answers) for task in group[:done]]
+        finished = [Done(waiting.popleft(), task.answers) for task in group[:done]]
         if done == len(group):
             self._window = min(2 * self._window, _MOST_TOGETHER)
             return finished

@@ -26,15 +26,15 @@ _NO_GROWTH = "a node does not grow while it serves"
 
 
 class Clients:
-    """The connections of a socket, whose questions are linearizable or answered at once."""
+    """The connections of a node."""
 
-    def __init__(self, node: Node, linear: bool) -> None:
-        self._node, self._linear = node, linear
+    def __init__(self, node: Node) -> None:
+        self._node = node
         self._tasks: "Set[asyncio.Future[None]]" = set()
 
-    def welcome(self, reader: asyncio.StreamReader, writer: asyncio.StreamWriter) -> None:
-        """Serves a client that has connected, beside the others."""
-        task = asyncio.ensure_future(_Client(self._node, self._linear, reader, writer).serve())
+    def welcome(self, linear: bool, reader: asyncio.StreamReader, writer: asyncio.StreamWriter) -> None:
+        """Serves a client that has connected, beside the others; its questions are linearizable or answered at once."""
+        task = asyncio.ensure_future(_Client(self._node, linear, reader, writer).serve())
         self._tasks.add(task)
         task.add_done_callback(self._tasks.discard)
 

@@ -60,7 +60,8 @@ def receive_copy(path: str, target: str) -> Tuple[int, str]:
             if not told.get("ok"):
                 raise JpstoreError(f"{path} hands out no store: {told.get('error', 'it is no node')}")
             os.fchmod(made.fileno(), told.get("mode", 0o600) & 0o777)
-            _fill(made, told["sectors"] * SECTOR)
+            # So that no later write has to find room.
+            os.posix_fallocate(made.fileno(), 0, told["sectors"] * SECTOR)
             made.write(_exactly(lines, told["head"], path))
             made.seek(told["begin"])
             left = told["bytes"] - told["head"]
@@ -71,13 +72,6 @@ def receive_copy(path: str, target: str) -> Tuple[int, str]:
             made.flush()
             os.fsync(made.fileno())
     return told["sectors"], told["place"]
-
-
-def _fill(made: IO[bytes], length: int) -> None:
-    """Writes a new file full of zeros, so that no later write has to find room."""
-    for begin in range(0, length, _PIECE):
-        made.write(bytes(min(_PIECE, length - begin)))
-    made.seek(0)
 
 
 def _exactly(lines: IO[bytes], size: int, path: str) -> bytes:

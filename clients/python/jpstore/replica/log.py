@@ -103,8 +103,8 @@ class Log:
     def _key(self, word: str) -> str:
         return packed(f"{self._name}/{word}".encode())
 
-    async def _read(self, word: str, patience: Optional[float]) -> Optional[Dict[str, Any]]:
-        answer = await self._engine.call("/kv/range", {"key": self._key(word)}, patience)
+    async def _read(self, word: str, patience: Optional[float], keys_only: bool = False) -> Optional[Dict[str, Any]]:
+        answer = await self._engine.call("/kv/range", {"key": self._key(word), "keys_only": keys_only}, patience)
         found = answer.get("kvs")
         return found[0] if found else None
 
@@ -127,9 +127,8 @@ class Log:
 
     async def head(self, patience: Optional[float] = None) -> Head:
         """The last entry, as a majority has it now: a linearizable read."""
-        answer = await self._engine.call("/kv/range", {"key": self._key("log"), "keys_only": True}, patience)
-        found = answer.get("kvs")
-        return Head(int(found[0]["version"]), int(found[0]["mod_revision"])) if found else Head(0, 0)
+        found = await self._read("log", patience, True)
+        return Head(int(found["version"]), int(found["mod_revision"])) if found else Head(0, 0)
 
     async def register(self, node: str) -> str:
         """Begins to append for this node, and shuts out what an earlier process left on its way; returns its name."""

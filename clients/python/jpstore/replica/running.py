@@ -4,6 +4,7 @@ import faulthandler
 import os
 import signal
 import sys
+from functools import partial
 from typing import Any, Awaitable, Dict, List
 
 from ..errors import JpstoreError
@@ -34,24 +35,22 @@ class _Sockets:
 
     def __init__(self, node: Node, settings: Settings) -> None:
         self._paths = [(settings.socket, True)] + ([(settings.local, False)] if settings.local else [])
-        self._clients = [Clients(node, linear) for _, linear in self._paths]
+        self._clients = Clients(node)
         self._servers: List[asyncio.AbstractServer] = []
         self._listening: List[Listening] = []
 
     async def open(self) -> None:
-        for (path, _), clients in zip(self._paths, self._clients):
-            listening = Listening(path)
-            self._listening.append(listening)
-            self._servers.append(await asyncio.start_unix_server(clients.welcome, sock=listening.socket,
-                                                                 backlog=_BACKLOG, **_OURS))
+        for path, linear in self._paths:
+            self._listening.append(Listening(path))
+            self._servers.append(await asyncio.start_unix_server(
+                partial(self._clients.welcome, linear), sock=self._listening[-1].socket, backlog=_BACKLOG, **_OURS))
 
     async def close(self) -> None:
         for server in self._servers:
             server.close()
         for listening in self._listening:
             listening.remove()
-        for clients in self._clients:
-            await clients.close()
+        await self._clients.close()
 
 
 async def _made(settings: Settings, store: ReplicaStore) -> Node:
