@@ -6,7 +6,7 @@ import re
 from typing import List, NamedTuple, Optional, Tuple, Union
 
 from .cases import cases_of
-from .characters import DIGITS, NEVER, WORD, Characters, by_name, combined, of, outside, united
+from .characters import DIGITS, WORD, Characters, by_name, combined, of, outside, united
 from .properties import dialect_property
 from .tokens import Kind, NoPattern, Reader, Token
 
@@ -404,26 +404,24 @@ class _Reader(Reader):
 
     def _member(self) -> Tuple[Characters, Optional[int]]:
         sign = self._pattern[self._at:self._at + 1]
-        if sign != "\\":
-            if not sign:
-                self._stop("this class is not closed")
-            self._at += 1
-            self._is_member(ord(sign))
-            return of(ord(sign)), ord(sign)
-        following = self._pattern[self._at + 1:self._at + 2]
-        if following and following in "bBAz<>":
+        following = self._pattern[self._at + 1:self._at + 2] if sign == "\\" else ""
+        if not sign:
+            self._stop("this class is not closed")
+        if following in _BOUNDARIES:
             self._stop("an edge is no character of a class")
-        if following and following in "dDsSwWpP":
+        if following in tuple("dDsSwWpP"):
             value = self._escape()
-            return value if isinstance(value, Characters) else NEVER, None
-        code = self._code(following)
-        self._is_member(code)
-        return of(code), code
-
-    def _is_member(self, code: int) -> None:
+            assert isinstance(value, Characters)
+            return value, None
+        if sign == "\\":
+            code = self._code(following)
+        else:
+            code = ord(sign)
+            self._at += 1
         if not self._flags.u and code > 0x7F:
             self._at -= 1
             self._stop("a class has ASCII alone without the flag `u`")
+        return of(code), code
 
 
 def _one_of(parts: List[Characters]) -> Characters:
