@@ -1,5 +1,7 @@
 """The documents that schemas are in, and what a reference leads to in them (JSON Schema Core, sections 8.2 and 9)."""
 import re
+from functools import reduce
+from operator import getitem
 from typing import Any, Callable, Dict, Iterator, List, NamedTuple, Optional, Tuple
 from urllib.parse import unquote, urldefrag, urljoin
 
@@ -128,10 +130,7 @@ class Documents:
         return self._added(uri, root, draft_of(root) if declares else draft)
 
     def _value(self, at: At) -> Any:
-        value = self._roots[at.document]
-        for token in at.tokens:
-            value = value[token]
-        return value
+        return reduce(getitem, at.tokens, self._roots[at.document])
 
     def _walked(self, at: At, pointer: str) -> Optional[Tuple[At, Any]]:
         value = self._value(at)

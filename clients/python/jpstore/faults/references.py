@@ -147,11 +147,9 @@ class References:
     def loop(self) -> List[Trail]:
         """A way that leads from a schema back to it for the same value; empty if there is none."""
         done: Set[int] = set()
-        for trail, part in subschemas(self._root, self._profile):
-            loop = self._loop_from(trail, part, done) if id(part) not in done else []
-            if loop:
-                return loop
-        return []
+        loops = (self._loop_from(*place, done) for place in subschemas(self._root, self._profile)
+                 if id(place[1]) not in done)
+        return next(filter(None, loops), [])
 
     def _loop_from(self, trail: Trail, part: Any, done: Set[int]) -> List[Trail]:
         # A search in depth by hand: references may lead further than calls may go.
