@@ -87,7 +87,9 @@ class Applier:
     async def apply(self, waiting: Deque[Entry]) -> List[Done]:
         """Does some of the entries that wait, at least one, and takes them away."""
         if self.place.next >= 0:
-            return [await self._resumed(waiting.popleft())]
+            # An earlier start has begun to do the entry line by line.
+            entry = waiting.popleft()
+            return [await self._rest(_Task(entry, self._lines_in(entry), {}), self.place.next)]
         group = await self._group(waiting)
         if not group:
             return [await self._alone(waiting.popleft())]
@@ -109,8 +111,7 @@ class Applier:
         for entry in list(waiting)[:self._window]:
             if entry.kind is not EntryKind.LINES:
                 break
-            self._check_version(entry)
-            lines = [line_in(line) for line in entry.lines]
+            lines = self._lines_in(entry)
             try:
                 verdict = self._reckoning.verdict(lines) if group else await self._verdict(lines)
             except Need:
@@ -134,19 +135,20 @@ class Applier:
 
     async def _alone(self, entry: Entry) -> Done:
         """Does an entry that is no transaction of changes, or none as a whole."""
-        self._check_version(entry)
-        lines = [line_in(line) for line in entry.lines]
+        lines = self._lines_in(entry)
         verdict = await self._verdict(lines) if lines else Verdict({}, True)
         task = _Task(entry, lines, verdict.out)
         return self._ended(task) if verdict.whole else await self._rest(task, 0)
 
-    def _check_version(self, entry: Entry) -> None:
+    def _lines_in(self, entry: Entry) -> List[Line]:
+        """The lines of an entry. `OtherVersion` if another version of the program judges them."""
         if entry.kind is EntryKind.VERSION and entry.version != self.version:
             raise OtherVersion(f"from entry {entry.n} on the log is for {entry.version}, and this is {self.version}: "
                                "install that version here")
         if entry.kind is EntryKind.LINES and self.place.version != self.version:
             raise OtherVersion(f"entry {entry.n} of the log is for {self.place.version}, and this is {self.version}: "
                                "run that version here until they are done, or make the store anew by `replica join`")
+        return [line_in(line) for line in entry.lines]
 
     def _ended(self, task: _Task) -> Done:
         """Passes over an entry of which nothing more is to be made."""
@@ -207,11 +209,6 @@ class Applier:
             done, reply = await self._together([task])
             if done:
                 return Done(task.entry, task.answers)
-
-    async def _resumed(self, entry: Entry) -> Done:
-        """Goes on with an entry that an earlier start has begun to do line by line."""
-        self._check_version(entry)
-        return await self._rest(_Task(entry, [line_in(line) for line in entry.lines], {}), self.place.next)
 
     async def _rest(self, task: _Task, begin: int) -> Done:
         """Does the lines from `begin` on, each alone, and judges it by the documents as they are then.

@@ -65,7 +65,7 @@ WRONG = [
     Wrong("a node that does an entry anew that it has begun line by line", "place.py",
           "digest, int(next), chain", "digest, -1, chain", "stopped_line_by_line"),
     Wrong("a node that passes over the rest of an entry that it has begun line by line", "applying.py",
-          "for line in entry.lines], {}), self.place.next)", "for line in entry.lines], {}), len(entry.lines))",
+          "self._lines_in(entry), {}), self.place.next)", "self._lines_in(entry), {}), len(entry.lines))",
           "stopped_line_by_line"),
     Wrong("a node that tells the place of a change in the entry", "applying.py",
           'told["change"] = change - begin', 'told["change"] = change', "refusals_in_one_entry"),
