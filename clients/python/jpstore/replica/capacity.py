@@ -137,9 +137,8 @@ class Reckoning:
     def count(self, lines: Sequence[Line]) -> None:
         """Takes lines into account that are done, or at most these."""
         changes: List[Change] = [change for line in lines for change in line.changes]
-        if changes:
-            self._exact = False
-            self._total += sum(change.growth for change in changes)
+        self._exact = False
+        self._total += sum(change.growth for change in changes)
         if len(self._lengths) > _MOST_KEPT:
             self._lengths.clear()
             self._measured.clear()

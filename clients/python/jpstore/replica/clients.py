@@ -108,29 +108,29 @@ class _Client:
 
     async def _own(self, command: Dict[str, Any], lines: AsyncIterator[bytes]) -> bool:
         """Answers a line that is for the node itself; returns whether further lines may come."""
-        if command["cmd"] == "watch":
+        word = command["cmd"]
+        if word == "watch":
             await serve_watch(command, lines, self._writer, self._node.history)
-            return False
-        if command["cmd"] == "node":
-            told = {"ok": True, **self._node.told()}
-            self._writer.write(line_of_reply(told))
-            return True
-        if command["cmd"] == "copy":
+        elif word == "node":
+            self._writer.write(line_of_reply({"ok": True, **self._node.told()}))
+        elif word == "copy":
             await self._copied()
-            return True
-        if command["cmd"] == "grow":
+        elif word == "grow":
             self._writer.write(refusal(NOT_GROWN, why=_NO_GROWTH))
-            return True
-        # All that a majority has now is in the export.
+        else:
+            await self._exported()
+        return bool(word != "watch")
+
+    async def _exported(self) -> None:
+        """Sends all documents, once this node has all that a majority has now."""
         status = await self._node.asking.question(STATUS, self._linear)
         if status.startswith(REFUSED):
             self._writer.write(status)
-            return True
+            return
         try:
             await send(await self._node.export(), self._writer)
         except OSError as error:
             raise JpstoreError(f"an export is broken off: {error}") from None
-        return True
 
     async def _copied(self) -> None:
         """Hands out the store, or says why not."""
