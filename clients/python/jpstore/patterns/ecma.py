@@ -260,7 +260,6 @@ class _Reader(Reader):
         code_named = self._code(True)
         if code_named is not None:
             return of(code_named), code_named
-        self._at = before
         value = self._escape(True)
         is_sign = self._at == before + 2 and self._pattern[before + 1] not in _CLASSES
         return value, ord(self._pattern[before + 1]) if is_sign else None

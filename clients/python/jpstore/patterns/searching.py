@@ -7,7 +7,7 @@ import re
 import unicodedata
 from bisect import bisect_right
 from functools import lru_cache, partial, reduce
-from typing import Any, Callable, Dict, FrozenSet, List, NamedTuple, Optional, Set, Tuple, Union
+from typing import Any, Callable, Dict, FrozenSet, List, Optional, Set, Tuple, Union
 
 from .cases import cases_of
 from .characters import Characters
@@ -53,17 +53,11 @@ def _search(pattern: str) -> "_Search":
     return _Search(read_dialect(pattern))
 
 
-class _State(NamedTuple):
-    """What one state of a pattern waits for: a character of a set, an edge, or nothing (""); and those after it."""
-
-    test: Union[Characters, str]
-    following: Tuple[int, ...]
-
-
 class _Search:
     def __init__(self, tokens: List[Token]) -> None:
-        # State 0 is the end of the pattern.
-        self._states = [_State("", ())]
+        # What each state waits for: a character of a set, an edge, or nothing (""); and those after it. State 0 is the
+        # end of the pattern.
+        self._states: List[Tuple[Union[Characters, str], Tuple[int, ...]]] = [("", ())]
         self._begin = self._whole(tokens)(0)
         self._kept: Dict[Tuple[FrozenSet[int], str, str], Optional[FrozenSet[int]]] = {}
 
@@ -128,7 +122,7 @@ class _Search:
     def _added(self, test: Union[Characters, str], *following: int) -> int:
         if len(self._states) > _MOST_STATES:
             raise _Unknown
-        self._states.append(_State(test, following))
+        self._states.append((test, following))
         return len(self._states) - 1
 
     def _choice(self, rows: List[List[_Part]], following: int) -> int:
@@ -140,7 +134,7 @@ class _Search:
             raise _Unknown
         if most is None:
             begin = self._added("", following)
-            self._states[begin] = _State("", (part(begin), following))
+            self._states[begin] = "", (part(begin), following)
         else:
             begin = following
             for _ in range(most - least):

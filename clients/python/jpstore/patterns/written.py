@@ -22,12 +22,8 @@ def written(tokens: List[Token]) -> str:
 
     Signs are without backslashes that they don't need, since not all editions of Rust's crate read these.
     """
-    return "".join(_NEEDLESS.sub(_kept_backslash, token.text) if _is_kept(token) else _written(token)
+    return "".join(_NEEDLESS.sub(r"\1", token.text) if _is_kept(token) else _written(token)
                    for token in tokens)
-
-
-def _kept_backslash(found: "re.Match[str]") -> str:
-    return found[1] or ""
 
 
 def _is_kept(token: Token) -> bool:

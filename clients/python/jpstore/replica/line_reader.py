@@ -91,10 +91,9 @@ def read_line(line: bytes) -> Asked:
         return _refused(10)
     try:
         command, doubled = _READER.read(line)
+        text = canonical(command) + b"\n"
     except _Unreadable as error:
         return _refused(error.args[0])
-    try:
-        text = canonical(command) + b"\n"
     except UnicodeEncodeError:
         # Half of a surrogate pair is no character.
         return _refused(11)
