@@ -98,9 +98,8 @@ class References:
         if self._anchors is None:
             self._anchors = {}
             for trail, part in subschemas(self._root, 3):
-                name = part.get("$anchor") if isinstance(part, dict) else None
-                if isinstance(name, str):
-                    self._anchors.setdefault(name, (trail, part))
+                if isinstance(part, dict) and isinstance(part.get("$anchor"), str):
+                    self._anchors.setdefault(part["$anchor"], (trail, part))
         return self._anchors
 
     def dangling(self, reference: str, adapted: str) -> str:

@@ -99,10 +99,8 @@ class Reckoning:
 
     def _too_heavy(self, lines: Sequence[Line], out: Dict[int, int]) -> Verdict:
         lengths: Dict[str, int] = {}
-        weights: Dict[int, int] = {}
-        for place, line in enumerate(lines):
-            if place not in out:
-                weights[place] = sum(self._weight(change, lengths) for change in line.changes)
+        weights = {place: sum(self._weight(change, lengths) for change in line.changes)
+                   for place, line in enumerate(lines) if place not in out}
         # A node makes no larger entries, so this holds unless one has a fault.
         fits = (sum(lines[place].cost for place in weights) <= min(self.room.changes, MOST_TEXT)
                 and sum(len(lines[place].changes) for place in weights) <= limits.MOST_CHANGES)
