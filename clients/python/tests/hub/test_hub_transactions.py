@@ -188,7 +188,8 @@ def test_one_that_changes_too_many_bytes_refuses_no_line_of_another(place, versi
 @pytest.mark.parametrize("of_hub", [True, False])
 def test_a_kill_leaves_whole_transactions(place, of_hub):
     """Each transaction counts three documents up; after a kill they have one count, and so has a watcher."""
-    place.format(version=3)
+    # Room for all, since a snapshot would drop the first.
+    place.format(65_536, version=3)
     names = ("a", "b", "c")
     acknowledged = 0
     for life in range(3):
