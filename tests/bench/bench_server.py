@@ -31,7 +31,12 @@ from server import use_server  # noqa: E402
 DOCUMENTS = 100
 TEXT = "x" * 1000
 
-GET = 'request = function() return wrk.format("GET", "/documents/d" .. math.random(0, 99)) end'
+# Requests that are the same each time are made once, so that `wrk` is not what is measured.
+GET = """
+local asked = {}
+init = function() for number = 0, 99 do asked[number] = wrk.format("GET", "/documents/d" .. number) end end
+request = function() return asked[math.random(0, 99)] end
+"""
 PATCH = """
 wrk.headers["Content-Type"] = "application/json-patch+json"
 local count = 0
@@ -41,10 +46,11 @@ request = function()
 end
 """
 ETCD = """
-local keys, count = {%s}, 0
-request = function()
-  return wrk.format("POST", "/v3/kv/%s", nil, '{"key":"' .. keys[math.random(1, 100)] .. '"%s}')
+local keys, asked = {%s}, {}
+init = function()
+  for number, key in ipairs(keys) do asked[number] = wrk.format("POST", "/v3/kv/%s", nil, '{"key":"' .. key .. '"%s}') end
 end
+request = function() return asked[math.random(1, 100)] end
 """
 
 
@@ -114,7 +120,7 @@ class Server:
         path = os.path.join(folder, f"{len(os.listdir(folder))}.lua")
         with open(path, "w", encoding="ascii") as opened:
             opened.write(script)
-        threads = min(2, options.connections)
+        threads = min(len(os.sched_getaffinity(0)), options.connections)
         words = ["wrk", f"-t{threads}", f"-c{options.connections}", f"-d{options.seconds}s", "--latency", "-s", path, f"http://127.0.0.1:{self.port}"]
         return subprocess.Popen(words, stdout=subprocess.PIPE, text=True)
 
