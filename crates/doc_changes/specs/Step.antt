@@ -3,6 +3,7 @@ use Rattle.std.specs.Prelude.{◌≡◌, ◌≢◌, ℕ, ◌+◌, ◌⊎◌, not
 use Rattle.std.specs.Result.{result_err}
 use Rattle.doc_tree.specs.Doc.{Doc, height}
 use Rattle.doc_tree.specs.Text.{text_of}
+use Rattle.doc_schema.specs.Faults.{MayHaveLargePatterns}
 use Rattle.schema_rules.specs.declared.profile.Profile.{Profile}
 use Rattle.record_text.specs.Change.{Change, create, patch, set_schema, delete}
 use Rattle.doc_changes.specs.Patched.{patched, made_or, on_made}
@@ -11,7 +12,7 @@ use Rattle.doc_changes.specs.Schema.{schema_refusal, is_valid}
 use Rattle.doc_changes.specs.State.{Document, State, find, changed, most_documents, without}
 use Rattle.doc_changes.specs.Names.{is_name}
 use Rattle.doc_changes.specs.declared.refusal.Refusal.{Refusal}
-use Rattle.refusals.specs.declared.numbers.TheConstants.{MEMORY, DEPTH, TOO_LARGE, NAME, EXISTS, NO_DOCUMENT, TOO_MANY, INVALID, FULL, DEVICE, BROKEN, SEQ_END}
+use Rattle.refusals.specs.declared.numbers.TheConstants.{MEMORY, DEPTH, TOO_LARGE, NAME, EXISTS, NO_DOCUMENT, TOO_MANY, INVALID, FULL, DEVICE, BROKEN, SCHEMA_SIZE, SEQ_END}
 
 -- ---- single reasons
 
@@ -95,6 +96,24 @@ after s c = record s { documents = documents_after s.documents c (s.seq + 1); se
 -- the refusal is the one that the state gives the change, or memory was refused
 abbrev pub Refuses : State → Change → Refusal → Type 0
 Refuses s c r = (r ≡ plain MEMORY) ⊎ (refusal_of s c ≡ Some r)
+
+-- The change brings a schema without a fault that has patterns, and no reason before its schema refuses it. Only the patterns
+-- of such a one may be too large.
+abbrev pub MayBringLargePatterns : Profile → List Document → Change → Type 0
+MayBringLargePatterns profile ds (create name schema doc) =
+    (first (name_refusal name ∷ exists_refusal ds name ∷ room_refusal profile ds ∷ []) ≡ None) × MayHaveLargePatterns profile schema
+MayBringLargePatterns profile ds (patch name ops if_rev) = ⊥
+MayBringLargePatterns profile ds (set_schema name schema) = (first (name_refusal name ∷ absent_refusal ds name ∷ []) ≡ None) × MayHaveLargePatterns profile schema
+MayBringLargePatterns profile ds (delete name) = ⊥
+
+-- the refusal says that the patterns of the change's schema are too large
+abbrev pub SaysLargePatterns : State → Change → Refusal → Type 0
+SaysLargePatterns s c r = (r ≡ plain SCHEMA_SIZE) × MayBringLargePatterns s.profile s.documents c
+
+-- The refusal of a change that a client sends: the same, or its patterns are too large. One that a journal holds is never
+-- refused for these.
+abbrev pub Denies : State → Change → Refusal → Type 0
+Denies s c r = (r ≡ plain MEMORY) ⊎ (refusal_of s c ≡ Some r) ⊎ SaysLargePatterns s c r
 
 -- The refusal is the machine's own: those that a full, failing or broken device gives are others.
 abbrev pub IsOwn : Refusal → Type 0

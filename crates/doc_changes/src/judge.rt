@@ -1,5 +1,5 @@
 //! The judgement of a change: why it is refused. It only reads.
-ghost use Rattle.std.specs.Prelude.{◌≡◌, ◌⊎◌, Ok, Err, IfOk, IfErr, MatchResult};
+ghost use Rattle.std.specs.Prelude.{◌≡◌, ◌⊎◌, Ok, Err, IfOk, IfErr, IsTrue, MatchResult};
 ghost use Rattle.doc_tree.specs.Sound.{IsSound};
 ghost use Rattle.doc_tree.specs.TreeView.{view};
 ghost use Rattle.refusals.specs.declared.numbers.TheConstants.{MEMORY};
@@ -9,7 +9,7 @@ ghost use Rattle.doc_changes.specs.Patched.{patched};
 ghost use Rattle.doc_changes.specs.Refusals.{plain};
 ghost use Rattle.doc_changes.specs.State.{Good};
 ghost use Rattle.doc_changes.specs.declared.limits.TheConstants.{LAST_SEQ};
-ghost use Rattle.doc_changes.specs.Step.{IsOwn, Refuses};
+ghost use Rattle.doc_changes.specs.Step.{Denies, IsOwn, MayBringLargePatterns, Refuses};
 
 use crate::Refusal;
 use crate::checks::{check_depth, check_name, check_revision, check_size};
@@ -18,9 +18,10 @@ use crate::judged::Judged;
 use crate::laws::accepted_changes_are_framed;
 use crate::rules::check_valid;
 use doc_patch::Patch;
+use doc_schema::Schema;
 use doc_tree::Tree;
 use record_text::Command;
-use refusals::numbers::{NO_DOCUMENT, SEQ_END};
+use refusals::numbers::{MEMORY, NO_DOCUMENT, SCHEMA_SIZE, SEQ_END};
 use std::alloc::Global;
 
 impl<'m> Documents<'m> {
@@ -79,6 +80,40 @@ impl<'m> Documents<'m> {
             });
         }
         self.judge_alone(command)
+    }
+
+    /// The refusal for a client that sends the change, by that of `judge`, `prepare` or `refuse_at_end`: `SCHEMA_SIZE` if it was
+    /// `MEMORY`, since the patterns of the schema are too large.
+    pub fn tell(&self, command: &Command, refusal: Refusal) -> Refusal
+        requires { Refuses self.now (change_of command.now) refusal }
+        ensures told { Denies self.now (change_of command.now) result }
+        ensures own { IsOwn result }
+    {
+        if refusal.number == MEMORY && self.has_large_patterns(command) {
+            return Refusal::plain(SCHEMA_SIZE);
+        }
+        refusal
+    }
+
+    // Whether a schema that comes with the change has patterns that are too large, and nothing before it is a reason to
+    // refuse the change.
+    fn has_large_patterns(&self, command: &Command) -> bool
+        ensures { IsTrue result → MayBringLargePatterns self.now.profile self.now.documents (change_of command.now) }
+    {
+        match command {
+            Command::Create { name, schema, .. } => {
+                check_name(name.as_str()).is_ok()
+                    && self.check_new(name.as_str()).is_ok()
+                    && self.check_room().is_ok()
+                    && Schema::has_large_patterns(self.profile, self.alloc, schema)
+            }
+            Command::Schema { name, schema } => {
+                check_name(name.as_str()).is_ok()
+                    && self.check_there(name.as_str()).is_ok()
+                    && Schema::has_large_patterns(self.profile, self.alloc, schema)
+            }
+            Command::Patch { .. } | Command::Delete { .. } => false,
+        }
     }
 
     fn judge_create(&self, name: &str, schema: &Tree, doc: &Tree) -> Result<Judged, Refusal>

@@ -4,21 +4,21 @@ use Rattle.std.proofs.Math.Seq.{take-append_seam}
 use Rattle.std.specs.Option.{option_or}
 use Rattle.std.specs.Str.{IsUtf8}
 use Rattle.std.proofs.lemmas.Bool.Decides.{nat_tests}
-use Rattle.std.proofs.lemmas.List.{append_assoc}
+use Rattle.std.proofs.lemmas.List.{append_assoc, append-nil}
 use Rattle.record_text.specs.Change.{Change, create, delete, patch, set_schema}
 use Rattle.record_text.specs.Frame.{IsFramed}
-use Rattle.refusals.specs.declared.numbers.TheConstants.{COMMAND, MARK, MEMORY, SEQ_END, TRANSACTION_LARGE}
+use Rattle.refusals.specs.declared.numbers.TheConstants.{COMMAND, MARK, MEMORY, SCHEMA_SIZE, SEQ_END, TRANSACTION_LARGE}
 use Rattle.doc_patch.specs.Held.{capped}
 use Rattle.doc_changes.specs.Held.{held_in}
 use Rattle.doc_changes.specs.Refusals.{at_change, plain, refused_if}
 use Rattle.doc_changes.specs.declared.refusal.Refusal.{Refusal}
 use Rattle.doc_changes.specs.Marks.{mark_of, mark_refusal}
 use Rattle.doc_changes.specs.State.{State, Good, noted}
-use Rattle.doc_changes.specs.Step.{IsOwn, Refuses, refusal_of, after}
-use Rattle.doc_machine.specs.Transaction.{AreAccepted, AreFramed, AreGood, AreMade, Changes, IsTransacted, RefusesTransaction, StopsAt, Transaction, after_all, all_of, alone, befores, changes_refusal, first_refused, is_countable, kept_by, kept_by_all, large_refusal, last_seq, marked, refusal_in, refused_at, refused_or, ruled_by, several, several_refusal, single, together}
+use Rattle.doc_changes.specs.Step.{Denies, IsOwn, MayBringLargePatterns, SaysLargePatterns, refusal_of, after}
+use Rattle.doc_machine.specs.Transaction.{AreAccepted, AreFramed, AreGood, AreMade, Changes, IsTransacted, RefusesTransaction, SaysOfChanges, SaysOfOne, SaysOfTransaction, StopsAt, Transaction, after_all, all_of, alone, befores, changes_refusal, first_refused, is_countable, kept_by, kept_by_all, large_refusal, last_seq, marked, refusal_in, refused_at, refused_or, ruled_by, several, several_refusal, single, together}
 use Rattle.doc_machine.specs.Marking.{Marking, is_as_asked, mark_at_seq, marking_refusal, other_mark}
 use Rattle.doc_machine.specs.Trial.{TrialView, first_or, state_at}
-use Rattle.doc_changes.proofs.Known.{own_refusal}
+use Rattle.doc_changes.proofs.Known.{own_memory, own_refusal}
 use Rattle.doc_changes.proofs.Marked.{is_mark, own_mark}
 
 -- ---- one change more
@@ -91,6 +91,11 @@ together_is kept n bytes is within = by (nat_lt 33_554_432 (kept + bytes)) refl 
     by true large none = absurd (cc none)
     by false small none = grind (arith, nat_tests)
 
+-- the profile stays
+profile_kept : (s : State) (cs : List Change) → (after_all s cs).profile ≡ s.profile
+profile_kept s [] = refl
+profile_kept s (c ∷ cs) = profile_kept (after s c) cs
+
 -- changes were made so far, and the next one comes
 module _ (old mid : TrialView) (made_first : List Change) (next : Change) (behind all : List Change) (place kept : ℕ) (parts : made_first ++ next ∷ behind ≡ all)
     (made : AreMade old made_first mid) (keep : kept ≡ kept_by_all old.state made_first) (left : first_refused 0 0 old.state (made_first ++ next ∷ behind) ≡ first_refused place kept mid.state (next ∷ behind)) where
@@ -103,18 +108,35 @@ module _ (old mid : TrialView) (made_first : List Change) (next : Change) (behin
     behind = behind;
     parts = append_assoc made_first (next ∷ []) behind ∙ parts;
     made = made_next;
-    why = inr (left_all ∙ large_here place kept mid.state next behind r accepted large);
+    why = inr (inl (left_all ∙ large_here place kept mid.state next behind r accepted large));
   }
 
-  pub stops_refused : (r : Refusal) → large_refusal kept ≡ None → Refuses mid.state next r → StopsAt old all (refused_at place r) mid
-  stops_refused r within refuses = record {
+  -- those made are accepted
+  accepted_first : first_refused 0 0 old.state (made_first ++ []) ≡ None → first_refused 0 0 old.state made_first ≡ None
+  accepted_first none = ap (first_refused 0 0 old.state) (sym (append-nil made_first)) ∙ none
+
+  stops_large_patterns : (r : Refusal) → place ≡ length made_first → first_refused 0 0 old.state (made_first ++ []) ≡ None → SaysLargePatterns mid.state next r → SaysOfOne old.state all (refused_at place r)
+  stops_large_patterns r count none tells = record {
+    made_first = made_first;
+    next = next;
+    behind = behind;
+    parts = parts;
+    accepted = accepted_first none;
+    brings = subst (λ (s : State). MayBringLargePatterns old.state.profile s.documents next) made.state
+        (subst (λ p. MayBringLargePatterns p mid.state.documents next) (ap (λ (s : State). s.profile) made.state ∙ profile_kept old.state made_first) tells.1);
+    r_is = ap (refused_at place) tells.0 ∙ ap (λ n. at_change n (plain SCHEMA_SIZE)) count;
+  }
+
+  pub stops_refused : (r : Refusal) → large_refusal kept ≡ None → place ≡ length made_first → first_refused 0 0 old.state (made_first ++ []) ≡ None → Denies mid.state next r → StopsAt old all (refused_at place r) mid
+  stops_refused r within count none denies = record {
     made_first = made_first;
     behind = next ∷ behind;
     parts = parts;
     made = made;
-    why = elim refuses [
+    why = elim denies [
       | inl memory ↦ inl (ap (refused_at place) memory, ap large_refusal (sym keep) ∙ within)
-      | inr own ↦ inr (left_all ∙ refused_here place kept mid.state next behind r own)
+      | inr (inl own) ↦ inr (inl (left_all ∙ refused_here place kept mid.state next behind r own))
+      | inr (inr tells) ↦ inr (inr (stops_large_patterns r count none tells))
     ];
   }
 
@@ -198,6 +220,21 @@ own_transaction s (marked m cs) r is = by (marking_refusal s m) refl is
     by None none is = own_changes s cs r is
     by (Some q) some is = let same : q ≡ r = cc is in subst IsOwn same (own_marking s m q some)
 
+own_size : IsOwn (plain SCHEMA_SIZE)
+own_size = ((λ e. omega (arith, e)), (λ e. omega (arith, e)), (λ e. omega (arith, e)))
+
+own_tells : (s : State) (t : Transaction) (r : Refusal) → SaysOfTransaction s t r → IsOwn r
+own_tells s (single c) r tells = subst IsOwn (sym tells.0) own_size
+own_tells s (several cs) r tells = subst IsOwn (sym tells.1.r_is) own_size
+own_tells s (marked m (alone c)) r tells = subst IsOwn (sym tells.1.0) own_size
+own_tells s (marked m (together cs)) r tells = subst IsOwn (sym tells.1.1.r_is) own_size
+
+-- whatever refuses it
+pub own_refuses : (s : State) (t : Transaction) (r : Refusal) → RefusesTransaction s t r → IsOwn r
+own_refuses s t r (inl memory) = own_memory r memory
+own_refuses s t r (inr (inl is)) = own_transaction s t r is
+own_refuses s t r (inr (inr tells)) = own_tells s t r tells
+
 -- ---- what was made can be taken back
 
 -- the state before all of them
@@ -245,10 +282,6 @@ some_several s (c ∷ cs) none = omega arith
 some_changes : (s : State) (cs : Changes) → changes_refusal s cs ≡ None → 1 ≤ length (all_of cs)
 some_changes s (alone c) none = omega arith
 some_changes s (together cs) none = some_several s cs none
-
-profile_kept : (s : State) (cs : List Change) → (after_all s cs).profile ≡ s.profile
-profile_kept s [] = refl
-profile_kept s (c ∷ cs) = profile_kept (after s c) cs
 
 -- each change is counted
 seq_after : (s : State) (cs : List Change) → (after_all s cs).seq ≡ s.seq + length cs
@@ -299,10 +332,11 @@ module _ (old mid : TrialView) (m : Marking) (cs : Changes) (asked : marking_ref
   }
 
 -- what refuses the changes refuses the transaction
-pub refuses_changes : (s : State) (m : Marking) (cs : Changes) (r : Refusal) → marking_refusal s m ≡ None → (r ≡ plain MEMORY) ⊎ (changes_refusal s cs ≡ Some r) → RefusesTransaction s (marked m cs) r
+pub refuses_changes : (s : State) (m : Marking) (cs : Changes) (r : Refusal) → marking_refusal s m ≡ None → (r ≡ plain MEMORY) ⊎ (changes_refusal s cs ≡ Some r) ⊎ SaysOfChanges s cs r → RefusesTransaction s (marked m cs) r
 refuses_changes s m cs r asked (inl memory) = inl memory
-refuses_changes s m cs r asked (inr is) = inr ((λ i. option_or (asked i) (changes_refusal s cs)) ∙ is)
+refuses_changes s m cs r asked (inr (inl is)) = inr (inl ((λ i. option_or (asked i) (changes_refusal s cs)) ∙ is))
+refuses_changes s m cs r asked (inr (inr tells)) = inr (inr (asked, tells))
 
 -- and what refuses what is said of marks
 pub refuses_marking : (s : State) (m : Marking) (cs : Changes) (r : Refusal) → marking_refusal s m ≡ Some r → RefusesTransaction s (marked m cs) r
-refuses_marking s m cs r is = inr (λ i. option_or (is i) (changes_refusal s cs))
+refuses_marking s m cs r is = inr (inl (λ i. option_or (is i) (changes_refusal s cs)))

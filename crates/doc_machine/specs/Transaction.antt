@@ -1,16 +1,16 @@
 -- Transactions: changes that are made together, all of them or none, and the mark that is set with them.
-use Rattle.std.specs.Prelude.{◌≡◌, ◌⊎◌, ℕ, ◌+◌, List, [], ◌∷◌, ◌++◌, length, map, Option, None, Some, nat_eq, nat_le, nat_lt, ◌&&◌, ◌||◌, Bool, if◌then◌else◌, ⊤}
+use Rattle.std.specs.Prelude.{◌≡◌, ◌⊎◌, ℕ, ◌+◌, List, [], ◌∷◌, ◌++◌, length, map, Option, None, Some, nat_eq, nat_le, nat_lt, ◌&&◌, ◌||◌, Bool, true, if◌then◌else◌, ⊤}
 use Rattle.std.specs.Option.{option_or}
 use Rattle.doc_tree.specs.Text.{text_of}
 use Rattle.record_text.specs.Change.{Change, change_of, create, delete, patch, set_schema}
 use Rattle.record_text.specs.Frame.{IsFramed}
-use Rattle.refusals.specs.declared.numbers.TheConstants.{COMMAND, MEMORY, SEQ_END, TRANSACTION_LARGE}
+use Rattle.refusals.specs.declared.numbers.TheConstants.{COMMAND, MEMORY, SCHEMA_SIZE, SEQ_END, TRANSACTION_LARGE}
 use Rattle.doc_changes.specs.Held.{held_at}
 use Rattle.doc_changes.specs.Refusals.{at_change, plain, refused_if}
 use Rattle.doc_changes.specs.declared.refusal.Refusal.{Refusal}
 use Rattle.doc_changes.specs.Marks.{IsMark, Mark, with_mark}
 use Rattle.doc_changes.specs.State.{Document, State, Good, find}
-use Rattle.doc_changes.specs.Step.{refusal_of, after}
+use Rattle.doc_changes.specs.Step.{MayBringLargePatterns, SaysLargePatterns, refusal_of, after}
 use Rattle.doc_machine.specs.Marking.{Marking, mark_at_seq, marking_of, marking_refusal}
 use Rattle.doc_machine.specs.Spelled.{change_in}
 use Rattle.doc_machine.specs.Trial.{TrialView}
@@ -196,15 +196,43 @@ pub record IsTransacted (old : TrialView) (t : Transaction) (seq : ℕ) (new : T
   pub made : IsMadeWhole old t new
   pub seq_is : seq ≡ new.state.seq
 
--- the refusal is the one that the state gives the transaction, or memory was refused
+-- ---- patterns that are too large
+
+-- Changes up to one are accepted, and the refusal says of the next, with its place, that the patterns of its schema are too
+-- large.
+pub record SaysOfOne (s : State) (cs : List Change) (r : Refusal) : Type 0 where
+  pub made_first : List Change
+  pub next : Change
+  pub behind : List Change
+  pub parts : made_first ++ next ∷ behind ≡ cs
+  pub accepted : first_refused 0 0 s made_first ≡ None
+  pub brings : MayBringLargePatterns s.profile (after_all s made_first).documents next
+  pub r_is : r ≡ at_change (length made_first) (plain SCHEMA_SIZE)
+
+-- the same of several changes that may be together
+abbrev pub SaysOfSeveral : State → List Change → Refusal → Type 0
+SaysOfSeveral s cs r = (is_countable cs ≡ true) × SaysOfOne s cs r
+
+-- of the changes beside a mark
+abbrev pub SaysOfChanges : State → Changes → Refusal → Type 0
+SaysOfChanges s (alone c) r = SaysLargePatterns s c r
+SaysOfChanges s (together cs) r = SaysOfSeveral s cs r
+
+-- and of a transaction
+abbrev pub SaysOfTransaction : State → Transaction → Refusal → Type 0
+SaysOfTransaction s (single c) r = SaysLargePatterns s c r
+SaysOfTransaction s (several cs) r = SaysOfSeveral s cs r
+SaysOfTransaction s (marked m cs) r = (marking_refusal s m ≡ None) × SaysOfChanges s cs r
+
+-- the refusal is the one that the state gives the transaction, or memory was refused, or patterns are too large
 abbrev pub RefusesTransaction : State → Transaction → Refusal → Type 0
-RefusesTransaction s t r = (r ≡ plain MEMORY) ⊎ (refusal_in s t ≡ Some r)
+RefusesTransaction s t r = (r ≡ plain MEMORY) ⊎ (refusal_in s t ≡ Some r) ⊎ SaysOfTransaction s t r
 
 -- From old, the first of these changes were made, and the transaction is refused: they keep too many bytes, or the next
--- one is refused; or memory was refused to that one, and then those made don't keep too many.
+-- one is refused; or memory was refused to that one, or its patterns are too large, and then those made don't keep too many.
 pub record StopsAt (old : TrialView) (cs : List Change) (r : Refusal) (new : TrialView) : Type 0 where
   pub made_first : List Change
   pub behind : List Change
   pub parts : made_first ++ behind ≡ cs
   pub made : AreMade old made_first new
-  pub why : ((r ≡ plain MEMORY) × (large_refusal (kept_by_all old.state made_first) ≡ None)) ⊎ (first_refused 0 0 old.state cs ≡ Some r)
+  pub why : ((r ≡ plain MEMORY) × (large_refusal (kept_by_all old.state made_first) ≡ None)) ⊎ (first_refused 0 0 old.state cs ≡ Some r) ⊎ SaysOfOne old.state cs r

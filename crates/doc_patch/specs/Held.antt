@@ -1,6 +1,6 @@
 -- The memory that a patch takes beyond its document and its own values, as bytes of text. A value that an operation
 -- removes or replaces was there before, and takes none.
-use Rattle.std.specs.Prelude.{◌≡◌, ℕ, ◌+◌, min, nat_lt, if◌then◌else◌, List, [], ◌∷◌, Option, Some, None, Result, Ok, Err}
+use Rattle.std.specs.Prelude.{◌≡◌, ◌⊎◌, ◌<◌, ℕ, ◌+◌, min, nat_lt, if◌then◌else◌, List, [], ◌∷◌, Option, Some, None, Result, Ok, Err}
 use Rattle.doc_tree.specs.Doc.{Doc, list, object}
 use Rattle.doc_pointer.specs.Place.{resolve}
 use Rattle.doc_edits.specs.Edit.{elements_len}
@@ -65,3 +65,7 @@ pub record Counts (old : Log) (os : List Operation) (d : Doc) (new : Log) : Type
 pub record CountsOne (old : Log) (o : Operation) (d : Doc) (new : Log) : Type 0 where
   pub copied_is : new.copied ≡ capped (old.copied + copied o d)
   pub siblings_are : new.siblings ≡ capped (old.siblings + siblings o d)
+
+-- the log has counted more than that many bytes of copies, or more than 500,000 siblings
+abbrev pub HoldsMore : Log → ℕ → Type 0
+HoldsMore log len = (500_000 < log.siblings) ⊎ (len < log.copied)

@@ -1,11 +1,11 @@
 //! Operations that are applied in place, with what takes them back.
 
-ghost use Rattle.std.specs.Prelude.{◌≡◌, ◌<◌, ◌≤◌, ◌+◌, [], min, IfOk, OnOk, false, if◌then◌else◌, nat_lt, true};
+ghost use Rattle.std.specs.Prelude.{◌≡◌, ◌↔◌, ◌⊎◌, ◌<◌, ◌≤◌, ◌+◌, [], min, IfOk, IsTrue, OnOk, false, if◌then◌else◌, nat_lt, true};
 ghost use Rattle.std.specs.Option.{ForSome};
 ghost use Rattle.std.specs.Vec.{vec_capacity, vec_len};
 ghost use Rattle.doc_edits.specs.SizeChange.{IsKnown, IsMeasured};
 ghost use Rattle.doc_edits.specs.After.{LeavesMeasured};
-ghost use Rattle.doc_patch.specs.Held.{CountsOne};
+ghost use Rattle.doc_patch.specs.Held.{CountsOne, HoldsMore};
 ghost use Rattle.doc_patch.specs.Keeping.{IsWhole, kept};
 ghost use Rattle.doc_edits.specs.Keeping.{TakesBack};
 ghost use Rattle.doc_edits.specs.Meaning.{meaning};
@@ -57,7 +57,8 @@ impl Log {
     }
 
     /// Makes of the document what the operation says, as `Operation::apply`, and keeps what takes it back. That holds
-    /// after a refusal too: what the steps answer is the same before and after.
+    /// after a refusal too: what the steps answer is the same before and after. The whole document is kept from the first
+    /// operation on that finds more copied than the document is long, or more than 500,000 siblings, and then no more steps.
     pub fn apply<'a>(
         &mut self,
         alloc: Global,
@@ -72,6 +73,8 @@ impl Log {
         requires whole { IsWhole self.old }
         ensures made { LeavesMeasured (op (meaning operation.now) (view tree.old)) (view tree.new) result }
         ensures counted { IfOk result (λ _. CountsOne self.old (meaning operation.now) (view tree.old) self.new) }
+        ensures is_whole { IfOk result (λ _. IsTrue self.new.is_whole ↔ (IsTrue self.old.is_whole ⊎ HoldsMore self.old before.len)) }
+        ensures steps { IsTrue self.old.is_whole → self.new.steps ≡ self.old.steps }
         ensures sound { IfOk result (λ _. IsSound (view tree.new)) }
         ensures back { steps_back (kept self.new) (view tree.new) ≡ steps_back (kept self.old) (view tree.old) }
         ensures whole { IsWhole self.new }
@@ -91,7 +94,9 @@ impl Log {
 
     // Whether the values that were copied are longer than the document, or the rooms more than `MOST_ROOM`: then the whole
     // of it is less to keep than more of them. The other values that steps hold were there before, or came with the patch.
-    fn holds_more_than(&self, document: DocumentSize) -> bool {
+    fn holds_more_than(&self, document: DocumentSize) -> bool
+        ensures { IsTrue result ↔ HoldsMore self.now document.len }
+    {
         self.siblings > MOST_ROOM || self.copied > document.len
     }
 
@@ -101,6 +106,7 @@ impl Log {
         ensures back { steps_back (kept self.new) (view tree.now) ≡ steps_back (kept self.old) (view tree.now) }
         ensures whole { IsWhole self.new }
         ensures kept { OnOk result (self.new.is_whole ≡ true) }
+        ensures already { IsTrue self.old.is_whole → self.new ≡ self.old }
         ensures copied { self.new.copied ≡ self.old.copied }
         ensures siblings { self.new.siblings ≡ self.old.siblings }
     {

@@ -20,6 +20,7 @@ mod Musts
 pub mod Thirds
 mod Thirteenths
 pub mod Reading
+pub mod Rooms
 mod DefectsBelow
 mod Searchless
 mod Near

@@ -48,6 +48,11 @@ pub record IsFaultless (profile : Profile) (s : Doc) : Type 0 where
   pub references : HasDefect profile Reference s → ⊥
   pub loops : HasSchemaLoop s → ⊥
 
+-- Nothing is wrong with the schema, and it has patterns. Only of such a one the patterns may be too large together: how much
+-- room the tables of a pattern take the kit doesn't say.
+abbrev pub MayHaveLargePatterns : Profile → Doc → Type 0
+MayHaveLargePatterns profile s = IsFaultless profile s × (0 < length (offered_texts profile s))
+
 -- the tree is a schema without a fault in the profile that offers all keywords
 abbrev pub IsSchema : Tree → Type 0
 IsSchema t = IsFaultless Three (view t)

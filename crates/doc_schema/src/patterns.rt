@@ -1,6 +1,6 @@
 //! The patterns in a schema: their texts, and whether they are too large.
 
-ghost use Rattle.std.specs.Prelude.{◌≡◌, ◌++◌, ◌⊎◌, IfErr, IfOk, false, length, map, nat_lt, true};
+ghost use Rattle.std.specs.Prelude.{◌≡◌, ◌<◌, ◌++◌, ◌⊎◌, IfErr, IfOk, MatchOption, false, length, map, nat_lt, true};
 ghost use Rattle.std.specs.List.{list_any};
 ghost use Rattle.doc_tree.specs.Lists.{names_list};
 ghost use Rattle.doc_tree.specs.TreeView.{view, elements_view, members_view};
@@ -50,14 +50,18 @@ fn some_is_long(texts: &[&str]) -> bool
     false
 }
 
-/// The patterns that the texts are.
-pub(crate) fn patterns_of(texts: &[&str], alloc: Global) -> Result<Vec<Pattern>, SchemaFault>
-    ensures sources { IfOk result (λ ps. pattern_sources ps.items ≡ map (λ s. s.now) texts.now) }
+/// The patterns that the texts are; none if each is a pattern, and they take too much room.
+pub(crate) fn patterns_of(
+    texts: &[&str],
+    alloc: Global,
+) -> Result<Option<Vec<Pattern>>, SchemaFault>
+    ensures found { IfOk result (λ found. MatchOption found (0 < length texts.now) (λ ps. pattern_sources ps.items ≡ map (λ s. s.now) texts.now)) }
     ensures ok { IfOk result (λ _. are_patterns (map (λ s. s.now) texts.now) ≡ true) }
     ensures err { IfErr result (λ e. ((e.number ≡ SCHEMA_FORM) × (are_patterns (map (λ s. s.now) texts.now) ≡ false)) ⊎ (e.number ≡ MEMORY)) }
 {
     match read_patterns(alloc, texts, PATTERN_ROOM) {
-        Ok(patterns) => Ok(patterns),
+        Ok(patterns) => Ok(Some(patterns)),
+        Err(PatternFault::Large) => Ok(None),
         Err(PatternFault::Form) => Err(SchemaFault {
             number: SCHEMA_FORM,
         }),

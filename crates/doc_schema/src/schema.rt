@@ -1,12 +1,12 @@
 //! A schema that was read, and what it accepts.
 
-ghost use Rattle.std.specs.Prelude.{◌≡◌, ◌↔◌, [], IfErr, IfOk, IsTrue, MatchOption, false, map, not, true};
+ghost use Rattle.std.specs.Prelude.{◌≡◌, ◌<◌, ◌↔◌, [], IfErr, IfOk, IfSome, IsTrue, MatchOption, false, length, map, not, true};
 ghost use Rattle.doc_tree.specs.Doc.{Doc};
 ghost use Rattle.doc_tree.specs.Place.{place_of};
 ghost use Rattle.doc_tree.specs.Sound.{IsSound};
 ghost use Rattle.doc_tree.specs.TreeView.{view};
 ghost use Rattle.doc_schema.specs.Checked.{IsChecked};
-ghost use Rattle.doc_schema.specs.Faults.{IsFaultless, IsFaultOf, IsTooLong};
+ghost use Rattle.doc_schema.specs.Faults.{IsFaultless, IsFaultOf, IsTooLong, MayHaveLargePatterns};
 ghost use Rattle.doc_schema.specs.Judge.{Judges};
 ghost use Rattle.schema_changes.specs.Agree.{AgreeButShifted, AgreeOff, AgreeOffEach};
 ghost use Rattle.schema_nodes.specs.Compiled.{IsFound};
@@ -21,7 +21,9 @@ use crate::limits::{MOST_BYTES, MOST_HEIGHT};
 use crate::patterns::{are_too_large, patterns_of, texts_of_patterns};
 use crate::trial::Trial;
 use doc_tree::{Step, Tree};
-use refusals::numbers::{SCHEMA_FORM, SCHEMA_KEYWORD, SCHEMA_LOOP, SCHEMA_REF, SCHEMA_SIZE};
+use refusals::numbers::{
+    MEMORY, SCHEMA_FORM, SCHEMA_KEYWORD, SCHEMA_LOOP, SCHEMA_REF, SCHEMA_SIZE,
+};
 use schema_changes::{passes_after, passes_again, passes_shifted};
 use schema_levels::passes;
 use schema_nodes::{Compiled, compile};
@@ -74,19 +76,53 @@ impl Schema {
     }
 
     /// The same in a profile, which says what is refused.
+    ///
+    /// A schema that has no other fault, and whose patterns are too large together, is refused with `MEMORY` too.
+    /// `has_large_patterns` knows it.
     pub fn read_in(profile: Profile, alloc: Global, source: &Tree) -> Result<Schema, SchemaFault>
         ensures ok { IfOk result (λ s. (view s ≡ view source.now) × IsFaultless profile (view s)) }
         ensures sound { IfOk result (λ s. IsSound (view s)) }
         ensures err { IfErr result (IsFaultOf profile (view source.now)) }
     {
-        let checked = check(profile, source, alloc)?;
+        match Schema::read_whole(profile, alloc, source) {
+            Ok(Some(schema)) => Ok(schema),
+            Ok(None) => Err(SchemaFault { number: MEMORY }),
+            Err(fault) => Err(fault),
+        }
+    }
+
+    /// Whether the document is a schema that has no fault, but its patterns take more than `limits::PATTERN_ROOM` together.
+    /// It may answer no for such a one if there was no memory to read it.
+    pub fn has_large_patterns(profile: Profile, alloc: Global, source: &Tree) -> bool
+        ensures { IsTrue result → MayHaveLargePatterns profile (view source.now) }
+    {
+        match Schema::read_whole(profile, alloc, source) {
+            Ok(None) => true,
+            Ok(Some(_)) | Err(_) => false,
+        }
+    }
+
+    // The schema that the document is in the profile; none if it has no fault, and its patterns are too large.
+    fn read_whole(
+        profile: Profile,
+        alloc: Global,
+        source: &Tree,
+    ) -> Result<Option<Schema>, SchemaFault>
+        ensures ok { IfOk result (λ found. MatchOption found (MayHaveLargePatterns profile (view source.now)) (λ s. (view s ≡ view source.now) × IsFaultless profile (view s))) }
+        ensures sound { IfOk result (λ found. IfSome found (λ s. IsSound (view s))) }
+        ensures err { IfErr result (IsFaultOf profile (view source.now)) }
+    {
+        let Checked { texts, patterns } = check(profile, source, alloc)?;
         let source = source.copy(alloc)?;
-        match nodes_of(&source, &checked.texts, alloc)? {
-            Some(nodes) => Ok(Schema {
-                source,
-                nodes,
-                patterns: checked.patterns,
-            }),
+        match nodes_of(&source, &texts, alloc)? {
+            Some(nodes) => match patterns {
+                Some(patterns) => Ok(Some(Schema {
+                    source,
+                    nodes,
+                    patterns,
+                })),
+                None => Ok(None),
+            },
             None => Err(SchemaFault {
                 number: SCHEMA_LOOP,
             }),
@@ -260,7 +296,8 @@ impl Schema {
 #[derive(Drop)]
 struct Checked<'s> {
     texts: Vec<&'s str>,
-    patterns: Vec<Pattern>,
+    // None if they are too large.
+    patterns: Option<Vec<Pattern>>,
 }
 
 // The nodes of a schema; none if it leads back to itself. There are at most a third as many as bytes of its text, and
@@ -273,11 +310,11 @@ fn nodes_of(source: &Tree, texts: &[&str], alloc: Global) -> Result<Option<Compi
     compile(source, texts, alloc)
 }
 
-// What a schema's patterns are, if it has no fault but for loops; or else its first fault.
+// What a schema's patterns are, if it has no fault but for loops, and how large they are; or else its first fault.
 fn check<'s>(profile: Profile, source: &'s Tree, alloc: Global) -> Result<Checked<'s>, SchemaFault>
     ensures ok { IfOk result (λ _. IsChecked profile (view source.now)) }
     ensures texts { IfOk result (λ c. map (λ s. s.now) c.texts.items ≡ offered_texts profile (view source.now)) }
-    ensures patterns { IfOk result (λ c. pattern_sources c.patterns.items ≡ offered_texts profile (view source.now)) }
+    ensures patterns { IfOk result (λ c. MatchOption c.patterns (0 < length (offered_texts profile (view source.now))) (λ ps. pattern_sources ps.items ≡ offered_texts profile (view source.now))) }
     ensures err { IfErr result (IsFaultOf profile (view source.now)) }
 {
     if is_too_long(source) {

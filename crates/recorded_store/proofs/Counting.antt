@@ -8,8 +8,8 @@ use Rattle.doc_changes.specs.Refusals.{plain}
 use Rattle.doc_changes.specs.State.{State}
 use Rattle.doc_changes.specs.Step.{after}
 use Rattle.doc_changes.specs.declared.refusal.Refusal.{Refusal}
-use Rattle.doc_machine.specs.Transaction.{Transaction, after_all, after_in, changes_of, refusal_in}
-use Rattle.doc_machine.proofs.Transactions.{own_transaction}
+use Rattle.doc_machine.specs.Transaction.{RefusesTransaction, Transaction, after_all, after_in, changes_of}
+use Rattle.doc_machine.proofs.Transactions.{own_refuses}
 use Rattle.refusals.specs.declared.numbers.TheConstants.{BROKEN, DEVICE, FULL}
 use Rattle.store_commits.specs.Account.{Account, account_broken}
 use Rattle.store_commits.specs.Batch.{Commit, IsBatch, as_snapshot, as_snapshot_in_doubt, behind_in_doubt, commit_in_doubt, commit_made, is_full, no_more, room_in_doubt, room_made, stays_broken, AreJudged, Slot, account_behind, account_committed, asked, changes, replies_done, replies_in_doubt, said, waiting, waits}
@@ -123,9 +123,9 @@ refused a b t r same hit still = record { counts = ((λ _. refl), tt); state = s
 
 -- ---- one commit
 
--- the documents' own refusals are no fault of the device
-own_refusal : (a : Account) (t : Transaction) (r : Refusal) → refusal_in a.state t ≡ Some r → nat_eq r.number DEVICE ≡ false
-own_refusal a t r is = ne_eqb r.number DEVICE (own_transaction a.state t r is).1
+-- a refusal of a judgement is no fault of the device
+own_refusal : (a : Account) (t : Transaction) (r : Refusal) → RefusesTransaction a.state t r → nat_eq r.number DEVICE ≡ false
+own_refusal a t r is = ne_eqb r.number DEVICE (own_refuses a.state t r is).1
 
 done_counts : (a : Account) (seq : ℕ) (slots : List Slot) → seq ≡ a.state.seq → AreJudged a slots → Counts a.state (asked slots) (replies_done seq slots)
 done_counts a seq [] is judged = tt

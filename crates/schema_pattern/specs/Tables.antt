@@ -1,10 +1,12 @@
 -- The texts of the patterns that are searched for, by numbers.
-use Rattle.std.specs.Prelude.{ℕ, List, [], map, slice_index_or, Bool, is_some}
+use Rattle.std.specs.Prelude.{◌≡◌, ◌<◌, ℕ, List, [], length, map, slice_index_or, Bool, false, true, is_some, ⊤}
 use Rattle.std.specs.List.{list_all, list_any}
 use Rattle.regex.specs.Strings.{regex_source}
 use Rattle.schema_pattern.specs.Patterns.{pattern_in, is_found}
 use Rattle.schema_pattern.specs.declared.pattern.Pattern.{Pattern}
 use Rattle.schema_pattern.specs.declared.pattern.Search.{Search}
+use Rattle.schema_pattern.specs.declared.fault.PatternFault.{PatternFault}
+use Rattle.schema_pattern.specs.declared.fault.PatternFault.TheVariants.{Form, Large, Memory}
 
 abbrev pub sources : List Search → List (List ℕ)
 sources = map (λ s. s.source.now)
@@ -25,3 +27,9 @@ pattern_sources = map (λ p. regex_source p.regex)
 -- each of the texts is a pattern
 abbrev pub are_patterns : List (List ℕ) → Bool
 are_patterns ts = list_all (λ t. is_some (pattern_in t)) ts
+
+-- What a refusal says of texts: some is no pattern; or each is one, there are some, and their tables are too large.
+abbrev pub AreFaultOf : List (List ℕ) → PatternFault → Type 0
+AreFaultOf ts Form = are_patterns ts ≡ false
+AreFaultOf ts Large = (are_patterns ts ≡ true) × (0 < length ts)
+AreFaultOf ts Memory = ⊤

@@ -1,9 +1,8 @@
 //! All patterns of a schema.
-ghost use Rattle.std.specs.Prelude.{◌≡◌, ◌+◌, ◌≤◌, ◌^◌, IfErr, IfOk, None, false, is_some, map, true};
+ghost use Rattle.std.specs.Prelude.{◌≡◌, ◌<◌, ◌≤◌, ◌^◌, IfErr, IfOk, is_some, length, map, true};
 ghost use Rattle.regex.specs.Strings.{regex_source};
-ghost use Rattle.schema_pattern.specs.Patterns.{pattern_in};
-ghost use Rattle.schema_pattern.specs.Tables.{are_patterns, pattern_sources, sources};
-ghost use Rattle.schema_pattern.specs.declared.fault.PatternFault.TheVariants.{Form};
+ghost use Rattle.schema_pattern.specs.Patterns.{IsFaultOf, pattern_in};
+ghost use Rattle.schema_pattern.specs.Tables.{AreFaultOf, are_patterns, pattern_sources, sources};
 
 use crate::fault::PatternFault;
 use crate::pattern::{Pattern, Search};
@@ -13,6 +12,9 @@ use std::alloc::{AllocError, Global};
 const LEAST_ROOM: usize = 4_096;
 
 /// The patterns that the texts are, with tables of about `room` bytes at most, all together.
+///
+/// `PatternFault::Form` if some text is no pattern; else `PatternFault::Large` if the tables would take more.
+/// `PatternFault::Memory` may come in place of any answer.
 pub fn read_patterns(
     alloc: Global,
     texts: &[&str],
@@ -21,16 +23,35 @@ pub fn read_patterns(
     requires { room ≤ 2 ^ 32 }
     ensures sources { IfOk result (λ ps. pattern_sources ps.items ≡ map (λ t. t.now) texts.now) }
     ensures ok { IfOk result (λ _. are_patterns (map (λ t. t.now) texts.now) ≡ true) }
-    ensures err { IfErr result (λ e. e ≡ Form → are_patterns (map (λ t. t.now) texts.now) ≡ false) }
+    ensures err { IfErr result (AreFaultOf (map (λ t. t.now) texts.now)) }
 {
     let mut patterns = Vec::with_capacity(alloc, texts.len())?;
     let mut left = room;
     for text in texts {
-        let read = read_within(alloc, text, left)?;
-        patterns.push(read.pattern)?;
-        left = read.left;
+        match read_within(alloc, text, left) {
+            Ok(read) => {
+                patterns.push(read.pattern)?;
+                left = read.left;
+            }
+            Err(PatternFault::Large) => return Err(large_or_none(alloc, texts)),
+            Err(fault) => return Err(fault),
+        }
     }
     Ok(patterns)
+}
+
+// What refuses texts of which one is a pattern that is too large: another may be none.
+fn large_or_none(alloc: Global, texts: &[&str]) -> PatternFault
+    requires { 0 < length texts.now }
+    ensures { AreFaultOf (map (λ t. t.now) texts.now) result }
+{
+    for text in texts {
+        match Pattern::read(alloc, text, LEAST_ROOM) {
+            Ok(_) | Err(PatternFault::Large) => {}
+            Err(fault) => return fault,
+        }
+    }
+    PatternFault::Large
 }
 
 /// What searches for each of them.
@@ -57,7 +78,7 @@ fn read_within(alloc: Global, text: &str, left: usize) -> Result<Read, PatternFa
     ensures source { IfOk result (λ r. regex_source r.pattern.regex ≡ text.now) }
     ensures less { IfOk result (λ r. r.left ≤ left) }
     ensures ok { IfOk result (λ _. is_some (pattern_in text.now) ≡ true) }
-    ensures err { IfErr result (λ e. e ≡ Form → pattern_in text.now ≡ None) }
+    ensures err { IfErr result (IsFaultOf text.now) }
 {
     let mut room = LEAST_ROOM;
     while room <= left {
@@ -66,9 +87,13 @@ fn read_within(alloc: Global, text: &str, left: usize) -> Result<Read, PatternFa
                 pattern,
                 left: left - room,
             }),
-            Err(PatternFault::Form) => return Err(PatternFault::Form),
-            Err(PatternFault::Memory) => room *= 2,
+            Err(PatternFault::Large) => room *= 2,
+            Err(fault) => return Err(fault),
         }
     }
-    Err(PatternFault::Memory)
+    // The room is none for this pattern, if it is one.
+    match Pattern::read(alloc, text, LEAST_ROOM) {
+        Ok(_) => Err(PatternFault::Large),
+        Err(fault) => Err(fault),
+    }
 }

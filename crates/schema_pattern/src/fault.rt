@@ -6,7 +6,9 @@ use std::alloc::{AllocError, AllocFailed};
 pub enum PatternFault {
     /// It is no pattern, or it nests deeper than 250.
     Form,
-    /// There is no memory for it: its tables would take more than they may, or a growth was refused.
+    /// It is a pattern, and its tables would take more room than they may.
+    Large,
+    /// There was no memory for it: a growth was refused.
     Memory,
 }
 

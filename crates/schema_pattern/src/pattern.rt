@@ -1,8 +1,7 @@
 //! A pattern that was read, and a search for it.
-ghost use Rattle.std.specs.Prelude.{◌≡◌, ◌+◌, ◌↔◌, ◌≤◌, None, IfErr, IfOk, is_some, true};
+ghost use Rattle.std.specs.Prelude.{◌≡◌, ◌+◌, ◌≤◌, IfErr, IfOk, is_some, true};
 ghost use Rattle.regex.specs.Strings.{matcher_pattern, regex_config, regex_pattern, regex_size, regex_source};
-ghost use Rattle.schema_pattern.specs.Patterns.{AreAlike, IsSyntax, is_found, pattern_in};
-ghost use Rattle.schema_pattern.specs.declared.fault.PatternFault.TheVariants.{Form};
+ghost use Rattle.schema_pattern.specs.Patterns.{AreAlike, IsFaultFor, IsFaultOf, is_found, pattern_in};
 
 use crate::fault::PatternFault;
 use regex::{Error, Matcher, Regex, RegexBuilder};
@@ -29,7 +28,7 @@ impl Pattern {
         ensures source { IfOk result (λ p. regex_source p.regex ≡ source.now) }
         ensures small { IfOk result (λ p. regex_size p.regex ≤ room + 24) }
         ensures ok { IfOk result (λ _. is_some (pattern_in source.now) ≡ true) }
-        ensures err { IfErr result (λ e. e ≡ Form → pattern_in source.now ≡ None) }
+        ensures err { IfErr result (IsFaultOf source.now) }
     {
         match RegexBuilder::new(source).size_limit(room).build(alloc) {
             Ok(regex) => Ok(Pattern { regex }),
@@ -48,11 +47,12 @@ impl Pattern {
 }
 
 fn fault_of(error: Error) -> PatternFault
-    ensures { result ≡ Form ↔ IsSyntax error }
+    ensures { IsFaultFor error result }
 {
     match error {
         Error::Syntax(_) => PatternFault::Form,
-        _ => PatternFault::Memory,
+        Error::CompiledTooBig | Error::Internal => PatternFault::Large,
+        Error::OutOfMemory => PatternFault::Memory,
     }
 }
 

@@ -4,7 +4,7 @@ use Rattle.std.proofs.lemmas.List.{append_assoc, append-nil}
 use Rattle.std.proofs.Math.Seq.{take-append_seam, drop-append_seam}
 use Rattle.store_journal.specs.Layout.{capacity_of}
 use Rattle.record_text.specs.Change.{Change}
-use Rattle.doc_machine.specs.Transaction.{AreGood, IsMadeWhole, IsNoted, IsTransacted, Transaction, after_in, befores, changes_of, refusal_in}
+use Rattle.doc_machine.specs.Transaction.{AreGood, IsMadeWhole, IsNoted, IsTransacted, RefusesTransaction, Transaction, after_in, befores, changes_of, refusal_in}
 use Rattle.refusals.specs.declared.numbers.TheConstants.{FULL}
 use Rattle.doc_changes.specs.Refusals.{plain}
 use Rattle.doc_changes.specs.State.{State, Good}
@@ -102,7 +102,7 @@ module _ (a : Account) (slots : List Slot) (p : Planning) (t : TrialView) (is : 
     waiting_waits ss = waiting_append ss (waits c ∷ [])
 
     -- it is refused
-    pub further_said : (r : Refusal) → refusal_in t.state c ≡ Some r → (replies : Vec Reply Global) → replies.items ≡ p.last.replies.items ++ Refused r ∷ []
+    pub further_said : (r : Refusal) → RefusesTransaction t.state c r → (replies : Vec Reply Global) → replies.items ≡ p.last.replies.items ++ Refused r ∷ []
         → PlansOneMore a slots c (record p { last = record p.last { replies = replies } }) t
     further_said r refuses replies replies_are = (
       said c r,
@@ -113,7 +113,7 @@ module _ (a : Account) (slots : List Slot) (p : Planning) (t : TrialView) (is : 
         since = since ++ said c r ∷ [];
         parts = parts_more (said c r);
         goes = is.goes;
-        judged = judged_append mid since (said c r ∷ []) is.judged (subst (λ (s : State). refusal_in s c ≡ Some r) (sym state_then) refuses, tt);
+        judged = judged_append mid since (said c r ∷ []) is.judged (subst (λ (s : State). RefusesTransaction s c r) (sym state_then) refuses, tt);
         has = subst (λ (ts : List Transaction). HasFrames mid.rides mid.state ts (record p.last { replies = replies })) (sym (waiting_said since r))
             (record { framed = is.has.framed; good = is.has.good; frames = is.has.frames; each = is.has.each; adds = is.has.adds });
         base = is.base;

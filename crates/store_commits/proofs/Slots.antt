@@ -2,7 +2,7 @@
 use Rattle.std.proofs.Common.{◌≡◌, ◌⊎◌, inl, inr, ℕ, ◌+◌, List, [], ◌∷◌, ◌++◌, length, length-append, refl, sym, ◌∙◌, ap, arith, Bool, true, false, suc}
 use Rattle.std.proofs.lemmas.Bool.{ne_eqb}
 use Rattle.std.proofs.lemmas.List.{append_assoc, append-nil}
-use Rattle.doc_machine.proofs.Transactions.{own_transaction}
+use Rattle.doc_machine.proofs.Transactions.{own_refuses}
 use Rattle.doc_machine.specs.Transaction.{Transaction, changes_of}
 use Rattle.refusals.specs.declared.numbers.TheConstants.{DEVICE}
 use Rattle.store_commits.specs.Account.{Account}
@@ -57,7 +57,7 @@ slots_done a seq (said t r ∷ slots) judged =
     let more = slots_done a seq slots judged.1 in record {
       paired = ap suc more.paired;
       dones_are = more.dones_are;
-      hits_are = rw (ne_eqb r.number DEVICE (own_transaction a.state t r judged.0).1) more.hits_are;
+      hits_are = rw (ne_eqb r.number DEVICE (own_refuses a.state t r judged.0).1) more.hits_are;
     }
 
 -- and hit
@@ -70,7 +70,7 @@ slots_in_doubt a (said t r ∷ slots) judged =
     let more = slots_in_doubt a slots judged.1 in record {
       paired = ap suc more.paired;
       dones_are = more.dones_are;
-      hits_are = rw (ne_eqb r.number DEVICE (own_transaction a.state t r judged.0).1) more.hits_are;
+      hits_are = rw (ne_eqb r.number DEVICE (own_refuses a.state t r judged.0).1) more.hits_are;
     }
 
 -- the middle of four lists, of which one is none

@@ -6,7 +6,7 @@ use Rattle.record_text.specs.Change.{Change}
 use Rattle.record_text.specs.Frame.{body_of}
 use Rattle.log_frames.specs.Kinds.{note}
 use Rattle.doc_changes.specs.Refusals.{plain}
-use Rattle.doc_machine.specs.Transaction.{Transaction, after_in, changes_of, marked, refusal_in, several, single}
+use Rattle.doc_machine.specs.Transaction.{RefusesTransaction, Transaction, after_in, changes_of, marked, refusal_in, several, single}
 use Rattle.doc_changes.specs.declared.refusal.Refusal.{Refusal}
 use Rattle.refusals.specs.declared.numbers.TheConstants.{DEVICE, FULL, BROKEN}
 use Rattle.store_commits.specs.Account.{Account, Copy, account_broken, StoreView, EndsWith, IsEndingWith, StandsAs, extent_of}
@@ -36,7 +36,7 @@ size_of t = frame_sizes (changes_of t) + mark_size t
 abbrev pub copy_with : Option Copy → ℕ → Option Copy
 copy_with k n = option_map (λ (c : Copy). record c { target = c.target + n }) k
 
--- how a transaction was judged: it is accepted and waits for the commit, or it is refused for a reason of the documents
+-- how a transaction was judged: it is accepted and waits for the commit, or it is refused
 pub data Slot : Type 0 where
   waits : Transaction → Slot
   said : Transaction → Refusal → Slot
@@ -72,11 +72,11 @@ account_committed a [] = a
 account_committed a (waits t ∷ slots) = account_committed (account_behind a t) slots
 account_committed a (said t r ∷ slots) = account_committed a slots
 
--- Each was judged after those before it: one that waits is accepted, and its frames fit after theirs; of another the refusal is the documents' own.
+-- Each was judged after those before it: one that waits is accepted, and its frames fit after theirs; another is refused by the documents, or for patterns that are too large, or because memory was refused to its judgement.
 abbrev pub AreJudged : Account → List Slot → Type 0
 AreJudged a [] = ⊤
 AreJudged a (waits t ∷ slots) = (refusal_in a.state t ≡ None) × Fits a (size_of t) × AreJudged (account_behind a t) slots
-AreJudged a (said t r ∷ slots) = (refusal_in a.state t ≡ Some r) × AreJudged a slots
+AreJudged a (said t r ∷ slots) = RefusesTransaction a.state t r × AreJudged a slots
 
 -- the replies of one commit from this seq on: to one that waited the new seq, to another why not
 abbrev pub replies_done : ℕ → List Slot → List Reply

@@ -18,7 +18,7 @@ use crate::event::Reply;
 use crate::frames::frames;
 use crate::segment::{Base, Segment};
 use doc_machine::{Refusal, Transaction, Trial};
-use refusals::numbers::{FULL, MEMORY};
+use refusals::numbers::FULL;
 use sector_device::SectorDevice;
 use std::alloc::{AllocError, Global};
 use std::mem;
@@ -169,14 +169,11 @@ impl Planning {
         }
     }
 
-    // Says why a transaction is refused.
+    // Says why a transaction is refused, also if memory was refused to its judgement: that ends no batch.
     fn refuse(&mut self, refusal: Refusal) -> Result<(), AllocError>
         ensures { OnOk result ((a : Account) (slots : List Slot) (t : Asked) (trial : TrialView) → RefusesTransaction trial.state t refusal
             → IsPlanning a slots self.old trial → PlansOneMore a slots t self.new trial) }
     {
-        if refusal.number == MEMORY {
-            return Err(AllocError);
-        }
         self.last.replies.push(Reply::Refused(refusal))?;
         Ok(())
     }

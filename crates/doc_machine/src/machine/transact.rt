@@ -1,13 +1,14 @@
 //! Transactions on trial.
 ghost use Rattle.doc_changes.specs.Held.{held_in};
-ghost use Rattle.doc_changes.specs.declared.limits.TheConstants.{TRANSACTION_CHANGES};
+ghost use Rattle.doc_changes.specs.declared.limits.TheConstants.{LAST_SEQ, TRANSACTION_CHANGES};
 ghost use Rattle.std.specs.Prelude.{◌≡◌, ◌⊎◌, ◌≤◌, ◌+◌, [], ◌∷◌, length, IfOk, IfErr, MatchResult, OnErr, OnOk, None, Some, map};
 ghost use Rattle.record_text.specs.Change.{change_of};
+ghost use Rattle.doc_changes.specs.Judged.{IsReady};
 ghost use Rattle.doc_changes.specs.Refusals.{plain};
 ghost use Rattle.doc_changes.specs.State.{Good, find};
 ghost use Rattle.refusals.specs.declared.numbers.TheConstants.{MEMORY};
-ghost use Rattle.doc_changes.specs.Step.{IsOwn, Refuses, refusal_of};
-ghost use Rattle.doc_machine.specs.Transaction.{AreMade, IsTransacted, RefusesTransaction, StopsAt, all_of, changes_refusal, first_refused, large_refusal, marked, pure_changes, refused_at, ruled_by, several_refusal, text_bytes, transaction_of};
+ghost use Rattle.doc_changes.specs.Step.{Denies, IsOwn, refusal_of};
+ghost use Rattle.doc_machine.specs.Transaction.{AreMade, IsTransacted, RefusesTransaction, StopsAt, SaysOfChanges, SaysOfSeveral, all_of, changes_refusal, first_refused, large_refusal, marked, pure_changes, refused_at, ruled_by, several_refusal, text_bytes, transaction_of};
 ghost use Rattle.doc_machine.specs.Marking.{marking_of, marking_refusal};
 ghost use Rattle.doc_machine.specs.Spelled.{change_in};
 ghost use Rattle.std.specs.Result.{result_err};
@@ -18,7 +19,7 @@ use crate::machine::trial::Accepted;
 use crate::marking::Marking;
 use crate::spelled::SpelledPatch;
 use crate::transaction::{Changes, Transaction};
-use doc_changes::Refusal;
+use doc_changes::{Judged, Refusal};
 use record_text::Command;
 use refusals::numbers::{COMMAND, MARK, MEMORY, SEQ_END, TRANSACTION_LARGE};
 
@@ -29,7 +30,8 @@ impl Trial {
     /// there than is asked for. A single change is refused as `judge` answers. Several are refused with `COMMAND` if they are none or over
     /// `TRANSACTION_CHANGES`; else by the first of these reasons, change after change, each judged after those before
     /// it: the change's own refusal, with its place beside it, but `SEQ_END` with none; and then `TRANSACTION_LARGE` if
-    /// the changes up to this one keep more than `TRANSACTION_KEPT_BYTES` together. `MEMORY` may come in place of any
+    /// the changes up to this one keep more than `TRANSACTION_KEPT_BYTES` together. A change whose schema is refused for
+    /// nothing else, but has patterns that are too large, is refused with `SCHEMA_SIZE`. `MEMORY` may come in place of any
     /// answer.
     pub fn transact(&mut self, transaction: Transaction) -> Result<u64, Refusal>
         ensures made { IfOk result (λ seq. IsTransacted self.old (transaction_of transaction) seq self.new) }
@@ -51,7 +53,7 @@ impl Trial {
         ensures accepted { OnOk result (refusal_of self.old.state (change_in patch) ≡ None) }
         ensures made { OnOk result (AreMade self.old (change_in patch ∷ []) self.new) }
         ensures seq { IfOk result (λ seq. seq ≡ self.new.state.seq) }
-        ensures refused { IfErr result (Refuses self.old.state (change_in patch)) }
+        ensures refused { IfErr result (Denies self.old.state (change_in patch)) }
         ensures unchanged { OnErr result (self.new ≡ self.old) }
         ensures own { IfErr result IsOwn }
         ensures good { Good self.new.state }
@@ -105,7 +107,7 @@ impl Trial {
         ensures accepted { OnOk result (changes_refusal self.old.state (pure_changes changes) ≡ None) }
         ensures made { OnOk result (AreMade self.old (all_of (pure_changes changes)) self.new) }
         ensures seq { IfOk result (λ seq. seq ≡ self.new.state.seq) }
-        ensures refused { IfErr result (λ r. (r ≡ plain MEMORY) ⊎ (changes_refusal self.old.state (pure_changes changes) ≡ Some r)) }
+        ensures refused { IfErr result (λ r. (r ≡ plain MEMORY) ⊎ (changes_refusal self.old.state (pure_changes changes) ≡ Some r) ⊎ SaysOfChanges self.old.state (pure_changes changes) r) }
         ensures unchanged { OnErr result (self.new ≡ self.old) }
         ensures own { IfErr result IsOwn }
         ensures good { Good self.new.state }
@@ -121,7 +123,7 @@ impl Trial {
         ensures accepted { OnOk result (refusal_of self.old.state (change_of command) ≡ None) }
         ensures made { OnOk result (AreMade self.old (change_of command ∷ []) self.new) }
         ensures seq { IfOk result (λ seq. seq ≡ self.new.state.seq) }
-        ensures refused { IfErr result (Refuses self.old.state (change_of command)) }
+        ensures refused { IfErr result (Denies self.old.state (change_of command)) }
         ensures unchanged { OnErr result (self.new ≡ self.old) }
         ensures own { IfErr result IsOwn }
         ensures good { Good self.new.state }
@@ -138,19 +140,42 @@ impl Trial {
         ensures made { OnOk result (AreMade self.old (change_of command ∷ []) self.new) }
         ensures seq { IfOk result (λ accepted. accepted.seq ≡ self.new.state.seq) }
         ensures held { IfOk result (λ accepted. accepted.held ≡ held_in self.old.state.documents (change_of command)) }
-        ensures refused { IfErr result (Refuses self.old.state (change_of command)) }
+        ensures refused { IfErr result (Denies self.old.state (change_of command)) }
         ensures unchanged { OnErr result (self.new ≡ self.old) }
         ensures own { IfErr result IsOwn }
         ensures good { Good self.new.state }
     {
         self.know();
         if self.seq() == LAST_SEQ {
-            return Err(self.look().refuse_at_end(&command));
+            return Err(self.tell_at_end(&command));
         }
-        let ready = self.look().prepare(&command)?;
+        let ready = self.prepare(&command)?;
         let accepted = self.change(command, ready)?;
         self.know();
         Ok(accepted)
+    }
+
+    // The refusal of a change if no more can be counted.
+    fn tell_at_end(&self, command: &Command) -> Refusal
+        requires { self.now.state.seq ≡ LAST_SEQ }
+        ensures refused { Denies self.now.state (change_of command.now) result }
+        ensures own { IsOwn result }
+    {
+        let documents = self.look();
+        documents.tell(command, documents.refuse_at_end(command))
+    }
+
+    // Judges all but a patch, which `change` judges in place.
+    fn prepare(&self, command: &Command) -> Result<Judged, Refusal>
+        ensures ready { IfOk result (IsReady self.now.state.profile self.now.state.documents (change_of command.now)) }
+        ensures refused { IfErr result (Denies self.now.state (change_of command.now)) }
+        ensures own { IfErr result IsOwn }
+    {
+        let documents = self.look();
+        match documents.prepare(command) {
+            Ok(ready) => Ok(ready),
+            Err(refusal) => Err(documents.tell(command, refusal)),
+        }
     }
 
     // Makes all of these changes, or none.
@@ -158,7 +183,7 @@ impl Trial {
         ensures accepted { OnOk result (several_refusal self.old.state (map change_of commands.items) ≡ None) }
         ensures made { OnOk result (AreMade self.old (map change_of commands.items) self.new) }
         ensures seq { IfOk result (λ seq. seq ≡ self.new.state.seq) }
-        ensures refused { IfErr result (λ r. (r ≡ plain MEMORY) ⊎ (several_refusal self.old.state (map change_of commands.items) ≡ Some r)) }
+        ensures refused { IfErr result (λ r. (r ≡ plain MEMORY) ⊎ (several_refusal self.old.state (map change_of commands.items) ≡ Some r) ⊎ SaysOfSeveral self.old.state (map change_of commands.items) r) }
         ensures unchanged { OnErr result (self.new ≡ self.old) }
         ensures own { IfErr result IsOwn }
         ensures good { Good self.new.state }

@@ -1,4 +1,5 @@
-use Rattle.std.proofs.Common.{◌≡◌, refl, inl, inr, ⊎_elim, map, true, false, not, ◌&&◌, Result, Ok, Err, IfErr, IsErrAnd, sym, ap, subst, ◌∙◌}
+use Rattle.std.proofs.Common.{◌≡◌, refl, inl, inr, ⊎_elim, map, true, false, not, ◌&&◌, Result, Ok, Err, IfErr, IsErrAnd, sym, ap, subst, ◌∙◌, length}
+use Rattle.std.proofs.lemmas.List.{length-map}
 use Rattle.doc_tree.specs.TreeView.{view}
 use Rattle.schema_pattern.specs.Tables.{are_patterns}
 use Rattle.schema_rules.specs.Anchors.{are_different, offered_anchors}
@@ -7,6 +8,7 @@ use Rattle.doc_schema.specs.Faults.{IsFaultOf, IsMalformed, IsTooLarge, are_too_
 use Rattle.doc_schema.specs.declared.defects.Defect.TheVariants.{Form, LeftOut, Reference}
 use Rattle.doc_schema.proofs.Anywhere.{told, untold}
 use Rattle.doc_schema.proofs.Fitting.{all_fit, equal_found}
+use Rattle.doc_schema.proofs.Rooms.{found_of}
 use Rattle.doc_schema.proofs.schema.check.Goals as goal
 
 pub returns-then-is_too_long-clause-err : goal.returns-then-is_too_long-clause-err
@@ -83,4 +85,6 @@ returns-clause-ok c =
     }
 
 pub returns-clause-patterns : goal.returns-clause-patterns
-returns-clause-patterns c = c.in_ok-patterns.ensures.sources ∙ ap (map (λ s. s.now)) c.deref-2.ensures.value ∙ c.in_ok-texts.ensures
+returns-clause-patterns c =
+    let same = ap (map (λ s. s.now)) c.deref-2.ensures.value ∙ c.in_ok-texts.ensures in
+    found_of c.in_ok-patterns.patterns _ _ _ _ (sym (length-map c.deref-2.result.now (λ s. s.now)) ∙ ap length same) same c.in_ok-patterns.ensures.found

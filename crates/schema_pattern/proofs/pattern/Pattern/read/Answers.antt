@@ -16,8 +16,8 @@ returns-in-Ok-clause-ok c =
     is_pattern c.in-Ok.regex _ (made.source ∙ source) (made.config ∙ config) made.read
 
 pub returns-in-Err-clause-err : goal.returns-in-Err-clause-err
-returns-in-Err-clause-err c = λ is_form.
+returns-in-Err-clause-err c =
     let made = c.in-Err.ensures in
     let config = utf8_kept _ (ap (λ b. b.config) c.size_limit.ensures ∙ c.new.ensures.config) in
     let source = ap (λ b. b.source.now) c.size_limit.ensures ∙ c.new.ensures.source in
-    refused_in _ _ _ c.in-Err.error config source made.by_grammar made.kind (c.fault_of.ensures.0 is_form)
+    refused_in _ _ _ c.in-Err.error _ config source made.by_grammar made.kind c.fault_of.ensures

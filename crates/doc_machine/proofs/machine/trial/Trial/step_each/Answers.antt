@@ -1,5 +1,5 @@
 use Rattle.std.proofs.Common.{◌≡◌, ◌+◌, ◌++◌, ◌∷◌, [], List, length-append, map, ap, sym, subst, ◌∙◌, arith}
-use Rattle.std.proofs.lemmas.List.{append_assoc, map-append}
+use Rattle.std.proofs.lemmas.List.{append_assoc, length-map, map-append}
 use Rattle.std.specs.Vec.Iter.{into_iter_items}
 use Rattle.record_text.specs.Change.{Change, change_of}
 use Rattle.record_text.specs.declared.command.Command.{Command}
@@ -64,6 +64,7 @@ returns-in-Err-clause-stops c =
     let behind = map change_of (into_iter_items c.next.new.self) in
     let parts = sym (ap (map change_of) (l.invariant.left ∙ ap (λ (es : List Command). l.yielded ++ es) c.in-Some.ensures.steps.0) ∙ map-append change_of l.yielded (x ∷ into_iter_items c.next.new.self)) in
     let stops = stops_refused old l.self (map change_of l.yielded) (change_of x) behind all l.place l.kept parts
-    l.invariant.made l.invariant.kept (l.invariant.refused (change_of x ∷ behind)) c.in-Err.refusal l.invariant.within c.in-Err.ensures.refused in
+    l.invariant.made l.invariant.kept (l.invariant.refused (change_of x ∷ behind)) c.in-Err.refusal l.invariant.within
+    (let before = l.invariant.place in omega (arith, before, length-map l.yielded change_of)) (l.invariant.refused []) c.in-Err.ensures.refused in
     subst (λ (r : Refusal). StopsAt old all r c.step.new.self) (sym c.at.ensures)
     (subst (λ (t : TrialView). StopsAt old all (refused_at l.place c.in-Err.refusal) t) (sym c.in-Err.ensures.unchanged) stops)
