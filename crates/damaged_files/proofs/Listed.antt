@@ -28,14 +28,14 @@ push_some [] x is = absurd cc
 push_some (y ∷ xs) x is = absurd cc
 
 -- a sector more that was not read, or none
-pub within_more : (P : ℕ → Type 0) (xs ys : List ℕ) (x : ℕ) (S : Type 0) → ((ys ≡ xs) × S) ⊎ (ys ≡ xs ++ x ∷ []) → AllByRecursion P xs → P x → AllByRecursion P ys
-within_more P xs ys x S (inl same) all is = subst (λ (l : List ℕ). AllByRecursion P l) (sym same.0) all
-within_more P xs ys x S (inr more) all is = subst (λ (l : List ℕ). AllByRecursion P l) (sym more) (all_push P xs x all is)
+pub within_more : (P : ℕ → Type 0) (xs ys : List ℕ) (x : ℕ) (S F : Type 0) → ((ys ≡ xs) × S) ⊎ ((ys ≡ xs ++ x ∷ []) × F) → AllByRecursion P xs → P x → AllByRecursion P ys
+within_more P xs ys x S F (inl same) all is = subst (λ (l : List ℕ). AllByRecursion P l) (sym same.0) all
+within_more P xs ys x S F (inr more) all is = subst (λ (l : List ℕ). AllByRecursion P l) (sym more.0) (all_push P xs x all is)
 
 -- if there is none, no call failed
-pub heard_more : (xs ys : List ℕ) (x first before now : ℕ) → ((ys ≡ xs) × (now ≡ before)) ⊎ (ys ≡ xs ++ x ∷ []) → (xs ≡ [] → before ≡ first) → ys ≡ [] → now ≡ first
-heard_more xs ys x first before now (inl same) heard none = same.1 ∙ heard (sym same.0 ∙ none)
-heard_more xs ys x first before now (inr more) heard none = push_some xs x (sym more ∙ none)
+pub heard_more : (xs ys : List ℕ) (x first before now : ℕ) (F : Type 0) → ((ys ≡ xs) × (now ≡ before)) ⊎ ((ys ≡ xs ++ x ∷ []) × F) → (xs ≡ [] → before ≡ first) → ys ≡ [] → now ≡ first
+heard_more xs ys x first before now F (inl same) heard none = same.1 ∙ heard (sym same.0 ∙ none)
+heard_more xs ys x first before now F (inr more) heard none = push_some xs x (sym more.0 ∙ none)
 
 -- five texts, one after another
 pub in_order : (a b c d e : List ℕ) → (((a ++ b) ++ c) ++ d) ++ e ≡ a ++ (b ++ (c ++ (d ++ e)))

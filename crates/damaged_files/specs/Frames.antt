@@ -1,5 +1,5 @@
 -- The lines of the frames of a device.
-use Rattle.std.specs.Prelude.{◌≡◌, ◌≤◌, ◌+◌, ◌-◌, ◌*◌, ℕ, List, [], ◌∷◌, ◌++◌, ◌&&◌, not, Option, Some, None, codes, length, min, nat_eq, if◌then◌else◌}
+use Rattle.std.specs.Prelude.{◌≡◌, ◌≤◌, ◌+◌, ◌-◌, ◌*◌, ℕ, List, [], ◌∷◌, ◌++◌, ◌&&◌, not, Option, Some, None, codes, length, min, nat_eq, nat_lt, if◌then◌else◌}
 use Rattle.std.specs.Io.KnownBytes.{Appends}
 use Rattle.sector_device.specs.Disk.{Image}
 use Rattle.record_text.specs.Frame.{body_of}
@@ -8,6 +8,7 @@ use Rattle.log_frames.specs.declared.kind.Kind.{Kind}
 use Rattle.frame_search.specs.Places.{IsFirstFrom, StandsAt}
 use Rattle.store_parts.specs.Parts.{HasBytes, HasCheck}
 use Rattle.store_parts.specs.declared.checking.Check.{Check}
+use Rattle.store_parts.specs.declared.checking.Check.TheVariants.{Held}
 use Rattle.store_parts.specs.declared.findings.Findings.{Findings}
 use Rattle.store_parts.specs.declared.part.Part.{Part}
 use Rattle.store_salvage.specs.Gathering.{Placed}
@@ -17,11 +18,15 @@ use Rattle.damaged_files.specs.declared.head.Head.{Head}
 
 -- ---- one line
 
+-- what is known of the checksum of the frame at that place of a part: each sector of a slot has its own
+abbrev pub check_at : Part → Check → ℕ → Check
+check_at part check at = if nat_lt at part.len then check else Held
+
 -- the head of the line of the frame at that place of a part, of this kind and with this seq
 abbrev pub head_at : Part → Check → ℕ → Kind → ℕ → Head
 head_at part check at kind seq =
     let place = place_of part at in
-    record { front = record { byte = place.byte; check = check; counted = part.counted }; back = record { half = part.half; spot = record { sector = place.sector; seq = seq } }; kind = kind }
+    record { front = record { byte = place.byte; check = check_at part check at; counted = part.counted }; back = record { half = part.half; spot = record { sector = place.sector; seq = seq } }; kind = kind }
 
 -- its text
 abbrev pub frame_head : Part → Check → ℕ → Kind → ℕ → List ℕ

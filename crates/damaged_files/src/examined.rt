@@ -77,7 +77,7 @@ fn with_sector<D: SectorDevice>(
 ) -> Result<Vec<u64>, AllocError>
     requires { at < (D.disk device.old).sectors }
     ensures same { IsSameRead (D.disk device.old) (D.disk device.new) }
-    ensures told { IfOk result (λ more. ((more.items ≡ unread.items) × ((D.disk device.new).failures ≡ (D.disk device.old).failures)) ⊎ (more.items ≡ unread.items ++ at ∷ [])) }
+    ensures told { IfOk result (λ more. ((more.items ≡ unread.items) × ((D.disk device.new).failures ≡ (D.disk device.old).failures)) ⊎ ((more.items ≡ unread.items ++ at ∷ []) × (((D.disk device.old).failures < (D.disk device.new).failures) ⊎ (D.disk device.old).failures_saturated))) }
 {
     let mut more = unread;
     let mut sector = [0; 512];

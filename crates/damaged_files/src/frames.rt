@@ -1,7 +1,7 @@
 //! The lines of the frames among bytes.
 ghost use Rattle.std.specs.Prelude.{◌≡◌, ◌≤◌, ◌<◌, ◌+◌, ◌++◌, IfOk, drop, length, take};
 ghost use Rattle.frame_search.specs.Places.{IsFrameFormat, head_of};
-ghost use Rattle.damaged_files.specs.Frames.{AreFramesFrom, IsFramesText, frame_head, frame_text, head_at};
+ghost use Rattle.damaged_files.specs.Frames.{AreFramesFrom, IsFramesText, check_at, frame_head, frame_text, head_at};
 
 use crate::damage::Spot;
 use crate::head::{Back, Front, Head};
@@ -104,6 +104,17 @@ fn with_head(
     }
 }
 
+// What is known of the checksum of a frame: each sector of a slot has its own.
+fn check_at(part: &Part, check: Check, at: usize) -> Check
+    ensures { result ≡ check_at part.now check at }
+{
+    if (at as u64) < part.len {
+        check
+    } else {
+        Check::Held
+    }
+}
+
 // The head of a frame's line.
 fn head_at(part: &Part, check: Check, frame: FramePlace) -> Head
     ensures { result ≡ head_at part.now check frame.at frame.kind frame.seq }
@@ -112,7 +123,7 @@ fn head_at(part: &Part, check: Check, frame: FramePlace) -> Head
     Head {
         front: Front {
             byte,
-            check,
+            check: check_at(part, check, frame.at),
             counted: part.counted,
         },
         back: Back {

@@ -5,7 +5,7 @@ ghost use Rattle.sector_device.specs.Charges.{IsSameRead};
 ghost use Rattle.doc_changes.specs.State.{Good};
 ghost use Rattle.store_parts.specs.Parts.{AreParts};
 ghost use Rattle.damaged_files.specs.Dump.{dump_of};
-ghost use Rattle.damaged_files.specs.Salvaged.{has_slot, is_cut_off, is_whole, salvaged_condition};
+ghost use Rattle.damaged_files.specs.Salvaged.{IsSalvagedOf, has_slot, is_cut_off, is_whole, salvaged_condition};
 ghost use Rattle.damaged_files.specs.declared.showing.ShowFault.TheVariants.{Writer};
 
 use crate::dump::show_documents;
@@ -38,6 +38,7 @@ pub fn show_salvaged<D: SectorDevice, O: Write>(
     ensures same { IsSameRead (D.disk device.old) (D.disk device.new) }
     ensures good { IfOk result (λ salvaged. IfSome salvaged (λ s. Good s.made.machine)) }
     ensures parts { IfOk result (λ salvaged. IfSome salvaged (λ s. AreParts (D.disk device.old).sectors s.found.parts.items)) }
+    ensures made { (D.disk device.new).honest → IfOk result (λ salvaged. IfSome salvaged (IsSalvagedOf (D.disk device.old).seen)) }
     ensures condition { IfOk result (λ salvaged. IfSome salvaged (λ s. s.condition ≡ salvaged_condition s.found s.made)) }
     ensures shown { MatchResult result (λ salvaged. MatchOption salvaged (O.contents writer.new ≡ O.contents writer.old)
         (λ s. Appends (O.contents writer.old) (O.contents writer.new) (dump_of s.made.machine.documents s.made.seq)))
@@ -74,6 +75,7 @@ fn is_whole(found: &Findings, made: &Made) -> bool
     ensures { result ≡ is_whole found.now made.now }
 {
     found.seq.is_some()
+        && found.fits
         && !is_cut_off(&found.copies)
         && made.check != Check::Failed
         && made.doubts.is_empty()

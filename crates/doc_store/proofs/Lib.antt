@@ -12,5 +12,4 @@ mod Single
 pub mod Strict
 pub mod Telling
 mod Timing
-mod Unlived
 pub use Rattle.store_commits.proofs.Running

@@ -120,8 +120,3 @@ pub record IsRefusedAtLast (s : State) (lives : List Life) (disk : MemDisk) (fau
 abbrev pub AreRefused : State → List Life → MemDisk → LivesFault → Type 0
 AreRefused s lives disk (InALife refusal) = (refusal ≡ plain MEMORY) ⊎ ((refusal ≡ plain NO_ROOM) × MayLackRoom (mem_disk disk))
 AreRefused s lives disk (AtLast fault) = IsRefusedAtLast s lives disk fault
-
--- its refusal
-abbrev pub refusal_of_lives : LivesFault → Refusal
-refusal_of_lives (InALife refusal) = refusal
-refusal_of_lives (AtLast fault) = plain fault.number

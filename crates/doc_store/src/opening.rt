@@ -28,8 +28,8 @@ pub enum Strictness {
 }
 
 impl Strictness {
-    // Whether a store of which that is said is opened.
-    fn takes(self, notice: Notice) -> bool
+    /// Whether a store of which that is said is opened.
+    pub fn takes(self, notice: Notice) -> bool
         ensures { IsTrue result ↔ IsTaken self notice }
     {
         match (self, notice) {

@@ -4,11 +4,11 @@ ghost use Rattle.sector_device.specs.Disk.{Image};
 ghost use Rattle.sector_device.specs.Memory.{mem_disk};
 ghost use Rattle.doc_changes.specs.Refusals.{plain};
 ghost use Rattle.doc_changes.specs.State.{State};
-ghost use Rattle.refusals.specs.declared.numbers.TheConstants.{DEVICE, MEMORY, NO_ROOM};
+ghost use Rattle.refusals.specs.declared.numbers.TheConstants.{MEMORY, NO_ROOM};
 ghost use Rattle.doc_store.specs.Ending.{TimedIf, all_with_kept};
 ghost use Rattle.doc_store.specs.Opening.{MayLackRoom};
 ghost use Rattle.store_commits.specs.Images.{rides_for};
-ghost use Rattle.doc_store.specs.Lives.{AllStand, CrashesKeep, DiskStands, IsLives, AreRefused, failures_after, refusal_of_lives};
+ghost use Rattle.doc_store.specs.Lives.{AllStand, CrashesKeep, DiskStands, IsLives, AreRefused, failures_after};
 ghost use Rattle.doc_store.specs.Opening.{IsOpenedFrom};
 ghost use Rattle.doc_store.specs.Promise.{LivesKeep};
 ghost use Rattle.doc_store.specs.Timed.{HasOneImage, Timed, left};
@@ -32,18 +32,6 @@ pub enum LivesFault {
     AtLast(OpenFault<MemDisk>),
 }
 
-impl LivesFault {
-    /// The refusal of it.
-    pub fn refusal(&self) -> Refusal
-        ensures { result ≡ refusal_of_lives self.now }
-    {
-        match self {
-            LivesFault::InALife(refusal) => *refusal,
-            LivesFault::AtLast(fault) => Refusal::plain(fault.number),
-        }
-    }
-}
-
 impl From<Refusal> for LivesFault {
     ghost use Rattle.std.specs.Prelude.{◌≡◌};
     ghost use Rattle.doc_store.specs.declared.whole.LivesFault.TheVariants.{InALife};
@@ -61,31 +49,10 @@ impl Store<MemDisk> {
     /// and the power goes: of each sector the crash keeps what the picks name, and it tears those that the damage names,
     /// which a store in format 3 withstands if none verifies. The last opening has no fuse.
     ///
-    /// `MEMORY` if an opening, or the part of a life, was refused memory; `NO_ROOM` if an opening was refused as that,
-    /// which only a disk in format 1 is; `DEVICE` if the disk failed at the last opening, also if its memory ran out.
+    /// `InALife` if an opening, or the part of a life, was refused memory, or an opening was refused as `NO_ROOM`, which
+    /// only a disk in format 1 is. `AtLast` if the last opening is refused: the disk comes back, and says whether it failed,
+    /// also if its memory ran out.
     pub fn lives(
-        alloc: Global,
-        disk: MemDisk,
-        lives: Vec<Life>,
-    ) -> Result<(Vec<Part>, Store<MemDisk>), Refusal>
-        ensures lives { (s : State) → AllStand (mem_disk disk) s → CrashesKeep s lives.items → IfOk result (λ told. IsLives s lives.items told.0.items told.1.account.state) }
-        ensures promise { (s : State) → DiskStands disk s → CrashesKeep s lives.items → IfOk result (λ told. LivesKeep s lives.items told.0.items told.1.account.state) }
-        ensures timed { (s : State) (settled : Bool) → AllStand (mem_disk disk) s → (settled ≡ true → HasOneImage (rides_for s.profile) (mem_disk disk)) → CrashesKeep s lives.items → ((mem_disk disk).failures_saturated → ⊥)
-            → IfOk result (λ told. (image : Image) × (now : Bool) × IsOpenedFrom image told.1.account
-            × Timed (left s (mem_disk disk).seen settled) lives.items told.0.items (left told.1.account.state image now)) }
-        ensures works { IfOk result (λ told. (told.1.account.broken ≡ false) × (told.1.account.copy ≡ None)) }
-        ensures stands { (s : State) → AllStand (mem_disk disk) s → CrashesKeep s lives.items → IfOk result (λ told. AllStand (mem_disk told.1.device) told.1.account.state) }
-        ensures err { (s : State) → AllStand (mem_disk disk) s → CrashesKeep s lives.items → IfErr result (λ refusal. (refusal ≡ plain MEMORY) ⊎ (refusal ≡ plain DEVICE)
-            ⊎ ((refusal ≡ plain NO_ROOM) × MayLackRoom (mem_disk disk))) }
-    {
-        match Store::lives_or_disk(alloc, disk, lives) {
-            Ok(told) => Ok(told),
-            Err(fault) => Err(fault.refusal()),
-        }
-    }
-
-    /// The same. If the last opening is refused the disk comes back: it says whether the disk failed.
-    pub fn lives_or_disk(
         alloc: Global,
         disk: MemDisk,
         lives: Vec<Life>,

@@ -1,2 +1,3 @@
 pub mod Keeps
 mod Sectors
+mod Tails

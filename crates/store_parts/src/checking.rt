@@ -15,17 +15,6 @@ pub enum Check {
     Unknown,
 }
 
-impl Check {
-    /// The word for it.
-    pub fn word(self) -> &'static str {
-        match self {
-            Check::Held => "held",
-            Check::Failed => "failed",
-            Check::Unknown => "unknown",
-        }
-    }
-}
-
 /// Whether the bytes of the part in the half have its checksum.
 pub fn check_of(part: &Part, bytes: &[u8]) -> Check
     ensures { HasCheck part.now bytes.now result }

@@ -1,18 +1,11 @@
 //! A part of a device that may hold frames.
-ghost use Rattle.std.specs.Prelude.{◌≤◌, ◌<◌, ◌+◌, ◌*◌, ◌^◌, IfOk};
+ghost use Rattle.std.specs.Prelude.{◌≤◌, ◌<◌, ◌+◌, ◌*◌, ◌≡◌, ◌^◌, IfOk};
 ghost use Rattle.sector_device.specs.Charges.{IsSameRead};
 ghost use Rattle.sector_device.specs.Sectors.{KeepsImages};
 ghost use Rattle.store_parts.specs.Parts.{HasBytes, HasPart, IsReadBut};
 
-use commit_slots::{NUMBERS, PIECE_BYTES};
 use sector_device::{ReadFault, SECTOR_BYTES, SectorDevice, read_bytes};
 use std::alloc::{AllocError, Global};
-
-/// The byte of a slot's sector at which its piece of the content begins.
-const PIECE_START: u64 = 28;
-
-/// How many bytes of a tail the first sector of a slot has, after the numbers.
-const FIRST_PIECE: u64 = (PIECE_BYTES - NUMBERS) as u64;
 
 /// A part of a device that may hold frames: bytes of a half, and after them, of a commit in format 3, those in its slot.
 #[derive(Drop)]
@@ -31,28 +24,23 @@ pub struct Part {
     pub tail: Vec<u8>,
     /// The first sector of that slot.
     pub slot: u64,
+    /// The number of its commit, if that is known: of the one that counts it, or else its bytes are those of some sectors
+    /// of a slot alone, each of which has its checksum.
+    pub number: Option<u64>,
 }
 
-impl Part {
-    /// The sector of the byte at that place of the part, and its place in the sector.
-    pub fn place_of(&self, at: u64) -> (u64, u64) {
-        if at < self.len {
-            return (
-                self.first.saturating_add(at / SECTOR_BYTES),
-                at % SECTOR_BYTES,
-            );
-        }
-        let in_tail = at - self.len;
-        if in_tail < FIRST_PIECE {
-            return (self.slot, PIECE_START + NUMBERS as u64 + in_tail);
-        }
-        let later = in_tail - FIRST_PIECE;
-        let piece = PIECE_BYTES as u64;
-        (
-            self.slot.saturating_add(1 + later / piece),
-            PIECE_START + later % piece,
-        )
-    }
+/// The part as far as a device of `sectors` sectors has it.
+pub(crate) fn within(sectors: u64, part: Part) -> Part
+    requires { sectors ≤ 2 ^ 32 }
+    ensures has { HasPart sectors result }
+    ensures tail { (result.tail ≡ part.tail) × (result.slot ≡ part.slot) }
+{
+    let first = part.first.min(sectors);
+    let room = SECTOR_BYTES * (sectors - first);
+    let mut part = part;
+    part.first = first;
+    part.len = part.len.min(room);
+    part
 }
 
 /// The bytes of a part.

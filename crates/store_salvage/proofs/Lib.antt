@@ -1,3 +1,4 @@
 pub mod Gathers
 pub mod Later
 mod Spelled
+mod OfParts

@@ -1,2 +1,3 @@
 pub mod Gathering
 pub mod Lines
+pub mod Making

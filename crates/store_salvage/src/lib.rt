@@ -7,8 +7,10 @@
 
 mod loading;
 mod making;
+mod spare;
 mod taking;
 
 pub use loading::lines;
 pub use making::{Made, salvage};
-pub use taking::{Doubt, Gathered, gather};
+pub use spare::{Spare, spare_frames};
+pub use taking::{Doubt, Gathered, Source, gather};

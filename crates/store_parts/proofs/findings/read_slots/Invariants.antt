@@ -1,6 +1,7 @@
 use Rattle.std.proofs.Common.{◌≡◌, length}
 use Rattle.sector_device.specs.Charges.{IsSameRead}
 use Rattle.sector_device.specs.Sectors.{KeepsImages}
+use Rattle.store_parts.specs.Parts.{AreSlotsOf}
 use Rattle.store_parts.proofs.findings.read_slots.Given as goal
 
 abbrev pub invariant-loop-at : goal.invariant-loop-at
@@ -10,4 +11,5 @@ invariant-loop-at g l =
       same : IsSameRead (disk l.fn.device) (disk l.device);
       keeps : (disk l.device).honest → KeepsImages (disk l.fn.device) (disk l.device);
       long : length l.slots.items ≡ l.at;
+      slots : (disk l.device).honest → AreSlotsOf (disk l.fn.device).seen l.slots.items;
     }

@@ -3,6 +3,7 @@ use Rattle.doc_changes.specs.State.{Good}
 use Rattle.sector_device.specs.Charges.{IsSameRead}
 use Rattle.sector_device.specs.Sectors.{KeepsImages}
 use Rattle.store_parts.specs.Parts.{AreParts}
+use Rattle.store_salvage.specs.Making.{IsMade}
 use Rattle.store_salvage.proofs.making.newest.Given as goal
 
 abbrev pub invariant-loop-place : goal.invariant-loop-place
@@ -13,4 +14,5 @@ invariant-loop-place g l =
       keeps : (disk l.device).honest → KeepsImages (disk l.fn.device) (disk l.device);
       parts : AreParts (disk l.fn.device).sectors (drop l.place l.part-items);
       good : IfSome l.best (λ m. Good m.machine);
+      made : (disk l.device).honest → IfSome l.best (IsMade (disk l.fn.device).seen l.found);
     }

@@ -1,11 +1,11 @@
 use Rattle.std.proofs.Common.{◌-◌, length}
 use Rattle.doc_changes.specs.State.{Good}
-use Rattle.store_salvage.specs.Gathering.{GathersTo}
+use Rattle.store_salvage.proofs.Gathers.{Carries}
 use Rattle.store_salvage.proofs.taking.gather.Given as goal
 
 abbrev pub invariant-loop-from : goal.invariant-loop-from
 invariant-loop-from l = record {
-  gathers : GathersTo l.version l.bytes l.from l.fn.machine l.gathered.machine;
+  gathers : Carries l.source l.bytes l.parts l.fn.machine l.from l.gathered;
   good : Good l.gathered.machine;
 }
 
