@@ -117,91 +117,163 @@ salvage_read file false false h =
     let read = read_by (file ∷ []) (codes "salvage") salvage_built (standing [] (Some (codes "file", file ∷ [])) idle 2) refl refl refl walked refl refl refl in
     record { rows = _; met = read.0; taken = read.1; holds = (refl, refl, refl) }
 
-dump_read : (file : Text) (why : Bool) → IsPlain file
-    → Read (codes "dump" ∷ file ∷ codes "--read-only" ∷ flag_words (codes "--why") why) (codes "dump") (λ rows. HoldsFile file rows × HoldsFlag (codes "read-only") true rows × HoldsFlag (codes "why") why rows)
+dump_read : (file : Text) (strict why : Bool) → IsPlain file
+    → Read (codes "dump" ∷ file ∷ codes "--read-only" ∷ flag_words (codes "--strict") strict ++ flag_words (codes "--why") why) (codes "dump") (λ rows. HoldsFile file rows × HoldsFlag (codes "read-only") true rows × HoldsFlag (codes "strict") strict rows × HoldsFlag (codes "why") why rows)
 unfolding clap_on_literals
-dump_read file true h =
+dump_read file true true h =
+    let walked = goes (plain_step dump_built None 1 file h refl) (goes (met dump_built (standing [] (Some (codes "file", file ∷ [])) idle 2) (codes "--read-only") refl) (goes (met dump_built (standing (given (codes "file") file ∷ flag_row (codes "read-only") true ∷ []) None idle 2) (codes "--strict") refl) (goes (met dump_built (standing (given (codes "file") file ∷ flag_row (codes "read-only") true ∷ flag_row (codes "strict") true ∷ []) None idle 2) (codes "--why") refl) (gone dump_built (standing (given (codes "file") file ∷ flag_row (codes "read-only") true ∷ flag_row (codes "strict") true ∷ flag_row (codes "why") true ∷ []) None idle 2))))) in
+    let read = read_by (file ∷ codes "--read-only" ∷ codes "--strict" ∷ codes "--why" ∷ []) (codes "dump") dump_built (standing (given (codes "file") file ∷ flag_row (codes "read-only") true ∷ flag_row (codes "strict") true ∷ flag_row (codes "why") true ∷ []) None idle 2) refl refl refl walked refl refl refl in
+    record { rows = _; met = read.0; taken = read.1; holds = (refl, refl, refl, refl) }
+dump_read file true false h =
+    let walked = goes (plain_step dump_built None 1 file h refl) (goes (met dump_built (standing [] (Some (codes "file", file ∷ [])) idle 2) (codes "--read-only") refl) (goes (met dump_built (standing (given (codes "file") file ∷ flag_row (codes "read-only") true ∷ []) None idle 2) (codes "--strict") refl) (gone dump_built (standing (given (codes "file") file ∷ flag_row (codes "read-only") true ∷ flag_row (codes "strict") true ∷ []) None idle 2)))) in
+    let read = read_by (file ∷ codes "--read-only" ∷ codes "--strict" ∷ []) (codes "dump") dump_built (standing (given (codes "file") file ∷ flag_row (codes "read-only") true ∷ flag_row (codes "strict") true ∷ []) None idle 2) refl refl refl walked refl refl refl in
+    record { rows = _; met = read.0; taken = read.1; holds = (refl, refl, refl, refl) }
+dump_read file false true h =
     let walked = goes (plain_step dump_built None 1 file h refl) (goes (met dump_built (standing [] (Some (codes "file", file ∷ [])) idle 2) (codes "--read-only") refl) (goes (met dump_built (standing (given (codes "file") file ∷ flag_row (codes "read-only") true ∷ []) None idle 2) (codes "--why") refl) (gone dump_built (standing (given (codes "file") file ∷ flag_row (codes "read-only") true ∷ flag_row (codes "why") true ∷ []) None idle 2)))) in
     let read = read_by (file ∷ codes "--read-only" ∷ codes "--why" ∷ []) (codes "dump") dump_built (standing (given (codes "file") file ∷ flag_row (codes "read-only") true ∷ flag_row (codes "why") true ∷ []) None idle 2) refl refl refl walked refl refl refl in
-    record { rows = _; met = read.0; taken = read.1; holds = (refl, refl, refl) }
-dump_read file false h =
+    record { rows = _; met = read.0; taken = read.1; holds = (refl, refl, refl, refl) }
+dump_read file false false h =
     let walked = goes (plain_step dump_built None 1 file h refl) (goes (met dump_built (standing [] (Some (codes "file", file ∷ [])) idle 2) (codes "--read-only") refl) (gone dump_built (standing (given (codes "file") file ∷ flag_row (codes "read-only") true ∷ []) None idle 2))) in
     let read = read_by (file ∷ codes "--read-only" ∷ []) (codes "dump") dump_built (standing (given (codes "file") file ∷ flag_row (codes "read-only") true ∷ []) None idle 2) refl refl refl walked refl refl refl in
-    record { rows = _; met = read.0; taken = read.1; holds = (refl, refl, refl) }
+    record { rows = _; met = read.0; taken = read.1; holds = (refl, refl, refl, refl) }
 
-copy_read : (file new sectors : Text) (version identity : Option Text) (why : Bool) → IsPlain file → IsPlain new → IsChecked MIN_SECTORS MAX_SECTORS sectors → IfSome version (IsChecked MIN_FORMAT MAX_FORMAT) → IfSome identity IsPlain
-    → Read (codes "copy" ∷ file ∷ new ∷ codes "--sectors" ∷ sectors ∷ option_words (codes "--format") version ++ option_words (codes "--id") identity ++ flag_words (codes "--why") why) (codes "copy")
-    (λ rows. HoldsFile file rows × HoldsNew new rows × (one_of (codes "sectors") rows ≡ Some sectors) × (one_of (codes "format") rows ≡ version) × (first_of (codes "format") rows ≡ version) × (first_of (codes "id") rows ≡ identity) × HoldsFlag (codes "why") why rows)
+copy_read : (file new sectors : Text) (version identity : Option Text) (strict why : Bool) → IsPlain file → IsPlain new → IsChecked MIN_SECTORS MAX_SECTORS sectors → IfSome version (IsChecked MIN_FORMAT MAX_FORMAT) → IfSome identity IsPlain
+    → Read (codes "copy" ∷ file ∷ new ∷ codes "--sectors" ∷ sectors ∷ option_words (codes "--format") version ++ option_words (codes "--id") identity ++ flag_words (codes "--strict") strict ++ flag_words (codes "--why") why) (codes "copy")
+    (λ rows. HoldsFile file rows × HoldsNew new rows × (one_of (codes "sectors") rows ≡ Some sectors) × (one_of (codes "format") rows ≡ version) × (first_of (codes "format") rows ≡ version) × (first_of (codes "id") rows ≡ identity) × HoldsFlag (codes "strict") strict rows × HoldsFlag (codes "why") why rows)
 unfolding clap_on_literals
-copy_read file new sectors (Some version) (Some identity) true h k s v d =
+copy_read file new sectors (Some version) (Some identity) true true h k s v d =
+    let walked = goes (plain_step copy_built None 1 file h refl) (goes (plain_step copy_built (Some (codes "file", file ∷ [])) 2 new k refl) (goes (met copy_built (standing (given (codes "file") file ∷ []) (Some (codes "new", new ∷ [])) idle 3) (codes "--sectors") refl) (goes (value_step copy_built (given (codes "file") file ∷ given (codes "new") new ∷ []) (codes "sectors") 3 sectors s.0) (goes (met copy_built (standing (given (codes "file") file ∷ given (codes "new") new ∷ []) (Some (codes "sectors", sectors ∷ [])) idle 3) (codes "--format") (simp s.1)) (goes (value_step copy_built (given (codes "file") file ∷ given (codes "new") new ∷ given (codes "sectors") sectors ∷ []) (codes "format") 3 version v.0) (goes (met copy_built (standing (given (codes "file") file ∷ given (codes "new") new ∷ given (codes "sectors") sectors ∷ []) (Some (codes "format", version ∷ [])) idle 3) (codes "--id") (simp v.1)) (goes (value_step copy_built (given (codes "file") file ∷ given (codes "new") new ∷ given (codes "sectors") sectors ∷ given (codes "format") version ∷ []) (codes "id") 3 identity d) (goes (met copy_built (standing (given (codes "file") file ∷ given (codes "new") new ∷ given (codes "sectors") sectors ∷ given (codes "format") version ∷ []) (Some (codes "id", identity ∷ [])) idle 3) (codes "--strict") refl) (goes (met copy_built (standing (given (codes "file") file ∷ given (codes "new") new ∷ given (codes "sectors") sectors ∷ given (codes "format") version ∷ given (codes "id") identity ∷ flag_row (codes "strict") true ∷ []) None idle 3) (codes "--why") refl) (gone copy_built (standing (given (codes "file") file ∷ given (codes "new") new ∷ given (codes "sectors") sectors ∷ given (codes "format") version ∷ given (codes "id") identity ∷ flag_row (codes "strict") true ∷ flag_row (codes "why") true ∷ []) None idle 3))))))))))) in
+    let read = read_by (file ∷ new ∷ codes "--sectors" ∷ sectors ∷ codes "--format" ∷ version ∷ codes "--id" ∷ identity ∷ codes "--strict" ∷ codes "--why" ∷ []) (codes "copy") copy_built (standing (given (codes "file") file ∷ given (codes "new") new ∷ given (codes "sectors") sectors ∷ given (codes "format") version ∷ given (codes "id") identity ∷ flag_row (codes "strict") true ∷ flag_row (codes "why") true ∷ []) None idle 3) refl refl refl walked refl refl refl in
+    record { rows = _; met = read.0; taken = read.1; holds = (refl, refl, refl, refl, refl, refl, refl, refl) }
+copy_read file new sectors (Some version) (Some identity) true false h k s v d =
+    let walked = goes (plain_step copy_built None 1 file h refl) (goes (plain_step copy_built (Some (codes "file", file ∷ [])) 2 new k refl) (goes (met copy_built (standing (given (codes "file") file ∷ []) (Some (codes "new", new ∷ [])) idle 3) (codes "--sectors") refl) (goes (value_step copy_built (given (codes "file") file ∷ given (codes "new") new ∷ []) (codes "sectors") 3 sectors s.0) (goes (met copy_built (standing (given (codes "file") file ∷ given (codes "new") new ∷ []) (Some (codes "sectors", sectors ∷ [])) idle 3) (codes "--format") (simp s.1)) (goes (value_step copy_built (given (codes "file") file ∷ given (codes "new") new ∷ given (codes "sectors") sectors ∷ []) (codes "format") 3 version v.0) (goes (met copy_built (standing (given (codes "file") file ∷ given (codes "new") new ∷ given (codes "sectors") sectors ∷ []) (Some (codes "format", version ∷ [])) idle 3) (codes "--id") (simp v.1)) (goes (value_step copy_built (given (codes "file") file ∷ given (codes "new") new ∷ given (codes "sectors") sectors ∷ given (codes "format") version ∷ []) (codes "id") 3 identity d) (goes (met copy_built (standing (given (codes "file") file ∷ given (codes "new") new ∷ given (codes "sectors") sectors ∷ given (codes "format") version ∷ []) (Some (codes "id", identity ∷ [])) idle 3) (codes "--strict") refl) (gone copy_built (standing (given (codes "file") file ∷ given (codes "new") new ∷ given (codes "sectors") sectors ∷ given (codes "format") version ∷ given (codes "id") identity ∷ flag_row (codes "strict") true ∷ []) None idle 3)))))))))) in
+    let read = read_by (file ∷ new ∷ codes "--sectors" ∷ sectors ∷ codes "--format" ∷ version ∷ codes "--id" ∷ identity ∷ codes "--strict" ∷ []) (codes "copy") copy_built (standing (given (codes "file") file ∷ given (codes "new") new ∷ given (codes "sectors") sectors ∷ given (codes "format") version ∷ given (codes "id") identity ∷ flag_row (codes "strict") true ∷ []) None idle 3) refl refl refl walked refl refl refl in
+    record { rows = _; met = read.0; taken = read.1; holds = (refl, refl, refl, refl, refl, refl, refl, refl) }
+copy_read file new sectors (Some version) (Some identity) false true h k s v d =
     let walked = goes (plain_step copy_built None 1 file h refl) (goes (plain_step copy_built (Some (codes "file", file ∷ [])) 2 new k refl) (goes (met copy_built (standing (given (codes "file") file ∷ []) (Some (codes "new", new ∷ [])) idle 3) (codes "--sectors") refl) (goes (value_step copy_built (given (codes "file") file ∷ given (codes "new") new ∷ []) (codes "sectors") 3 sectors s.0) (goes (met copy_built (standing (given (codes "file") file ∷ given (codes "new") new ∷ []) (Some (codes "sectors", sectors ∷ [])) idle 3) (codes "--format") (simp s.1)) (goes (value_step copy_built (given (codes "file") file ∷ given (codes "new") new ∷ given (codes "sectors") sectors ∷ []) (codes "format") 3 version v.0) (goes (met copy_built (standing (given (codes "file") file ∷ given (codes "new") new ∷ given (codes "sectors") sectors ∷ []) (Some (codes "format", version ∷ [])) idle 3) (codes "--id") (simp v.1)) (goes (value_step copy_built (given (codes "file") file ∷ given (codes "new") new ∷ given (codes "sectors") sectors ∷ given (codes "format") version ∷ []) (codes "id") 3 identity d) (goes (met copy_built (standing (given (codes "file") file ∷ given (codes "new") new ∷ given (codes "sectors") sectors ∷ given (codes "format") version ∷ []) (Some (codes "id", identity ∷ [])) idle 3) (codes "--why") refl) (gone copy_built (standing (given (codes "file") file ∷ given (codes "new") new ∷ given (codes "sectors") sectors ∷ given (codes "format") version ∷ given (codes "id") identity ∷ flag_row (codes "why") true ∷ []) None idle 3)))))))))) in
     let read = read_by (file ∷ new ∷ codes "--sectors" ∷ sectors ∷ codes "--format" ∷ version ∷ codes "--id" ∷ identity ∷ codes "--why" ∷ []) (codes "copy") copy_built (standing (given (codes "file") file ∷ given (codes "new") new ∷ given (codes "sectors") sectors ∷ given (codes "format") version ∷ given (codes "id") identity ∷ flag_row (codes "why") true ∷ []) None idle 3) refl refl refl walked refl refl refl in
-    record { rows = _; met = read.0; taken = read.1; holds = (refl, refl, refl, refl, refl, refl, refl) }
-copy_read file new sectors (Some version) (Some identity) false h k s v d =
+    record { rows = _; met = read.0; taken = read.1; holds = (refl, refl, refl, refl, refl, refl, refl, refl) }
+copy_read file new sectors (Some version) (Some identity) false false h k s v d =
     let walked = goes (plain_step copy_built None 1 file h refl) (goes (plain_step copy_built (Some (codes "file", file ∷ [])) 2 new k refl) (goes (met copy_built (standing (given (codes "file") file ∷ []) (Some (codes "new", new ∷ [])) idle 3) (codes "--sectors") refl) (goes (value_step copy_built (given (codes "file") file ∷ given (codes "new") new ∷ []) (codes "sectors") 3 sectors s.0) (goes (met copy_built (standing (given (codes "file") file ∷ given (codes "new") new ∷ []) (Some (codes "sectors", sectors ∷ [])) idle 3) (codes "--format") (simp s.1)) (goes (value_step copy_built (given (codes "file") file ∷ given (codes "new") new ∷ given (codes "sectors") sectors ∷ []) (codes "format") 3 version v.0) (goes (met copy_built (standing (given (codes "file") file ∷ given (codes "new") new ∷ given (codes "sectors") sectors ∷ []) (Some (codes "format", version ∷ [])) idle 3) (codes "--id") (simp v.1)) (goes (value_step copy_built (given (codes "file") file ∷ given (codes "new") new ∷ given (codes "sectors") sectors ∷ given (codes "format") version ∷ []) (codes "id") 3 identity d) (gone copy_built (standing (given (codes "file") file ∷ given (codes "new") new ∷ given (codes "sectors") sectors ∷ given (codes "format") version ∷ []) (Some (codes "id", identity ∷ [])) idle 3))))))))) in
     let read = read_by (file ∷ new ∷ codes "--sectors" ∷ sectors ∷ codes "--format" ∷ version ∷ codes "--id" ∷ identity ∷ []) (codes "copy") copy_built (standing (given (codes "file") file ∷ given (codes "new") new ∷ given (codes "sectors") sectors ∷ given (codes "format") version ∷ []) (Some (codes "id", identity ∷ [])) idle 3) refl refl refl walked refl refl refl in
-    record { rows = _; met = read.0; taken = read.1; holds = (refl, refl, refl, refl, refl, refl, refl) }
-copy_read file new sectors (Some version) None true h k s v d =
+    record { rows = _; met = read.0; taken = read.1; holds = (refl, refl, refl, refl, refl, refl, refl, refl) }
+copy_read file new sectors (Some version) None true true h k s v d =
+    let walked = goes (plain_step copy_built None 1 file h refl) (goes (plain_step copy_built (Some (codes "file", file ∷ [])) 2 new k refl) (goes (met copy_built (standing (given (codes "file") file ∷ []) (Some (codes "new", new ∷ [])) idle 3) (codes "--sectors") refl) (goes (value_step copy_built (given (codes "file") file ∷ given (codes "new") new ∷ []) (codes "sectors") 3 sectors s.0) (goes (met copy_built (standing (given (codes "file") file ∷ given (codes "new") new ∷ []) (Some (codes "sectors", sectors ∷ [])) idle 3) (codes "--format") (simp s.1)) (goes (value_step copy_built (given (codes "file") file ∷ given (codes "new") new ∷ given (codes "sectors") sectors ∷ []) (codes "format") 3 version v.0) (goes (met copy_built (standing (given (codes "file") file ∷ given (codes "new") new ∷ given (codes "sectors") sectors ∷ []) (Some (codes "format", version ∷ [])) idle 3) (codes "--strict") (simp v.1)) (goes (met copy_built (standing (given (codes "file") file ∷ given (codes "new") new ∷ given (codes "sectors") sectors ∷ given (codes "format") version ∷ flag_row (codes "strict") true ∷ []) None idle 3) (codes "--why") refl) (gone copy_built (standing (given (codes "file") file ∷ given (codes "new") new ∷ given (codes "sectors") sectors ∷ given (codes "format") version ∷ flag_row (codes "strict") true ∷ flag_row (codes "why") true ∷ []) None idle 3))))))))) in
+    let read = read_by (file ∷ new ∷ codes "--sectors" ∷ sectors ∷ codes "--format" ∷ version ∷ codes "--strict" ∷ codes "--why" ∷ []) (codes "copy") copy_built (standing (given (codes "file") file ∷ given (codes "new") new ∷ given (codes "sectors") sectors ∷ given (codes "format") version ∷ flag_row (codes "strict") true ∷ flag_row (codes "why") true ∷ []) None idle 3) refl refl refl walked refl refl refl in
+    record { rows = _; met = read.0; taken = read.1; holds = (refl, refl, refl, refl, refl, refl, refl, refl) }
+copy_read file new sectors (Some version) None true false h k s v d =
+    let walked = goes (plain_step copy_built None 1 file h refl) (goes (plain_step copy_built (Some (codes "file", file ∷ [])) 2 new k refl) (goes (met copy_built (standing (given (codes "file") file ∷ []) (Some (codes "new", new ∷ [])) idle 3) (codes "--sectors") refl) (goes (value_step copy_built (given (codes "file") file ∷ given (codes "new") new ∷ []) (codes "sectors") 3 sectors s.0) (goes (met copy_built (standing (given (codes "file") file ∷ given (codes "new") new ∷ []) (Some (codes "sectors", sectors ∷ [])) idle 3) (codes "--format") (simp s.1)) (goes (value_step copy_built (given (codes "file") file ∷ given (codes "new") new ∷ given (codes "sectors") sectors ∷ []) (codes "format") 3 version v.0) (goes (met copy_built (standing (given (codes "file") file ∷ given (codes "new") new ∷ given (codes "sectors") sectors ∷ []) (Some (codes "format", version ∷ [])) idle 3) (codes "--strict") (simp v.1)) (gone copy_built (standing (given (codes "file") file ∷ given (codes "new") new ∷ given (codes "sectors") sectors ∷ given (codes "format") version ∷ flag_row (codes "strict") true ∷ []) None idle 3)))))))) in
+    let read = read_by (file ∷ new ∷ codes "--sectors" ∷ sectors ∷ codes "--format" ∷ version ∷ codes "--strict" ∷ []) (codes "copy") copy_built (standing (given (codes "file") file ∷ given (codes "new") new ∷ given (codes "sectors") sectors ∷ given (codes "format") version ∷ flag_row (codes "strict") true ∷ []) None idle 3) refl refl refl walked refl refl refl in
+    record { rows = _; met = read.0; taken = read.1; holds = (refl, refl, refl, refl, refl, refl, refl, refl) }
+copy_read file new sectors (Some version) None false true h k s v d =
     let walked = goes (plain_step copy_built None 1 file h refl) (goes (plain_step copy_built (Some (codes "file", file ∷ [])) 2 new k refl) (goes (met copy_built (standing (given (codes "file") file ∷ []) (Some (codes "new", new ∷ [])) idle 3) (codes "--sectors") refl) (goes (value_step copy_built (given (codes "file") file ∷ given (codes "new") new ∷ []) (codes "sectors") 3 sectors s.0) (goes (met copy_built (standing (given (codes "file") file ∷ given (codes "new") new ∷ []) (Some (codes "sectors", sectors ∷ [])) idle 3) (codes "--format") (simp s.1)) (goes (value_step copy_built (given (codes "file") file ∷ given (codes "new") new ∷ given (codes "sectors") sectors ∷ []) (codes "format") 3 version v.0) (goes (met copy_built (standing (given (codes "file") file ∷ given (codes "new") new ∷ given (codes "sectors") sectors ∷ []) (Some (codes "format", version ∷ [])) idle 3) (codes "--why") (simp v.1)) (gone copy_built (standing (given (codes "file") file ∷ given (codes "new") new ∷ given (codes "sectors") sectors ∷ given (codes "format") version ∷ flag_row (codes "why") true ∷ []) None idle 3)))))))) in
     let read = read_by (file ∷ new ∷ codes "--sectors" ∷ sectors ∷ codes "--format" ∷ version ∷ codes "--why" ∷ []) (codes "copy") copy_built (standing (given (codes "file") file ∷ given (codes "new") new ∷ given (codes "sectors") sectors ∷ given (codes "format") version ∷ flag_row (codes "why") true ∷ []) None idle 3) refl refl refl walked refl refl refl in
-    record { rows = _; met = read.0; taken = read.1; holds = (refl, refl, refl, refl, refl, refl, refl) }
-copy_read file new sectors (Some version) None false h k s v d =
+    record { rows = _; met = read.0; taken = read.1; holds = (refl, refl, refl, refl, refl, refl, refl, refl) }
+copy_read file new sectors (Some version) None false false h k s v d =
     let walked = goes (plain_step copy_built None 1 file h refl) (goes (plain_step copy_built (Some (codes "file", file ∷ [])) 2 new k refl) (goes (met copy_built (standing (given (codes "file") file ∷ []) (Some (codes "new", new ∷ [])) idle 3) (codes "--sectors") refl) (goes (value_step copy_built (given (codes "file") file ∷ given (codes "new") new ∷ []) (codes "sectors") 3 sectors s.0) (goes (met copy_built (standing (given (codes "file") file ∷ given (codes "new") new ∷ []) (Some (codes "sectors", sectors ∷ [])) idle 3) (codes "--format") (simp s.1)) (goes (value_step copy_built (given (codes "file") file ∷ given (codes "new") new ∷ given (codes "sectors") sectors ∷ []) (codes "format") 3 version v.0) (gone copy_built (standing (given (codes "file") file ∷ given (codes "new") new ∷ given (codes "sectors") sectors ∷ []) (Some (codes "format", version ∷ [])) idle 3))))))) in
     let read = read_by (file ∷ new ∷ codes "--sectors" ∷ sectors ∷ codes "--format" ∷ version ∷ []) (codes "copy") copy_built (standing (given (codes "file") file ∷ given (codes "new") new ∷ given (codes "sectors") sectors ∷ []) (Some (codes "format", version ∷ [])) idle 3) refl refl refl walked (simp v.1) refl refl in
-    record { rows = _; met = read.0; taken = read.1; holds = (refl, refl, refl, refl, refl, refl, refl) }
-copy_read file new sectors None (Some identity) true h k s v d =
+    record { rows = _; met = read.0; taken = read.1; holds = (refl, refl, refl, refl, refl, refl, refl, refl) }
+copy_read file new sectors None (Some identity) true true h k s v d =
+    let walked = goes (plain_step copy_built None 1 file h refl) (goes (plain_step copy_built (Some (codes "file", file ∷ [])) 2 new k refl) (goes (met copy_built (standing (given (codes "file") file ∷ []) (Some (codes "new", new ∷ [])) idle 3) (codes "--sectors") refl) (goes (value_step copy_built (given (codes "file") file ∷ given (codes "new") new ∷ []) (codes "sectors") 3 sectors s.0) (goes (met copy_built (standing (given (codes "file") file ∷ given (codes "new") new ∷ []) (Some (codes "sectors", sectors ∷ [])) idle 3) (codes "--id") (simp s.1)) (goes (value_step copy_built (given (codes "file") file ∷ given (codes "new") new ∷ given (codes "sectors") sectors ∷ []) (codes "id") 3 identity d) (goes (met copy_built (standing (given (codes "file") file ∷ given (codes "new") new ∷ given (codes "sectors") sectors ∷ []) (Some (codes "id", identity ∷ [])) idle 3) (codes "--strict") refl) (goes (met copy_built (standing (given (codes "file") file ∷ given (codes "new") new ∷ given (codes "sectors") sectors ∷ given (codes "id") identity ∷ flag_row (codes "strict") true ∷ []) None idle 3) (codes "--why") refl) (gone copy_built (standing (given (codes "file") file ∷ given (codes "new") new ∷ given (codes "sectors") sectors ∷ given (codes "id") identity ∷ flag_row (codes "strict") true ∷ flag_row (codes "why") true ∷ []) None idle 3))))))))) in
+    let read = read_by (file ∷ new ∷ codes "--sectors" ∷ sectors ∷ codes "--id" ∷ identity ∷ codes "--strict" ∷ codes "--why" ∷ []) (codes "copy") copy_built (standing (given (codes "file") file ∷ given (codes "new") new ∷ given (codes "sectors") sectors ∷ given (codes "id") identity ∷ flag_row (codes "strict") true ∷ flag_row (codes "why") true ∷ []) None idle 3) refl refl refl walked refl refl refl in
+    record { rows = _; met = read.0; taken = read.1; holds = (refl, refl, refl, refl, refl, refl, refl, refl) }
+copy_read file new sectors None (Some identity) true false h k s v d =
+    let walked = goes (plain_step copy_built None 1 file h refl) (goes (plain_step copy_built (Some (codes "file", file ∷ [])) 2 new k refl) (goes (met copy_built (standing (given (codes "file") file ∷ []) (Some (codes "new", new ∷ [])) idle 3) (codes "--sectors") refl) (goes (value_step copy_built (given (codes "file") file ∷ given (codes "new") new ∷ []) (codes "sectors") 3 sectors s.0) (goes (met copy_built (standing (given (codes "file") file ∷ given (codes "new") new ∷ []) (Some (codes "sectors", sectors ∷ [])) idle 3) (codes "--id") (simp s.1)) (goes (value_step copy_built (given (codes "file") file ∷ given (codes "new") new ∷ given (codes "sectors") sectors ∷ []) (codes "id") 3 identity d) (goes (met copy_built (standing (given (codes "file") file ∷ given (codes "new") new ∷ given (codes "sectors") sectors ∷ []) (Some (codes "id", identity ∷ [])) idle 3) (codes "--strict") refl) (gone copy_built (standing (given (codes "file") file ∷ given (codes "new") new ∷ given (codes "sectors") sectors ∷ given (codes "id") identity ∷ flag_row (codes "strict") true ∷ []) None idle 3)))))))) in
+    let read = read_by (file ∷ new ∷ codes "--sectors" ∷ sectors ∷ codes "--id" ∷ identity ∷ codes "--strict" ∷ []) (codes "copy") copy_built (standing (given (codes "file") file ∷ given (codes "new") new ∷ given (codes "sectors") sectors ∷ given (codes "id") identity ∷ flag_row (codes "strict") true ∷ []) None idle 3) refl refl refl walked refl refl refl in
+    record { rows = _; met = read.0; taken = read.1; holds = (refl, refl, refl, refl, refl, refl, refl, refl) }
+copy_read file new sectors None (Some identity) false true h k s v d =
     let walked = goes (plain_step copy_built None 1 file h refl) (goes (plain_step copy_built (Some (codes "file", file ∷ [])) 2 new k refl) (goes (met copy_built (standing (given (codes "file") file ∷ []) (Some (codes "new", new ∷ [])) idle 3) (codes "--sectors") refl) (goes (value_step copy_built (given (codes "file") file ∷ given (codes "new") new ∷ []) (codes "sectors") 3 sectors s.0) (goes (met copy_built (standing (given (codes "file") file ∷ given (codes "new") new ∷ []) (Some (codes "sectors", sectors ∷ [])) idle 3) (codes "--id") (simp s.1)) (goes (value_step copy_built (given (codes "file") file ∷ given (codes "new") new ∷ given (codes "sectors") sectors ∷ []) (codes "id") 3 identity d) (goes (met copy_built (standing (given (codes "file") file ∷ given (codes "new") new ∷ given (codes "sectors") sectors ∷ []) (Some (codes "id", identity ∷ [])) idle 3) (codes "--why") refl) (gone copy_built (standing (given (codes "file") file ∷ given (codes "new") new ∷ given (codes "sectors") sectors ∷ given (codes "id") identity ∷ flag_row (codes "why") true ∷ []) None idle 3)))))))) in
     let read = read_by (file ∷ new ∷ codes "--sectors" ∷ sectors ∷ codes "--id" ∷ identity ∷ codes "--why" ∷ []) (codes "copy") copy_built (standing (given (codes "file") file ∷ given (codes "new") new ∷ given (codes "sectors") sectors ∷ given (codes "id") identity ∷ flag_row (codes "why") true ∷ []) None idle 3) refl refl refl walked refl refl refl in
-    record { rows = _; met = read.0; taken = read.1; holds = (refl, refl, refl, refl, refl, refl, refl) }
-copy_read file new sectors None (Some identity) false h k s v d =
+    record { rows = _; met = read.0; taken = read.1; holds = (refl, refl, refl, refl, refl, refl, refl, refl) }
+copy_read file new sectors None (Some identity) false false h k s v d =
     let walked = goes (plain_step copy_built None 1 file h refl) (goes (plain_step copy_built (Some (codes "file", file ∷ [])) 2 new k refl) (goes (met copy_built (standing (given (codes "file") file ∷ []) (Some (codes "new", new ∷ [])) idle 3) (codes "--sectors") refl) (goes (value_step copy_built (given (codes "file") file ∷ given (codes "new") new ∷ []) (codes "sectors") 3 sectors s.0) (goes (met copy_built (standing (given (codes "file") file ∷ given (codes "new") new ∷ []) (Some (codes "sectors", sectors ∷ [])) idle 3) (codes "--id") (simp s.1)) (goes (value_step copy_built (given (codes "file") file ∷ given (codes "new") new ∷ given (codes "sectors") sectors ∷ []) (codes "id") 3 identity d) (gone copy_built (standing (given (codes "file") file ∷ given (codes "new") new ∷ given (codes "sectors") sectors ∷ []) (Some (codes "id", identity ∷ [])) idle 3))))))) in
     let read = read_by (file ∷ new ∷ codes "--sectors" ∷ sectors ∷ codes "--id" ∷ identity ∷ []) (codes "copy") copy_built (standing (given (codes "file") file ∷ given (codes "new") new ∷ given (codes "sectors") sectors ∷ []) (Some (codes "id", identity ∷ [])) idle 3) refl refl refl walked refl refl refl in
-    record { rows = _; met = read.0; taken = read.1; holds = (refl, refl, refl, refl, refl, refl, refl) }
-copy_read file new sectors None None true h k s v d =
+    record { rows = _; met = read.0; taken = read.1; holds = (refl, refl, refl, refl, refl, refl, refl, refl) }
+copy_read file new sectors None None true true h k s v d =
+    let walked = goes (plain_step copy_built None 1 file h refl) (goes (plain_step copy_built (Some (codes "file", file ∷ [])) 2 new k refl) (goes (met copy_built (standing (given (codes "file") file ∷ []) (Some (codes "new", new ∷ [])) idle 3) (codes "--sectors") refl) (goes (value_step copy_built (given (codes "file") file ∷ given (codes "new") new ∷ []) (codes "sectors") 3 sectors s.0) (goes (met copy_built (standing (given (codes "file") file ∷ given (codes "new") new ∷ []) (Some (codes "sectors", sectors ∷ [])) idle 3) (codes "--strict") (simp s.1)) (goes (met copy_built (standing (given (codes "file") file ∷ given (codes "new") new ∷ given (codes "sectors") sectors ∷ flag_row (codes "strict") true ∷ []) None idle 3) (codes "--why") refl) (gone copy_built (standing (given (codes "file") file ∷ given (codes "new") new ∷ given (codes "sectors") sectors ∷ flag_row (codes "strict") true ∷ flag_row (codes "why") true ∷ []) None idle 3))))))) in
+    let read = read_by (file ∷ new ∷ codes "--sectors" ∷ sectors ∷ codes "--strict" ∷ codes "--why" ∷ []) (codes "copy") copy_built (standing (given (codes "file") file ∷ given (codes "new") new ∷ given (codes "sectors") sectors ∷ flag_row (codes "strict") true ∷ flag_row (codes "why") true ∷ []) None idle 3) refl refl refl walked refl refl refl in
+    record { rows = _; met = read.0; taken = read.1; holds = (refl, refl, refl, refl, refl, refl, refl, refl) }
+copy_read file new sectors None None true false h k s v d =
+    let walked = goes (plain_step copy_built None 1 file h refl) (goes (plain_step copy_built (Some (codes "file", file ∷ [])) 2 new k refl) (goes (met copy_built (standing (given (codes "file") file ∷ []) (Some (codes "new", new ∷ [])) idle 3) (codes "--sectors") refl) (goes (value_step copy_built (given (codes "file") file ∷ given (codes "new") new ∷ []) (codes "sectors") 3 sectors s.0) (goes (met copy_built (standing (given (codes "file") file ∷ given (codes "new") new ∷ []) (Some (codes "sectors", sectors ∷ [])) idle 3) (codes "--strict") (simp s.1)) (gone copy_built (standing (given (codes "file") file ∷ given (codes "new") new ∷ given (codes "sectors") sectors ∷ flag_row (codes "strict") true ∷ []) None idle 3)))))) in
+    let read = read_by (file ∷ new ∷ codes "--sectors" ∷ sectors ∷ codes "--strict" ∷ []) (codes "copy") copy_built (standing (given (codes "file") file ∷ given (codes "new") new ∷ given (codes "sectors") sectors ∷ flag_row (codes "strict") true ∷ []) None idle 3) refl refl refl walked refl refl refl in
+    record { rows = _; met = read.0; taken = read.1; holds = (refl, refl, refl, refl, refl, refl, refl, refl) }
+copy_read file new sectors None None false true h k s v d =
     let walked = goes (plain_step copy_built None 1 file h refl) (goes (plain_step copy_built (Some (codes "file", file ∷ [])) 2 new k refl) (goes (met copy_built (standing (given (codes "file") file ∷ []) (Some (codes "new", new ∷ [])) idle 3) (codes "--sectors") refl) (goes (value_step copy_built (given (codes "file") file ∷ given (codes "new") new ∷ []) (codes "sectors") 3 sectors s.0) (goes (met copy_built (standing (given (codes "file") file ∷ given (codes "new") new ∷ []) (Some (codes "sectors", sectors ∷ [])) idle 3) (codes "--why") (simp s.1)) (gone copy_built (standing (given (codes "file") file ∷ given (codes "new") new ∷ given (codes "sectors") sectors ∷ flag_row (codes "why") true ∷ []) None idle 3)))))) in
     let read = read_by (file ∷ new ∷ codes "--sectors" ∷ sectors ∷ codes "--why" ∷ []) (codes "copy") copy_built (standing (given (codes "file") file ∷ given (codes "new") new ∷ given (codes "sectors") sectors ∷ flag_row (codes "why") true ∷ []) None idle 3) refl refl refl walked refl refl refl in
-    record { rows = _; met = read.0; taken = read.1; holds = (refl, refl, refl, refl, refl, refl, refl) }
-copy_read file new sectors None None false h k s v d =
+    record { rows = _; met = read.0; taken = read.1; holds = (refl, refl, refl, refl, refl, refl, refl, refl) }
+copy_read file new sectors None None false false h k s v d =
     let walked = goes (plain_step copy_built None 1 file h refl) (goes (plain_step copy_built (Some (codes "file", file ∷ [])) 2 new k refl) (goes (met copy_built (standing (given (codes "file") file ∷ []) (Some (codes "new", new ∷ [])) idle 3) (codes "--sectors") refl) (goes (value_step copy_built (given (codes "file") file ∷ given (codes "new") new ∷ []) (codes "sectors") 3 sectors s.0) (gone copy_built (standing (given (codes "file") file ∷ given (codes "new") new ∷ []) (Some (codes "sectors", sectors ∷ [])) idle 3))))) in
     let read = read_by (file ∷ new ∷ codes "--sectors" ∷ sectors ∷ []) (codes "copy") copy_built (standing (given (codes "file") file ∷ given (codes "new") new ∷ []) (Some (codes "sectors", sectors ∷ [])) idle 3) refl refl refl walked (simp s.1) refl refl in
-    record { rows = _; met = read.0; taken = read.1; holds = (refl, refl, refl, refl, refl, refl, refl) }
+    record { rows = _; met = read.0; taken = read.1; holds = (refl, refl, refl, refl, refl, refl, refl, refl) }
 
-upgrade_read : (file : Text) (version identity : Option Text) (why : Bool) → IsPlain file → IfSome version (IsChecked MIN_FORMAT MAX_FORMAT) → IfSome identity IsPlain
-    → Read (codes "upgrade" ∷ file ∷ option_words (codes "--format") version ++ option_words (codes "--id") identity ++ flag_words (codes "--why") why) (codes "upgrade")
-    (λ rows. HoldsFile file rows × (one_of (codes "format") rows ≡ version) × (first_of (codes "format") rows ≡ version) × (first_of (codes "id") rows ≡ identity) × HoldsFlag (codes "why") why rows)
+upgrade_read : (file : Text) (version identity : Option Text) (strict why : Bool) → IsPlain file → IfSome version (IsChecked MIN_FORMAT MAX_FORMAT) → IfSome identity IsPlain
+    → Read (codes "upgrade" ∷ file ∷ option_words (codes "--format") version ++ option_words (codes "--id") identity ++ flag_words (codes "--strict") strict ++ flag_words (codes "--why") why) (codes "upgrade")
+    (λ rows. HoldsFile file rows × (one_of (codes "format") rows ≡ version) × (first_of (codes "format") rows ≡ version) × (first_of (codes "id") rows ≡ identity) × HoldsFlag (codes "strict") strict rows × HoldsFlag (codes "why") why rows)
 unfolding clap_on_literals
-upgrade_read file (Some version) (Some identity) true h v d =
+upgrade_read file (Some version) (Some identity) true true h v d =
+    let walked = goes (plain_step upgrade_built None 1 file h refl) (goes (met upgrade_built (standing [] (Some (codes "file", file ∷ [])) idle 2) (codes "--format") refl) (goes (value_step upgrade_built (given (codes "file") file ∷ []) (codes "format") 2 version v.0) (goes (met upgrade_built (standing (given (codes "file") file ∷ []) (Some (codes "format", version ∷ [])) idle 2) (codes "--id") (simp v.1)) (goes (value_step upgrade_built (given (codes "file") file ∷ given (codes "format") version ∷ []) (codes "id") 2 identity d) (goes (met upgrade_built (standing (given (codes "file") file ∷ given (codes "format") version ∷ []) (Some (codes "id", identity ∷ [])) idle 2) (codes "--strict") refl) (goes (met upgrade_built (standing (given (codes "file") file ∷ given (codes "format") version ∷ given (codes "id") identity ∷ flag_row (codes "strict") true ∷ []) None idle 2) (codes "--why") refl) (gone upgrade_built (standing (given (codes "file") file ∷ given (codes "format") version ∷ given (codes "id") identity ∷ flag_row (codes "strict") true ∷ flag_row (codes "why") true ∷ []) None idle 2)))))))) in
+    let read = read_by (file ∷ codes "--format" ∷ version ∷ codes "--id" ∷ identity ∷ codes "--strict" ∷ codes "--why" ∷ []) (codes "upgrade") upgrade_built (standing (given (codes "file") file ∷ given (codes "format") version ∷ given (codes "id") identity ∷ flag_row (codes "strict") true ∷ flag_row (codes "why") true ∷ []) None idle 2) refl refl refl walked refl refl refl in
+    record { rows = _; met = read.0; taken = read.1; holds = (refl, refl, refl, refl, refl, refl) }
+upgrade_read file (Some version) (Some identity) true false h v d =
+    let walked = goes (plain_step upgrade_built None 1 file h refl) (goes (met upgrade_built (standing [] (Some (codes "file", file ∷ [])) idle 2) (codes "--format") refl) (goes (value_step upgrade_built (given (codes "file") file ∷ []) (codes "format") 2 version v.0) (goes (met upgrade_built (standing (given (codes "file") file ∷ []) (Some (codes "format", version ∷ [])) idle 2) (codes "--id") (simp v.1)) (goes (value_step upgrade_built (given (codes "file") file ∷ given (codes "format") version ∷ []) (codes "id") 2 identity d) (goes (met upgrade_built (standing (given (codes "file") file ∷ given (codes "format") version ∷ []) (Some (codes "id", identity ∷ [])) idle 2) (codes "--strict") refl) (gone upgrade_built (standing (given (codes "file") file ∷ given (codes "format") version ∷ given (codes "id") identity ∷ flag_row (codes "strict") true ∷ []) None idle 2))))))) in
+    let read = read_by (file ∷ codes "--format" ∷ version ∷ codes "--id" ∷ identity ∷ codes "--strict" ∷ []) (codes "upgrade") upgrade_built (standing (given (codes "file") file ∷ given (codes "format") version ∷ given (codes "id") identity ∷ flag_row (codes "strict") true ∷ []) None idle 2) refl refl refl walked refl refl refl in
+    record { rows = _; met = read.0; taken = read.1; holds = (refl, refl, refl, refl, refl, refl) }
+upgrade_read file (Some version) (Some identity) false true h v d =
     let walked = goes (plain_step upgrade_built None 1 file h refl) (goes (met upgrade_built (standing [] (Some (codes "file", file ∷ [])) idle 2) (codes "--format") refl) (goes (value_step upgrade_built (given (codes "file") file ∷ []) (codes "format") 2 version v.0) (goes (met upgrade_built (standing (given (codes "file") file ∷ []) (Some (codes "format", version ∷ [])) idle 2) (codes "--id") (simp v.1)) (goes (value_step upgrade_built (given (codes "file") file ∷ given (codes "format") version ∷ []) (codes "id") 2 identity d) (goes (met upgrade_built (standing (given (codes "file") file ∷ given (codes "format") version ∷ []) (Some (codes "id", identity ∷ [])) idle 2) (codes "--why") refl) (gone upgrade_built (standing (given (codes "file") file ∷ given (codes "format") version ∷ given (codes "id") identity ∷ flag_row (codes "why") true ∷ []) None idle 2))))))) in
     let read = read_by (file ∷ codes "--format" ∷ version ∷ codes "--id" ∷ identity ∷ codes "--why" ∷ []) (codes "upgrade") upgrade_built (standing (given (codes "file") file ∷ given (codes "format") version ∷ given (codes "id") identity ∷ flag_row (codes "why") true ∷ []) None idle 2) refl refl refl walked refl refl refl in
-    record { rows = _; met = read.0; taken = read.1; holds = (refl, refl, refl, refl, refl) }
-upgrade_read file (Some version) (Some identity) false h v d =
+    record { rows = _; met = read.0; taken = read.1; holds = (refl, refl, refl, refl, refl, refl) }
+upgrade_read file (Some version) (Some identity) false false h v d =
     let walked = goes (plain_step upgrade_built None 1 file h refl) (goes (met upgrade_built (standing [] (Some (codes "file", file ∷ [])) idle 2) (codes "--format") refl) (goes (value_step upgrade_built (given (codes "file") file ∷ []) (codes "format") 2 version v.0) (goes (met upgrade_built (standing (given (codes "file") file ∷ []) (Some (codes "format", version ∷ [])) idle 2) (codes "--id") (simp v.1)) (goes (value_step upgrade_built (given (codes "file") file ∷ given (codes "format") version ∷ []) (codes "id") 2 identity d) (gone upgrade_built (standing (given (codes "file") file ∷ given (codes "format") version ∷ []) (Some (codes "id", identity ∷ [])) idle 2)))))) in
     let read = read_by (file ∷ codes "--format" ∷ version ∷ codes "--id" ∷ identity ∷ []) (codes "upgrade") upgrade_built (standing (given (codes "file") file ∷ given (codes "format") version ∷ []) (Some (codes "id", identity ∷ [])) idle 2) refl refl refl walked refl refl refl in
-    record { rows = _; met = read.0; taken = read.1; holds = (refl, refl, refl, refl, refl) }
-upgrade_read file (Some version) None true h v d =
+    record { rows = _; met = read.0; taken = read.1; holds = (refl, refl, refl, refl, refl, refl) }
+upgrade_read file (Some version) None true true h v d =
+    let walked = goes (plain_step upgrade_built None 1 file h refl) (goes (met upgrade_built (standing [] (Some (codes "file", file ∷ [])) idle 2) (codes "--format") refl) (goes (value_step upgrade_built (given (codes "file") file ∷ []) (codes "format") 2 version v.0) (goes (met upgrade_built (standing (given (codes "file") file ∷ []) (Some (codes "format", version ∷ [])) idle 2) (codes "--strict") (simp v.1)) (goes (met upgrade_built (standing (given (codes "file") file ∷ given (codes "format") version ∷ flag_row (codes "strict") true ∷ []) None idle 2) (codes "--why") refl) (gone upgrade_built (standing (given (codes "file") file ∷ given (codes "format") version ∷ flag_row (codes "strict") true ∷ flag_row (codes "why") true ∷ []) None idle 2)))))) in
+    let read = read_by (file ∷ codes "--format" ∷ version ∷ codes "--strict" ∷ codes "--why" ∷ []) (codes "upgrade") upgrade_built (standing (given (codes "file") file ∷ given (codes "format") version ∷ flag_row (codes "strict") true ∷ flag_row (codes "why") true ∷ []) None idle 2) refl refl refl walked refl refl refl in
+    record { rows = _; met = read.0; taken = read.1; holds = (refl, refl, refl, refl, refl, refl) }
+upgrade_read file (Some version) None true false h v d =
+    let walked = goes (plain_step upgrade_built None 1 file h refl) (goes (met upgrade_built (standing [] (Some (codes "file", file ∷ [])) idle 2) (codes "--format") refl) (goes (value_step upgrade_built (given (codes "file") file ∷ []) (codes "format") 2 version v.0) (goes (met upgrade_built (standing (given (codes "file") file ∷ []) (Some (codes "format", version ∷ [])) idle 2) (codes "--strict") (simp v.1)) (gone upgrade_built (standing (given (codes "file") file ∷ given (codes "format") version ∷ flag_row (codes "strict") true ∷ []) None idle 2))))) in
+    let read = read_by (file ∷ codes "--format" ∷ version ∷ codes "--strict" ∷ []) (codes "upgrade") upgrade_built (standing (given (codes "file") file ∷ given (codes "format") version ∷ flag_row (codes "strict") true ∷ []) None idle 2) refl refl refl walked refl refl refl in
+    record { rows = _; met = read.0; taken = read.1; holds = (refl, refl, refl, refl, refl, refl) }
+upgrade_read file (Some version) None false true h v d =
     let walked = goes (plain_step upgrade_built None 1 file h refl) (goes (met upgrade_built (standing [] (Some (codes "file", file ∷ [])) idle 2) (codes "--format") refl) (goes (value_step upgrade_built (given (codes "file") file ∷ []) (codes "format") 2 version v.0) (goes (met upgrade_built (standing (given (codes "file") file ∷ []) (Some (codes "format", version ∷ [])) idle 2) (codes "--why") (simp v.1)) (gone upgrade_built (standing (given (codes "file") file ∷ given (codes "format") version ∷ flag_row (codes "why") true ∷ []) None idle 2))))) in
     let read = read_by (file ∷ codes "--format" ∷ version ∷ codes "--why" ∷ []) (codes "upgrade") upgrade_built (standing (given (codes "file") file ∷ given (codes "format") version ∷ flag_row (codes "why") true ∷ []) None idle 2) refl refl refl walked refl refl refl in
-    record { rows = _; met = read.0; taken = read.1; holds = (refl, refl, refl, refl, refl) }
-upgrade_read file (Some version) None false h v d =
+    record { rows = _; met = read.0; taken = read.1; holds = (refl, refl, refl, refl, refl, refl) }
+upgrade_read file (Some version) None false false h v d =
     let walked = goes (plain_step upgrade_built None 1 file h refl) (goes (met upgrade_built (standing [] (Some (codes "file", file ∷ [])) idle 2) (codes "--format") refl) (goes (value_step upgrade_built (given (codes "file") file ∷ []) (codes "format") 2 version v.0) (gone upgrade_built (standing (given (codes "file") file ∷ []) (Some (codes "format", version ∷ [])) idle 2)))) in
     let read = read_by (file ∷ codes "--format" ∷ version ∷ []) (codes "upgrade") upgrade_built (standing (given (codes "file") file ∷ []) (Some (codes "format", version ∷ [])) idle 2) refl refl refl walked (simp v.1) refl refl in
-    record { rows = _; met = read.0; taken = read.1; holds = (refl, refl, refl, refl, refl) }
-upgrade_read file None (Some identity) true h v d =
+    record { rows = _; met = read.0; taken = read.1; holds = (refl, refl, refl, refl, refl, refl) }
+upgrade_read file None (Some identity) true true h v d =
+    let walked = goes (plain_step upgrade_built None 1 file h refl) (goes (met upgrade_built (standing [] (Some (codes "file", file ∷ [])) idle 2) (codes "--id") refl) (goes (value_step upgrade_built (given (codes "file") file ∷ []) (codes "id") 2 identity d) (goes (met upgrade_built (standing (given (codes "file") file ∷ []) (Some (codes "id", identity ∷ [])) idle 2) (codes "--strict") refl) (goes (met upgrade_built (standing (given (codes "file") file ∷ given (codes "id") identity ∷ flag_row (codes "strict") true ∷ []) None idle 2) (codes "--why") refl) (gone upgrade_built (standing (given (codes "file") file ∷ given (codes "id") identity ∷ flag_row (codes "strict") true ∷ flag_row (codes "why") true ∷ []) None idle 2)))))) in
+    let read = read_by (file ∷ codes "--id" ∷ identity ∷ codes "--strict" ∷ codes "--why" ∷ []) (codes "upgrade") upgrade_built (standing (given (codes "file") file ∷ given (codes "id") identity ∷ flag_row (codes "strict") true ∷ flag_row (codes "why") true ∷ []) None idle 2) refl refl refl walked refl refl refl in
+    record { rows = _; met = read.0; taken = read.1; holds = (refl, refl, refl, refl, refl, refl) }
+upgrade_read file None (Some identity) true false h v d =
+    let walked = goes (plain_step upgrade_built None 1 file h refl) (goes (met upgrade_built (standing [] (Some (codes "file", file ∷ [])) idle 2) (codes "--id") refl) (goes (value_step upgrade_built (given (codes "file") file ∷ []) (codes "id") 2 identity d) (goes (met upgrade_built (standing (given (codes "file") file ∷ []) (Some (codes "id", identity ∷ [])) idle 2) (codes "--strict") refl) (gone upgrade_built (standing (given (codes "file") file ∷ given (codes "id") identity ∷ flag_row (codes "strict") true ∷ []) None idle 2))))) in
+    let read = read_by (file ∷ codes "--id" ∷ identity ∷ codes "--strict" ∷ []) (codes "upgrade") upgrade_built (standing (given (codes "file") file ∷ given (codes "id") identity ∷ flag_row (codes "strict") true ∷ []) None idle 2) refl refl refl walked refl refl refl in
+    record { rows = _; met = read.0; taken = read.1; holds = (refl, refl, refl, refl, refl, refl) }
+upgrade_read file None (Some identity) false true h v d =
     let walked = goes (plain_step upgrade_built None 1 file h refl) (goes (met upgrade_built (standing [] (Some (codes "file", file ∷ [])) idle 2) (codes "--id") refl) (goes (value_step upgrade_built (given (codes "file") file ∷ []) (codes "id") 2 identity d) (goes (met upgrade_built (standing (given (codes "file") file ∷ []) (Some (codes "id", identity ∷ [])) idle 2) (codes "--why") refl) (gone upgrade_built (standing (given (codes "file") file ∷ given (codes "id") identity ∷ flag_row (codes "why") true ∷ []) None idle 2))))) in
     let read = read_by (file ∷ codes "--id" ∷ identity ∷ codes "--why" ∷ []) (codes "upgrade") upgrade_built (standing (given (codes "file") file ∷ given (codes "id") identity ∷ flag_row (codes "why") true ∷ []) None idle 2) refl refl refl walked refl refl refl in
-    record { rows = _; met = read.0; taken = read.1; holds = (refl, refl, refl, refl, refl) }
-upgrade_read file None (Some identity) false h v d =
+    record { rows = _; met = read.0; taken = read.1; holds = (refl, refl, refl, refl, refl, refl) }
+upgrade_read file None (Some identity) false false h v d =
     let walked = goes (plain_step upgrade_built None 1 file h refl) (goes (met upgrade_built (standing [] (Some (codes "file", file ∷ [])) idle 2) (codes "--id") refl) (goes (value_step upgrade_built (given (codes "file") file ∷ []) (codes "id") 2 identity d) (gone upgrade_built (standing (given (codes "file") file ∷ []) (Some (codes "id", identity ∷ [])) idle 2)))) in
     let read = read_by (file ∷ codes "--id" ∷ identity ∷ []) (codes "upgrade") upgrade_built (standing (given (codes "file") file ∷ []) (Some (codes "id", identity ∷ [])) idle 2) refl refl refl walked refl refl refl in
-    record { rows = _; met = read.0; taken = read.1; holds = (refl, refl, refl, refl, refl) }
-upgrade_read file None None true h v d =
+    record { rows = _; met = read.0; taken = read.1; holds = (refl, refl, refl, refl, refl, refl) }
+upgrade_read file None None true true h v d =
+    let walked = goes (plain_step upgrade_built None 1 file h refl) (goes (met upgrade_built (standing [] (Some (codes "file", file ∷ [])) idle 2) (codes "--strict") refl) (goes (met upgrade_built (standing (given (codes "file") file ∷ flag_row (codes "strict") true ∷ []) None idle 2) (codes "--why") refl) (gone upgrade_built (standing (given (codes "file") file ∷ flag_row (codes "strict") true ∷ flag_row (codes "why") true ∷ []) None idle 2)))) in
+    let read = read_by (file ∷ codes "--strict" ∷ codes "--why" ∷ []) (codes "upgrade") upgrade_built (standing (given (codes "file") file ∷ flag_row (codes "strict") true ∷ flag_row (codes "why") true ∷ []) None idle 2) refl refl refl walked refl refl refl in
+    record { rows = _; met = read.0; taken = read.1; holds = (refl, refl, refl, refl, refl, refl) }
+upgrade_read file None None true false h v d =
+    let walked = goes (plain_step upgrade_built None 1 file h refl) (goes (met upgrade_built (standing [] (Some (codes "file", file ∷ [])) idle 2) (codes "--strict") refl) (gone upgrade_built (standing (given (codes "file") file ∷ flag_row (codes "strict") true ∷ []) None idle 2))) in
+    let read = read_by (file ∷ codes "--strict" ∷ []) (codes "upgrade") upgrade_built (standing (given (codes "file") file ∷ flag_row (codes "strict") true ∷ []) None idle 2) refl refl refl walked refl refl refl in
+    record { rows = _; met = read.0; taken = read.1; holds = (refl, refl, refl, refl, refl, refl) }
+upgrade_read file None None false true h v d =
     let walked = goes (plain_step upgrade_built None 1 file h refl) (goes (met upgrade_built (standing [] (Some (codes "file", file ∷ [])) idle 2) (codes "--why") refl) (gone upgrade_built (standing (given (codes "file") file ∷ flag_row (codes "why") true ∷ []) None idle 2))) in
     let read = read_by (file ∷ codes "--why" ∷ []) (codes "upgrade") upgrade_built (standing (given (codes "file") file ∷ flag_row (codes "why") true ∷ []) None idle 2) refl refl refl walked refl refl refl in
-    record { rows = _; met = read.0; taken = read.1; holds = (refl, refl, refl, refl, refl) }
-upgrade_read file None None false h v d =
+    record { rows = _; met = read.0; taken = read.1; holds = (refl, refl, refl, refl, refl, refl) }
+upgrade_read file None None false false h v d =
     let walked = goes (plain_step upgrade_built None 1 file h refl) (gone upgrade_built (standing [] (Some (codes "file", file ∷ [])) idle 2)) in
     let read = read_by (file ∷ []) (codes "upgrade") upgrade_built (standing [] (Some (codes "file", file ∷ [])) idle 2) refl refl refl walked refl refl refl in
-    record { rows = _; met = read.0; taken = read.1; holds = (refl, refl, refl, refl, refl) }
+    record { rows = _; met = read.0; taken = read.1; holds = (refl, refl, refl, refl, refl, refl) }
 
 -- what is found for the arguments of `format`
 abbrev FoundFormat : Text → Text → Option Text → Option Text → Option Text → Bool → Bool → List Row → Type 0
@@ -476,22 +548,22 @@ read_as_row (repair file) why words range row =
     let meant : IsReadAs (codes "repair" ∷ file ∷ flag_words (codes "--why") why) (repair file) why =
     (((read.rows, read.met, read.holds.0), (read.rows, read.met, read.holds.1)), read.taken) in
     rw row.1 meant
-read_as_row (copy file new n version identity) why words range (h, k, formats, identities, v, d, row) =
+read_as_row (copy file new n version identity strict) why words range (h, k, formats, identities, v, d, row) =
     let sectors = number n MIN_SECTORS MAX_SECTORS (decimal n) range.0.0 range.0.1 (omega arith) refl in
     let chosen = optional (codes "--format") (codes "format") 2 MIN_FORMAT MAX_FORMAT version formats (λ one. range.1.0) range.1.1 (omega arith) v in
     let named = identity_found identity identities d in
-    let read = copy_read file new (decimal n) chosen.text named.text why (plain file h) (plain new k) (checked n MIN_SECTORS MAX_SECTORS (decimal n) sectors) chosen.fits named.fits in
+    let read = copy_read file new (decimal n) chosen.text named.text strict why (plain file h) (plain new k) (checked n MIN_SECTORS MAX_SECTORS (decimal n) sectors) chosen.fits named.fits in
     let held = read.holds in
-    let meant : IsReadAs (codes "copy" ∷ file ∷ new ∷ codes "--sectors" ∷ decimal n ∷ option_words (codes "--format") chosen.text ++ option_words (codes "--id") named.text ++ flag_words (codes "--why") why) (copy file new n version identity) why =
-    (((read.rows, read.met, (held.0, held.1, (decimal n, held.2, sectors.spells), chosen.held read.rows held.3 held.4, named.held read.rows held.5)), (read.rows, read.met, held.6)), read.taken) in
+    let meant : IsReadAs (codes "copy" ∷ file ∷ new ∷ codes "--sectors" ∷ decimal n ∷ option_words (codes "--format") chosen.text ++ option_words (codes "--id") named.text ++ flag_words (codes "--strict") strict ++ flag_words (codes "--why") why) (copy file new n version identity strict) why =
+    (((read.rows, read.met, (held.0, held.1, (decimal n, held.2, sectors.spells), chosen.held read.rows held.3 held.4, named.held read.rows held.5, held.6)), (read.rows, read.met, held.7)), read.taken) in
     rw row (rw chosen.is (rw named.is meant))
-read_as_row (upgrade file version identity) why words range (h, formats, identities, v, d, row) =
+read_as_row (upgrade file version identity strict) why words range (h, formats, identities, v, d, row) =
     let chosen = optional (codes "--format") (codes "format") 3 MIN_FORMAT MAX_FORMAT version formats (λ one. range.0) range.1 (omega arith) v in
     let named = identity_found identity identities d in
-    let read = upgrade_read file chosen.text named.text why (plain file h) chosen.fits named.fits in
+    let read = upgrade_read file chosen.text named.text strict why (plain file h) chosen.fits named.fits in
     let held = read.holds in
-    let meant : IsReadAs (codes "upgrade" ∷ file ∷ option_words (codes "--format") chosen.text ++ option_words (codes "--id") named.text ++ flag_words (codes "--why") why) (upgrade file version identity) why =
-    (((read.rows, read.met, (held.0, chosen.held read.rows held.1 held.2, named.held read.rows held.3)), (read.rows, read.met, held.4)), read.taken) in
+    let meant : IsReadAs (codes "upgrade" ∷ file ∷ option_words (codes "--format") chosen.text ++ option_words (codes "--id") named.text ++ flag_words (codes "--strict") strict ++ flag_words (codes "--why") why) (upgrade file version identity strict) why =
+    (((read.rows, read.met, (held.0, chosen.held read.rows held.1 held.2, named.held read.rows held.3, held.4)), (read.rows, read.met, held.5)), read.taken) in
     rw row (rw chosen.is (rw named.is meant))
 read_as_row (mem n history) why words range (histories, given, row, asks) =
     let sectors = number n MIN_SECTORS MAX_MEMORY_SECTORS (decimal n) range.0.0 range.0.1 (omega arith) refl in
@@ -513,11 +585,11 @@ read_as_row (salvage file frames) why words range row =
     let meant : IsReadAs (codes "salvage" ∷ file ∷ flag_words (codes "--frames") frames ++ flag_words (codes "--why") why) (salvage file frames) why =
     (((read.rows, read.met, (held.0, held.1)), (read.rows, read.met, held.2)), read.taken) in
     rw row.1 meant
-read_as_row (dump file) why words range row =
-    let read = dump_read file why (plain file row.0) in
+read_as_row (dump file strict) why words range row =
+    let read = dump_read file strict why (plain file row.0) in
     let held = read.holds in
-    let meant : IsReadAs (codes "dump" ∷ file ∷ codes "--read-only" ∷ flag_words (codes "--why") why) (dump file) why =
-    (((read.rows, read.met, (held.0, held.1)), (read.rows, read.met, held.2)), read.taken) in
+    let meant : IsReadAs (codes "dump" ∷ file ∷ codes "--read-only" ∷ flag_words (codes "--strict") strict ++ flag_words (codes "--why") why) (dump file strict) why =
+    (((read.rows, read.met, (held.0, held.1, held.2)), (read.rows, read.met, held.3)), read.taken) in
     rw row.1 meant
 
 -- what is known of an `Ok`

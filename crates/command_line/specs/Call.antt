@@ -9,31 +9,31 @@ use Rattle.command_line.specs.declared.limits.TheConstants.{MIN_SECTORS, MAX_SEC
 
 -- A call, with the names of its files as texts. Making a file, with its sectors, its format and its mode, whether its blocks are left to be allocated as
 -- they are written, and its identity if that isn't to be drawn. Serving, with the most changes of one commit, the sectors that a step of a copy writes after a change, of which 0 are none, the bytes of the newest transactions that are kept, of which 0 keep none, and whether a store whose last commit may be lost is
--- refused, as checking has it too. Copying a file to a new one, with its sectors, its format and its identity. Bringing a file to a format, with an identity.
+-- refused, as each call that opens a store has it. Copying a file to a new one, with its sectors, its format and its identity. Bringing a file to a format, with an identity.
 -- Reading all of a file. Salvaging, the documents or else the frames. Dumping a file that is only read.
 pub data Asked : Type 0 where
   format : List ℕ → ℕ → ℕ → ℕ → Bool → Option ℕ → Asked
   serve : List ℕ → ℕ → ℕ → ℕ → Bool → Asked
   check : List ℕ → Bool → Asked
   repair : List ℕ → Asked
-  copy : List ℕ → List ℕ → ℕ → ℕ → Option ℕ → Asked
-  upgrade : List ℕ → ℕ → Option ℕ → Asked
+  copy : List ℕ → List ℕ → ℕ → ℕ → Option ℕ → Bool → Asked
+  upgrade : List ℕ → ℕ → Option ℕ → Bool → Asked
   mem : ℕ → ℕ → Asked
   deep : List ℕ → Asked
   salvage : List ℕ → Bool → Asked
-  dump : List ℕ → Asked
+  dump : List ℕ → Bool → Asked
 
 abbrev pub asked_of : Call → Asked
 asked_of (Format file sectors version mode sparse identity) = format file.now sectors version mode sparse identity
 asked_of (Serve file batch pump history strict) = serve file.now batch pump history strict
 asked_of (Check file strict) = check file.now strict
 asked_of (Repair file) = repair file.now
-asked_of (Copy file new sectors version identity) = copy file.now new.now sectors version identity
-asked_of (Upgrade file version identity) = upgrade file.now version identity
+asked_of (Copy file new sectors version identity strict) = copy file.now new.now sectors version identity strict
+asked_of (Upgrade file version identity strict) = upgrade file.now version identity strict
 asked_of (Mem sectors history) = mem sectors history
 asked_of (Deep file) = deep file.now
 asked_of (Salvage file frames) = salvage file.now frames
-asked_of (Dump file) = dump file.now
+asked_of (Dump file strict) = dump file.now strict
 
 -- each number lies in the range of its option
 abbrev pub InRange : Asked → Type 0
@@ -42,12 +42,12 @@ InRange (format file sectors version mode sparse identity) =
 InRange (serve file batch pump history strict) = ((1 ≤ batch) × (batch ≤ MAX_BATCH)) × (pump ≤ MAX_PUMP) × (history ≤ MAX_HISTORY)
 InRange (check file strict) = Unit {0}
 InRange (repair file) = Unit {0}
-InRange (copy file new sectors version identity) = ((MIN_SECTORS ≤ sectors) × (sectors ≤ MAX_SECTORS)) × ((MIN_FORMAT ≤ version) × (version ≤ MAX_FORMAT))
-InRange (upgrade file version identity) = (MIN_FORMAT ≤ version) × (version ≤ MAX_FORMAT)
+InRange (copy file new sectors version identity strict) = ((MIN_SECTORS ≤ sectors) × (sectors ≤ MAX_SECTORS)) × ((MIN_FORMAT ≤ version) × (version ≤ MAX_FORMAT))
+InRange (upgrade file version identity strict) = (MIN_FORMAT ≤ version) × (version ≤ MAX_FORMAT)
 InRange (mem sectors history) = ((MIN_SECTORS ≤ sectors) × (sectors ≤ MAX_MEMORY_SECTORS)) × (history ≤ MAX_HISTORY)
 InRange (deep file) = Unit {0}
 InRange (salvage file frames) = Unit {0}
-InRange (dump file) = Unit {0}
+InRange (dump file strict) = Unit {0}
 
 -- the text doesn't begin with a hyphen (45), by which a word is an option's
 abbrev pub IsNoOption : List ℕ → Type 0
@@ -99,15 +99,15 @@ IsRowOf words (serve file batch pump history strict) why =
     × (words ≡ codes "serve" ∷ file ∷ options ++ histories ++ flag_words (codes "--strict") strict ++ flag_words (codes "--why") why)
 IsRowOf words (check file strict) why = IsNoOption file × (words ≡ codes "check" ∷ file ∷ flag_words (codes "--strict") strict ++ flag_words (codes "--why") why)
 IsRowOf words (repair file) why = IsNoOption file × (words ≡ codes "repair" ∷ file ∷ flag_words (codes "--why") why)
-IsRowOf words (copy file new sectors version identity) why =
+IsRowOf words (copy file new sectors version identity strict) why =
     IsNoOption file × IsNoOption new × (formats identities : List (List ℕ)) × IsGiven (codes "--format") 2 version formats × IsIdentityGiven identity identities
-    × (words ≡ codes "copy" ∷ file ∷ new ∷ codes "--sectors" ∷ decimal sectors ∷ formats ++ identities ++ flag_words (codes "--why") why)
-IsRowOf words (upgrade file version identity) why =
+    × (words ≡ codes "copy" ∷ file ∷ new ∷ codes "--sectors" ∷ decimal sectors ∷ formats ++ identities ++ flag_words (codes "--strict") strict ++ flag_words (codes "--why") why)
+IsRowOf words (upgrade file version identity strict) why =
     IsNoOption file × (formats identities : List (List ℕ)) × IsGiven (codes "--format") 3 version formats × IsIdentityGiven identity identities
-    × (words ≡ codes "upgrade" ∷ file ∷ formats ++ identities ++ flag_words (codes "--why") why)
+    × (words ≡ codes "upgrade" ∷ file ∷ formats ++ identities ++ flag_words (codes "--strict") strict ++ flag_words (codes "--why") why)
 IsRowOf words (mem sectors history) why =
     (histories : List (List ℕ)) × IsHistoryGiven history histories × (words ≡ codes "mem" ∷ codes "--sectors" ∷ decimal sectors ∷ histories) × (why ≡ false)
 IsRowOf words (deep file) why = IsNoOption file × (words ≡ codes "check" ∷ file ∷ codes "--deep" ∷ flag_words (codes "--why") why)
 IsRowOf words (salvage file frames) why =
     IsNoOption file × (words ≡ codes "salvage" ∷ file ∷ flag_words (codes "--frames") frames ++ flag_words (codes "--why") why)
-IsRowOf words (dump file) why = IsNoOption file × (words ≡ codes "dump" ∷ file ∷ codes "--read-only" ∷ flag_words (codes "--why") why)
+IsRowOf words (dump file strict) why = IsNoOption file × (words ≡ codes "dump" ∷ file ∷ codes "--read-only" ∷ flag_words (codes "--strict") strict ++ flag_words (codes "--why") why)

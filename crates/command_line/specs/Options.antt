@@ -84,10 +84,10 @@ repair_shape = (with_rule (with_rule (new_app (codes "repair")) file_rule) why_r
 abbrev pub copy_shape : Shape
 copy_shape =
     let with_sectors = with_rule (with_rule (with_rule (new_app (codes "copy")) file_rule) target_rule) (sectors_up_to MAX_SECTORS) in
-    (with_rule (with_rule (with_rule with_sectors format_rule) identity_rule) why_rule).top
+    (with_rule (with_rule (with_rule (with_rule with_sectors format_rule) identity_rule) strict_rule) why_rule).top
 
 abbrev pub upgrade_shape : Shape
-upgrade_shape = (with_rule (with_rule (with_rule (with_rule (new_app (codes "upgrade")) file_rule) format_rule) identity_rule) why_rule).top
+upgrade_shape = (with_rule (with_rule (with_rule (with_rule (with_rule (new_app (codes "upgrade")) file_rule) format_rule) identity_rule) strict_rule) why_rule).top
 
 abbrev pub mem_shape : Shape
 mem_shape = (with_rule (with_rule (new_app (codes "mem")) (sectors_up_to MAX_MEMORY_SECTORS)) history_rule).top
@@ -96,7 +96,7 @@ abbrev pub salvage_shape : Shape
 salvage_shape = (with_rule (with_rule (with_rule (new_app (codes "salvage")) file_rule) (flag_rule (codes "frames"))) why_rule).top
 
 abbrev pub dump_shape : Shape
-dump_shape = (with_rule (with_rule (with_rule (new_app (codes "dump")) file_rule) (flag_rule (codes "read-only"))) why_rule).top
+dump_shape = (with_rule (with_rule (with_rule (with_rule (new_app (codes "dump")) file_rule) (flag_rule (codes "read-only"))) strict_rule) why_rule).top
 
 -- all words are arguments, the first names a command, and there is a version to show
 abbrev pub as_program : App → App
@@ -167,13 +167,15 @@ Holds (serve file batch pump history strict) options =
     × HoldsFlag (codes "strict") strict options
 Holds (check file strict) options = HoldsFile file options × HoldsFlag (codes "strict") strict options × HoldsFlag (codes "deep") false options
 Holds (repair file) options = HoldsFile file options
-Holds (copy file new sectors version identity) options =
+Holds (copy file new sectors version identity strict) options =
     HoldsFile file options × HoldsNew new options × HoldsNumber (codes "sectors") sectors options × MayHold (codes "format") 2 version options × HoldsIdentity identity options
-Holds (upgrade file version identity) options = HoldsFile file options × MayHold (codes "format") 3 version options × HoldsIdentity identity options
+    × HoldsFlag (codes "strict") strict options
+Holds (upgrade file version identity strict) options =
+    HoldsFile file options × MayHold (codes "format") 3 version options × HoldsIdentity identity options × HoldsFlag (codes "strict") strict options
 Holds (mem sectors history) options = HoldsNumber (codes "sectors") sectors options × HoldsHistory history options
 Holds (deep file) options = HoldsFile file options × HoldsFlag (codes "deep") true options
 Holds (salvage file frames) options = HoldsFile file options × HoldsFlag (codes "frames") frames options
-Holds (dump file) options = HoldsFile file options × HoldsFlag (codes "read-only") true options
+Holds (dump file strict) options = HoldsFile file options × HoldsFlag (codes "read-only") true options × HoldsFlag (codes "strict") strict options
 
 -- the command of a call
 abbrev pub name_of : Asked → Text
@@ -181,12 +183,12 @@ name_of (format file sectors version mode sparse identity) = codes "format"
 name_of (serve file batch pump history strict) = codes "serve"
 name_of (check file strict) = codes "check"
 name_of (repair file) = codes "repair"
-name_of (copy file new sectors version identity) = codes "copy"
-name_of (upgrade file version identity) = codes "upgrade"
+name_of (copy file new sectors version identity strict) = codes "copy"
+name_of (upgrade file version identity strict) = codes "upgrade"
 name_of (mem sectors history) = codes "mem"
 name_of (deep file) = codes "check"
 name_of (salvage file frames) = codes "salvage"
-name_of (dump file) = codes "dump"
+name_of (dump file strict) = codes "dump"
 
 -- the command of that name, with these options, is the call
 abbrev pub IsMet : Text → List Row → Asked → Type 0
@@ -203,11 +205,11 @@ HoldsWhy (format file sectors version mode sparse identity) why options = HoldsF
 HoldsWhy (serve file batch pump history strict) why options = HoldsFlag (codes "why") why options
 HoldsWhy (check file strict) why options = HoldsFlag (codes "why") why options
 HoldsWhy (repair file) why options = HoldsFlag (codes "why") why options
-HoldsWhy (copy file new sectors version identity) why options = HoldsFlag (codes "why") why options
-HoldsWhy (upgrade file version identity) why options = HoldsFlag (codes "why") why options
+HoldsWhy (copy file new sectors version identity strict) why options = HoldsFlag (codes "why") why options
+HoldsWhy (upgrade file version identity strict) why options = HoldsFlag (codes "why") why options
 HoldsWhy (deep file) why options = HoldsFlag (codes "why") why options
 HoldsWhy (salvage file frames) why options = HoldsFlag (codes "why") why options
-HoldsWhy (dump file) why options = HoldsFlag (codes "why") why options
+HoldsWhy (dump file strict) why options = HoldsFlag (codes "why") why options
 
 -- the command that was met is that of the call, and its options say whether it asks why
 abbrev pub MeansWhy : Option (Text × List Row) → Asked → Bool → Type 0

@@ -49,19 +49,22 @@ pub enum Call<'a> {
     Repair {
         file: &'a str,
     },
-    /// Copy the store in a file into a new file of that many sectors, in that format, 2 or 3, with this identity.
+    /// Copy the store in a file, `strict` or not, into a new file of that many sectors, in that format, 2 or 3, with this
+    /// identity.
     Copy {
         file: &'a str,
         new: &'a str,
         sectors: u64,
         format: u64,
         identity: Option<u128>,
+        strict: bool,
     },
-    /// Bring the store in a file to that format, 2 or 3, to format 3 with this identity.
+    /// Bring the store in a file, `strict` or not, to that format, 2 or 3, to format 3 with this identity.
     Upgrade {
         file: &'a str,
         format: u64,
         identity: Option<u128>,
+        strict: bool,
     },
     /// Serve lines over a store in memory, on a device of that many sectors. Of the newest transactions up to `history`
     /// bytes are kept.
@@ -78,9 +81,10 @@ pub enum Call<'a> {
         file: &'a str,
         frames: bool,
     },
-    /// Write the documents of the store in a file that is only read.
+    /// Write the documents of the store in a file that is only read, `strict` or not.
     Dump {
         file: &'a str,
+        strict: bool,
     },
 }
 
@@ -266,36 +270,40 @@ fn repair_in<'a>(options: &ArgMatches<'a>) -> Option<Call<'a>>
 fn copy_in<'a>(options: &ArgMatches<'a>) -> Option<Call<'a>>
     ensures in_range { IfSome result (λ call. InRange (asked_of call)) }
     ensures sound { IfSome result (λ call. IsMet (codes "copy") (rows_of (found_of options.now)) (asked_of call)) }
-    ensures meant { (file new : List ℕ) (sectors version : ℕ) (identity : Option ℕ) → InRange (copy file new sectors version identity)
-        → Holds (copy file new sectors version identity) (rows_of (found_of options.now)) → option_map asked_of result ≡ Some (copy file new sectors version identity) }
+    ensures meant { (file new : List ℕ) (sectors version : ℕ) (identity : Option ℕ) (strict : Bool) → InRange (copy file new sectors version identity strict)
+        → Holds (copy file new sectors version identity strict) (rows_of (found_of options.now)) → option_map asked_of result ≡ Some (copy file new sectors version identity strict) }
 {
     let file = file_in(options)?;
     let new = new_in(options)?;
     let sectors = sectors_in(options, MAX_SECTORS)?;
     let format = format_number(options, MIN_FORMAT)?;
     let identity = identity_in(options)?;
+    let strict = flag_in(options, "strict")?;
     Some(Call::Copy {
         file,
         new,
         sectors,
         format,
         identity,
+        strict,
     })
 }
 
 fn upgrade_in<'a>(options: &ArgMatches<'a>) -> Option<Call<'a>>
     ensures in_range { IfSome result (λ call. InRange (asked_of call)) }
     ensures sound { IfSome result (λ call. IsMet (codes "upgrade") (rows_of (found_of options.now)) (asked_of call)) }
-    ensures meant { (file : List ℕ) (version : ℕ) (identity : Option ℕ) → InRange (upgrade file version identity)
-        → Holds (upgrade file version identity) (rows_of (found_of options.now)) → option_map asked_of result ≡ Some (upgrade file version identity) }
+    ensures meant { (file : List ℕ) (version : ℕ) (identity : Option ℕ) (strict : Bool) → InRange (upgrade file version identity strict)
+        → Holds (upgrade file version identity strict) (rows_of (found_of options.now)) → option_map asked_of result ≡ Some (upgrade file version identity strict) }
 {
     let file = file_in(options)?;
     let format = format_number(options, MAX_FORMAT)?;
     let identity = identity_in(options)?;
+    let strict = flag_in(options, "strict")?;
     Some(Call::Upgrade {
         file,
         format,
         identity,
+        strict,
     })
 }
 
@@ -324,12 +332,13 @@ fn salvage_in<'a>(options: &ArgMatches<'a>) -> Option<Call<'a>>
 fn dump_in<'a>(options: &ArgMatches<'a>) -> Option<Call<'a>>
     ensures in_range { IfSome result (λ call. InRange (asked_of call)) }
     ensures sound { IfSome result (λ call. IsMet (codes "dump") (rows_of (found_of options.now)) (asked_of call)) }
-    ensures meant { (file : List ℕ) → Holds (dump file) (rows_of (found_of options.now)) → option_map asked_of result ≡ Some (dump file) }
+    ensures meant { (file : List ℕ) (strict : Bool) → Holds (dump file strict) (rows_of (found_of options.now)) → option_map asked_of result ≡ Some (dump file strict) }
 {
     let file = file_in(options)?;
     let read_only = flag_in(options, "read-only")?;
+    let strict = flag_in(options, "strict")?;
     if read_only {
-        Some(Call::Dump { file })
+        Some(Call::Dump { file, strict })
     } else {
         None
     }

@@ -317,6 +317,7 @@ fn copy_command<'a>(alloc: Global) -> Result<Command<'a>, Error>
             "Format of the new file, 2 or 3; 2 if absent. Format 3 takes 160 sectors at least",
         ))?
         .arg(identity_option(alloc))?
+        .arg(strict_flag(alloc))?
         .arg(why_flag(alloc))?;
     Ok(copy)
 }
@@ -337,6 +338,7 @@ fn upgrade_command<'a>(alloc: Global) -> Result<Command<'a>, Error>
             "Format to bring it to, 2 or 3; 3 if absent. It takes 255 sectors at least, since both are in the file meanwhile",
         ))?
         .arg(identity_option(alloc))?
+        .arg(strict_flag(alloc))?
         .arg(why_flag(alloc))?;
     Ok(upgrade)
 }
@@ -377,6 +379,7 @@ fn dump_command<'a>(alloc: Global) -> Result<Command<'a>, Error>
         .about("Write each document of the store in a file as the line that makes it")
         .arg(file_argument(alloc, "The file of the store"))?
         .arg(read_only_flag(alloc))?
+        .arg(strict_flag(alloc))?
         .arg(why_flag(alloc))?;
     Ok(dump)
 }

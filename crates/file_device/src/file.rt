@@ -50,10 +50,13 @@ pub struct FileDevice {
     ghost kept: { ∥ IsGathered sectors system.told.value history first run.items gathered fetched ∥₁ },
 }
 
-/// What was gathered is handed over, if the system takes it. It was not synced, so nobody counts on it.
+/// What was gathered is handed over, if the system takes it, and no call failed before. It was not synced, so nobody counts
+/// on it.
 impl Drop for FileDevice {
     fn drop(mut self) {
-        let _ = self.hand_over();
+        if self.failures == 0 {
+            let _ = self.hand_over();
+        }
         let FileDevice {
             system: _,
             sectors: _,

@@ -1,5 +1,5 @@
 -- A file that is only read.
-use Rattle.std.proofs.Common.{◌≡◌, ◌≢◌, inl, inr, ℕ, List, Option, IfOk, MatchResult, Result, Ok, Err, sym, subst}
+use Rattle.std.proofs.Common.{◌≡◌, ◌≢◌, false, inl, inr, ⊎_elim, ℕ, List, Option, IfOk, MatchResult, Result, Ok, Err, refl, sym, subst}
 use Rattle.std.specs.Io.KnownBytes.{Appends}
 use Rattle.std.specs.declared.snapshot.Snapshot.{Snapshot}
 use Rattle.sector_device.specs.declared.history.Held.{Held}
@@ -10,15 +10,24 @@ use Rattle.sector_device.specs.Disk.{Disk}
 use Rattle.sector_device.specs.History.{disk_after, seen_after}
 use Rattle.file_device.specs.File.{file_disk}
 use Rattle.file_device.specs.declared.file.FileDevice.{FileDevice}
-use Rattle.store_commits.specs.Images.{Stands}
+use Rattle.slot_commits.specs.declared.found.Notice.{Notice}
+use Rattle.store_commits.specs.Images.{Stands, StandsForNothing}
+use Rattle.store_journal.specs.Layout.{IsSized}
+use Rattle.store_journal.specs.Opening.{IsLikeStore}
+use Rattle.store_journal.specs.Outdated.{IsNotNewest}
 use Rattle.doc_changes.specs.State.{State}
-use Rattle.doc_store.specs.Opening.{NotOpened}
-use Rattle.refusals.specs.declared.numbers.TheConstants.{MEMORY}
+use Rattle.doc_store.specs.Opening.{LacksRoom, NotOpened}
+use Rattle.doc_store.specs.Strict.{IsSaidOf, IsTaken}
+use Rattle.doc_store.specs.declared.opening.Strictness.{Strictness}
+use Rattle.doc_store.specs.declared.opening.Strictness.TheVariants.{AnyState, RefusesCutOff}
+use Rattle.doc_store.proofs.Strict.{untaken}
+use Rattle.refusals.specs.declared.numbers.TheConstants.{CUT_OFF, MEMORY}
 use Rattle.damaged_files.specs.Damages.{IsExaminedOn, condition_of, damages_of, report_of}
 use Rattle.damaged_files.specs.declared.report.Told.{Told}
 use Rattle.damaged_files.specs.declared.showing.ShowFault.{ShowFault}
 use Rattle.damaged_files.specs.declared.showing.ShowFault.TheVariants.{Writer}
-use Rattle.file_programs.specs.Reads.{IsFoundIn, IsReadIn, IsRefusedFor, IsUnlookedIn, IsUnlookedOn}
+use Rattle.file_programs.specs.Files.{IsNotTaken}
+use Rattle.file_programs.specs.Reads.{IsFoundIn, IsNotLooked, IsReadIn, IsRefusedFor, IsUnlookedIn, IsUnlookedOn}
 use Rattle.file_programs.specs.declared.opening.Unopened.{Unopened}
 use Rattle.file_programs.specs.declared.opening.Unopened.TheVariants.{NoFile, NoStore}
 
@@ -27,23 +36,44 @@ pub read_in : (held : Snapshot Held) (first device : FileDevice) (s : State) →
 read_in held first device s was stands = λ honest. subst (λ (p : History). Stands s (seen_after p)) was (stands honest)
 
 -- why nothing is
-pub refused_in : (held : Snapshot Held) (first device : FileDevice) (number : ℕ) → first.history ≡ Opened held → NotOpened (file_disk first) (file_disk device) number
-    → NotOpened (disk_after first.sectors (Opened held) first.failures) (file_disk device) number
-refused_in held first device number was refused = subst (λ (p : History). NotOpened (disk_after first.sectors p first.failures) (file_disk device) number) was refused
+pub refused_in : (strictness : Strictness) (held : Snapshot Held) (first device : FileDevice) (number : ℕ) → first.history ≡ Opened held → IsNotLooked strictness (file_disk first) (file_disk device) number
+    → IsNotLooked strictness (disk_after first.sectors (Opened held) first.failures) (file_disk device) number
+refused_in strictness held first device number was refused = subst (λ (p : History). IsNotLooked strictness (disk_after first.sectors p first.failures) (file_disk device) number) was refused
 
-refused_of : (old new : Disk) (number : ℕ) → (number ≡ MEMORY → ⊥) → NotOpened old new number → IsRefusedFor new.honest old.seen old.sectors number
-refused_of old new number other (inl (e, inl sized)) = inl (e, λ honest. inl sized.0)
-refused_of old new number other (inl (e, inr read)) = inl (e, λ honest. inr (read.1 honest))
-refused_of old new number other (inr (inl (e, damaged))) = inr (inl (e, λ honest. (damaged.there honest, damaged.nothing honest)))
-refused_of old new number other (inr (inr (inl (e, finds)))) = inr (inr (inl (e, finds.no_room)))
-refused_of old new number other (inr (inr (inr (inl (e, failed))))) = inr (inr (inr e))
-refused_of old new number other (inr (inr (inr (inr (e, read))))) = absurd (other e)
+-- what isn't opened in any state isn't looked at
+pub not_looked : (strictness : Strictness) (old new : Disk) (number : ℕ) → IsNotTaken AnyState old new number → IsNotLooked strictness old new number
+not_looked AnyState old new number why = why
+not_looked RefusesCutOff old new number why = inl why
+
+-- nor is one in which a commit was cut off, if that is refused
+pub cut_off : (strictness : Strictness) (notice : Notice) (old new : Disk) (state : State) → (IsTaken strictness notice → ⊥) → (new.honest → Stands state old.seen) → (new.honest → IsSaidOf old.seen notice) → IsNotLooked strictness old new CUT_OFF
+cut_off strictness notice old new state none stands said =
+    let is = untaken strictness notice none in
+    subst (λ (s : Strictness). IsNotLooked s old new CUT_OFF) (sym is.0) (inr (refl, λ honest. record { state = state; stands = stands honest; said = subst (IsSaidOf old.seen) is.1 (said honest) }))
+
+-- why an opening of a device is refused, in the words of a program with memory, if no more was read of it before
+refused_of : (old looked new : Disk) (number : ℕ) → (number ≡ MEMORY → ⊥) → looked.sectors ≡ old.sectors → (new.honest → looked.seen ≡ old.seen) → NotOpened looked new number → IsRefusedFor new.honest old.seen old.sectors number
+refused_of old looked new number other size seen (inl (e, inl sized)) = inl (e, λ honest. inl (λ has. sized.0 (subst (IsSized false) (sym size) has)))
+refused_of old looked new number other size seen (inl (e, inr read)) = inl (e, λ honest. inr (λ like. read.1 honest (subst IsLikeStore (sym (seen honest)) like)))
+refused_of old looked new number other size seen (inr (inl (e, damaged))) =
+    inr (inl (e, λ honest. inl (subst IsLikeStore (seen honest) (damaged.there honest), subst StandsForNothing (seen honest) (damaged.nothing honest))))
+refused_of old looked new number other size seen (inr (inr (inl (e, finds)))) = inr (inr (inl (e, λ honest. subst LacksRoom (seen honest) (finds.no_room honest))))
+refused_of old looked new number other size seen (inr (inr (inr (inl (e, failed))))) = inr (inr (inr e))
+refused_of old looked new number other size seen (inr (inr (inr (inr (e, read))))) = absurd (other e)
+
+not_newest_of : (old new : Disk) (number : ℕ) → (number ≡ MEMORY → ⊥) → IsNotNewest old new number → IsRefusedFor new.honest old.seen old.sectors number
+not_newest_of old new number other is =
+    ⊎_elim (λ outdated. inr (inl (outdated.0, λ honest. inr (outdated.1 honest)))) (λ rest. ⊎_elim (λ device. inr (inr (inr device.0))) (λ memory. absurd (other memory.0)) rest) is.why
+
+not_taken_of : (old new : Disk) (number : ℕ) → (number ≡ MEMORY → ⊥) → IsNotTaken AnyState old new number → IsRefusedFor new.honest old.seen old.sectors number
+not_taken_of old new number other (inl is) = not_newest_of old new number other is
+not_taken_of old new number other (inr (looked, newest, honest, refused)) = refused_of old (file_disk looked) new number other newest.same.size (λ now. (newest.keeps (honest now) false).seen) refused
 
 -- the same in the words of a program, with memory
-pub refused_for : (held : Snapshot Held) (first device : FileDevice) (number : ℕ) → first.history ≡ Opened held → (number ≡ MEMORY → ⊥) → NotOpened (file_disk first) (file_disk device) number
+pub refused_for : (held : Snapshot Held) (first device : FileDevice) (number : ℕ) → first.history ≡ Opened held → (number ≡ MEMORY → ⊥) → IsNotTaken AnyState (file_disk first) (file_disk device) number
     → IsRefusedFor ((file_disk device).honest) held.value.seen.items first.sectors number
 refused_for held first device number was other refused =
-    subst (λ (p : History). IsRefusedFor ((file_disk device).honest) (seen_after p) first.sectors number) was (refused_of (file_disk first) (file_disk device) number other refused)
+    subst (λ (p : History). IsRefusedFor ((file_disk device).honest) (seen_after p) first.sectors number) was (not_taken_of (file_disk first) (file_disk device) number other refused)
 
 read_on : (held : Snapshot Held) (sectors : ℕ) (device later : FileDevice) (number : ℕ) → ((file_disk later).honest → (file_disk device).honest)
     → IsRefusedFor ((file_disk device).honest) held.value.seen.items sectors number → IsRefusedFor ((file_disk later).honest) held.value.seen.items sectors number
@@ -72,6 +102,6 @@ told_of (Ok told) sectors later refused wanted before after size same examined c
 told_of (Err fault) sectors later refused wanted before after size same examined condition shown = shown
 
 -- why no documents were found in a file that held this
-pub unlooked_in : (held : Snapshot Held) (sectors : ℕ) (fault : Unopened) → IsUnlookedOn held sectors 0 fault → IsUnlookedIn held fault
-unlooked_in held sectors (NoFile fault) is = is
-unlooked_in held sectors (NoStore fault) is = (sectors, is)
+pub unlooked_in : (strictness : Strictness) (held : Snapshot Held) (sectors : ℕ) (fault : Unopened) → IsUnlookedOn strictness held sectors 0 fault → IsUnlookedIn strictness held fault
+unlooked_in strictness held sectors (NoFile fault) is = is
+unlooked_in strictness held sectors (NoStore fault) is = (sectors, is)

@@ -10,6 +10,7 @@ use Rattle.file_device.specs.File.{file_disk}
 use Rattle.store_journal.specs.Carries.{Carries}
 use Rattle.store_journal.specs.Models.{model}
 use Rattle.store_journal.specs.Opening.{nothing_in}
+use Rattle.store_journal.specs.Outdated.{IsNewest, IsNotNewest, IsOutdated}
 use Rattle.store_journal.specs.declared.fault.OpenFault.{OpenFault}
 use Rattle.store_commits.specs.Account.{StoreView, IsStanding}
 use Rattle.doc_store.specs.Opening.{IsOfFormat, IsOpenedFrom, LacksRoom, OldOrStands}
@@ -23,7 +24,7 @@ use Rattle.store_commits.specs.Images.{Holds, Stands, version_of_frames}
 use Rattle.store_commits.specs.Folds.{StandsAfter}
 use Rattle.doc_changes.specs.State.{State}
 use Rattle.doc_changes.specs.Refusals.{plain}
-use Rattle.refusals.specs.declared.numbers.TheConstants.{DEVICE, MEMORY, NO_ROOM}
+use Rattle.refusals.specs.declared.numbers.TheConstants.{DAMAGED, DEVICE, MEMORY, NO_ROOM}
 use Rattle.half_journal.specs.Layout.{IsFormat}
 use Rattle.file_programs.specs.Identity.{IsChosen}
 use Rattle.file_programs.specs.declared.fault.Fault.{Fault}
@@ -46,21 +47,30 @@ abbrev pub WentToTheEnd : Result (Unit {0}) Fault → Type 0
 WentToTheEnd ended = (ended ≡ Ok tt) ⊎ (ended ≡ Err (fault_of DEVICE))
 
 -- A store was opened in a file that held this. If all reads gave what the file held, it is the state of the file,
--- opened one time more, for which a half had room if it was in format 1; and what a crash might have left at any moment
+-- opened one time more, for which a half had room if it was in format 1, and no older one than the slots hold; and what a crash might have left at any moment
 -- until now, in the disk model of the store's format, is an image from before or holds the same state.
 pub record IsOpenedIn (held : Snapshot Held) (store : StoreView FileDevice) : Type 0 where
   pub works : store.account.broken ≡ false
   pub found : (file_disk store.device).honest → IsOpenedFrom held.value.seen.items store.account
+  pub newest : (file_disk store.device).honest → IsOutdated held.value.seen.items → ⊥
   pub any_moment : (file_disk store.device).honest → (image : Image) → (model store.account.rides (file_disk store.device)).left_since 0 image → OldOrStands (disk_after 0 (Opened held) 0) image
   pub standing : IsStanding (file_disk store.device) store.account
 
+-- Why a store is not opened on a device: its first sector is older than its slots, or that wasn't found out; or it isn't, by a device of which no more was read, and it is not taken.
+abbrev pub IsNotTaken : Strictness → Disk → Disk → ℕ → Type 0
+IsNotTaken strictness old new number = IsNotNewest old new number ⊎ ((looked : FileDevice) × IsNewest old (file_disk looked) × (new.honest → (file_disk looked).honest) × NotTaken strictness (file_disk looked) new number)
+
+-- the same, if the device as it reads holds a state
+abbrev pub IsRefusedNow : Strictness → Image → ℕ → Type 0
+IsRefusedNow strictness seen number = IsRefusedBy strictness seen number ⊎ ((number ≡ DAMAGED) × IsOutdated seen)
+
 -- The store in a file that held this was refused, for what its device then was, of this many sectors and failures, or did. If all that was read was there: if that holds a state,
 -- the device failed or memory was refused, or it is in format 1 and a half has no room for it in format 2, which is said of nothing else, or a commit was cut
--- off in it, and it was asked to refuse that; the file has as many sectors; what a crash might have left at any moment until now, in the disk model of that state's format, is an image from before or holds that
+-- off in it, and it was asked to refuse that, or its first sector is older than its slots; the file has as many sectors; what a crash might have left at any moment until now, in the disk model of that state's format, is an image from before or holds that
 -- state; and but for the device's failure it is, in either disk model, an image from before.
 pub record IsRefusedIn (strictness : Strictness) (held : Snapshot Held) (sectors failures : ℕ) (fault : OpenFault FileDevice) : Type 0 where
-  pub why : NotTaken strictness (disk_after sectors (Opened held) failures) (file_disk fault.device) fault.number
-  pub exact : (state : State) → Stands state held.value.seen.items → (file_disk fault.device).honest → IsRefusedBy strictness held.value.seen.items fault.number
+  pub why : IsNotTaken strictness (disk_after sectors (Opened held) failures) (file_disk fault.device) fault.number
+  pub exact : (state : State) → Stands state held.value.seen.items → (file_disk fault.device).honest → IsRefusedNow strictness held.value.seen.items fault.number
   pub no_room : (file_disk fault.device).honest → fault.number ≡ NO_ROOM → LacksRoom held.value.seen.items
   pub size : (file_disk fault.device).honest → (file_disk fault.device).sectors ≡ sectors
   pub any_moment : (file_disk fault.device).honest → (rides : Bool) → IsOfFormat rides held.value.seen.items → (image : Image) → (model rides (file_disk fault.device)).left_since 0 image → OldOrStands (disk_after 0 (Opened held) 0) image

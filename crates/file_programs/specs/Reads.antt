@@ -10,14 +10,18 @@ use Rattle.file_device.specs.File.{file_disk}
 use Rattle.store_commits.specs.Images.{Stands, StandsForNothing}
 use Rattle.store_journal.specs.Layout.{IsSized}
 use Rattle.store_journal.specs.Opening.{IsLikeStore}
-use Rattle.sector_device.specs.Disk.{Image}
+use Rattle.store_journal.specs.Outdated.{IsOutdated}
+use Rattle.sector_device.specs.Disk.{Disk, Image}
 use Rattle.store_parts.specs.declared.findings.Findings.{Findings}
 use Rattle.doc_changes.specs.State.{Good, State}
-use Rattle.doc_store.specs.Opening.{LacksRoom, NotOpened}
+use Rattle.doc_store.specs.Opening.{LacksRoom}
+use Rattle.doc_store.specs.Strict.{IsCutOff, IsSaidOf, IsTaken}
+use Rattle.doc_store.specs.declared.opening.Strictness.{Strictness}
+use Rattle.doc_store.specs.declared.opening.Strictness.TheVariants.{AnyState, RefusesCutOff}
 use Rattle.damaged_files.specs.Damages.{IsExaminedOn, condition_of, damages_of, report_of}
 use Rattle.damaged_files.specs.Dump.{dump_of}
 use Rattle.damaged_files.specs.Frames.{ShowsParts}
-use Rattle.damaged_files.specs.Salvaged.{salvaged_condition}
+use Rattle.damaged_files.specs.Salvaged.{IsSalvagedOf, salvaged_condition}
 use Rattle.damaged_files.specs.Shown.{Shows}
 use Rattle.damaged_files.specs.declared.report.Told.{Told}
 use Rattle.damaged_files.specs.declared.salvaged.Salvaged.{Salvaged}
@@ -25,9 +29,9 @@ use Rattle.damaged_files.specs.declared.showing.Condition.{Condition}
 use Rattle.damaged_files.specs.declared.showing.Condition.TheVariants.{Whole, Damaged}
 use Rattle.damaged_files.specs.declared.showing.ShowFault.{ShowFault}
 use Rattle.damaged_files.specs.declared.showing.ShowFault.TheVariants.{Writer}
-use Rattle.refusals.specs.declared.numbers.TheConstants.{DAMAGED, DEVICE, NO_ROOM, NOT_A_STORE}
+use Rattle.refusals.specs.declared.numbers.TheConstants.{CUT_OFF, DAMAGED, DEVICE, NO_ROOM, NOT_A_STORE}
 use Rattle.file_programs.specs.Faults.{told_of_show}
-use Rattle.file_programs.specs.Files.{fault_of}
+use Rattle.file_programs.specs.Files.{IsNotTaken, fault_of}
 use Rattle.file_programs.specs.declared.fault.Fault.{Fault}
 use Rattle.file_programs.specs.declared.fault.Fault.TheVariants.{Damage}
 use Rattle.file_programs.specs.declared.opening.Unopened.{Unopened}
@@ -80,7 +84,7 @@ IsReadIn held device state = (file_disk device).honest → Stands state held.val
 -- If all reads gave what the file held, why an opening of that on a device of this many sectors is refused by that number; that a call failed, none of them shows.
 abbrev pub IsRefusedFor : Type 0 → Image → ℕ → ℕ → Type 0
 IsRefusedFor honest image sectors number =
-    ((number ≡ NOT_A_STORE) × (honest → (IsSized false sectors → ⊥) ⊎ (IsLikeStore image → ⊥))) ⊎ ((number ≡ DAMAGED) × (honest → IsLikeStore image × StandsForNothing image))
+    ((number ≡ NOT_A_STORE) × (honest → (IsSized false sectors → ⊥) ⊎ (IsLikeStore image → ⊥))) ⊎ ((number ≡ DAMAGED) × (honest → (IsLikeStore image × StandsForNothing image) ⊎ IsOutdated image))
     ⊎ ((number ≡ NO_ROOM) × (honest → LacksRoom image)) ⊎ (number ≡ DEVICE)
 
 -- what an opening would find there, or why it would be refused
@@ -88,19 +92,27 @@ abbrev pub IsFoundIn : Snapshot Held → ℕ → FileDevice → Result State ℕ
 IsFoundIn held sectors device found =
     MatchResult found (λ state. IsReadIn held device state × Good state) (λ number. IsRefusedFor ((file_disk device).honest) held.value.seen.items sectors number)
 
+-- Why no documents are looked for on a device: as no store is opened there; or a commit was cut off in it, and that is refused.
+abbrev pub IsNotLooked : Strictness → Disk → Disk → ℕ → Type 0
+IsNotLooked AnyState old new number = IsNotTaken AnyState old new number
+IsNotLooked RefusesCutOff old new number = IsNotTaken AnyState old new number ⊎ ((number ≡ CUT_OFF) × (new.honest → IsCutOff old.seen))
+
 -- No documents were found on a device of this many sectors and failures that held this.
-abbrev pub IsUnlookedOn : Snapshot Held → ℕ → ℕ → Unopened → Type 0
-IsUnlookedOn held sectors failures (NoFile fault) = Unit {0}
-IsUnlookedOn held sectors failures (NoStore fault) = NotOpened (disk_after sectors (Opened held) failures) (file_disk fault.device) fault.number
+abbrev pub IsUnlookedOn : Strictness → Snapshot Held → ℕ → ℕ → Unopened → Type 0
+IsUnlookedOn strictness held sectors failures (NoFile fault) = Unit {0}
+IsUnlookedOn strictness held sectors failures (NoStore fault) = IsNotLooked strictness (disk_after sectors (Opened held) failures) (file_disk fault.device) fault.number
 
 -- No documents were found in a file that held this: it wasn't opened, or the store in it is refused.
-abbrev pub IsUnlookedIn : Snapshot Held → Unopened → Type 0
-IsUnlookedIn held (NoFile fault) = Unit {0}
-IsUnlookedIn held (NoStore fault) = (sectors : ℕ) × IsUnlookedOn held sectors 0 (NoStore fault)
+abbrev pub IsUnlookedIn : Strictness → Snapshot Held → Unopened → Type 0
+IsUnlookedIn strictness held (NoFile fault) = Unit {0}
+IsUnlookedIn strictness held (NoStore fault) = (sectors : ℕ) × IsUnlookedOn strictness held sectors 0 (NoStore fault)
 
--- the documents in a file that held this were found, and their lines shown
-pub record IsDumpedIn (held : Snapshot Held) (dumped : Dumped) (before after : Option (List ℕ)) : Type 0 where
+-- the documents in a file that held this were found, in no older store than its slots hold, and their lines shown; and what its slots say is taken
+pub record IsDumpedIn (strictness : Strictness) (held : Snapshot Held) (dumped : Dumped) (before after : Option (List ℕ)) : Type 0 where
   pub found : IsReadIn held dumped.looked.device dumped.looked.machine
+  pub newest : (file_disk dumped.looked.device).honest → IsOutdated held.value.seen.items → ⊥
+  pub said : (file_disk dumped.looked.device).honest → IsSaidOf held.value.seen.items dumped.looked.notice
+  pub taken : IsTaken strictness dumped.looked.notice
   pub good : Good dumped.looked.machine
   pub shown : Shows dumped.shown (dump_of dumped.looked.machine.documents dumped.looked.machine.seq) before after
 
@@ -117,15 +129,16 @@ pub record IsExaminedIn (held : Snapshot Held) (examined : Examined) (before aft
       × Appends before after (report_of (damages_of (refused_by examined.found) told.examined)))
       (λ fault. fault ≢ Writer → after ≡ before)
 
--- documents were salvaged, and their lines shown
-pub record IsShownOf (ended : Result (Option Salvaged) ShowFault) (before after : Option (List ℕ)) : Type 0 where
+-- documents were salvaged, and their lines shown: if all reads gave what the device held, they are made of frames that it held
+pub record IsShownOf (honest : Type 0) (image : Image) (ended : Result (Option Salvaged) ShowFault) (before after : Option (List ℕ)) : Type 0 where
   pub good : IfOk ended (λ salvaged. IfSome salvaged (λ s. Good s.made.machine))
+  pub made : honest → IfOk ended (λ salvaged. IfSome salvaged (IsSalvagedOf image))
   pub condition : IfOk ended (λ salvaged. IfSome salvaged (λ s. s.condition ≡ salvaged_condition s.found s.made))
   pub shown : MatchResult ended (λ salvaged. MatchOption salvaged (after ≡ before) (λ s. Appends before after (dump_of s.made.machine.documents s.made.seq))) (λ fault. fault ≢ Writer → after ≡ before)
 
 -- what was shown of a device of a file that held this: the documents, or the frames if these were asked for. If all reads gave what it held, the frames are those of its bytes.
 abbrev pub IsLeftIn : Snapshot Held → Bool → FileDevice → Left → Option (List ℕ) → Option (List ℕ) → Type 0
-IsLeftIn held frames device (Documents shown) before after = (frames ≡ false) × IsShownOf shown before after
+IsLeftIn held frames device (Documents shown) before after = (frames ≡ false) × IsShownOf ((file_disk device).honest) held.value.seen.items shown before after
 IsLeftIn held frames device (Frames shown) before after = (frames ≡ true) × ((file_disk device).honest → IfOk shown (λ found. ShowsParts held.value.seen.items found before after))
 
 abbrev pub IsSalvagedIn : Snapshot Held → Bool → SalvagedFile → Option (List ℕ) → Option (List ℕ) → Type 0

@@ -1,23 +1,29 @@
 //! The store in a file.
 
 ghost use Rattle.std.specs.Prelude.{◌≡◌, IfOk, IfErr};
+ghost use Rattle.doc_changes.specs.State.{Good};
+ghost use Rattle.doc_store.specs.Strict.{IsSaidOf, IsTaken};
 ghost use Rattle.file_device.specs.File.{file_disk};
 ghost use Rattle.file_programs.specs.Faults.{told_of_unopened};
 ghost use Rattle.file_programs.specs.Files.{IsNoticedIn, IsOpenedIn, IsUnopenedBy, IsUnopenedIn, IsUnopenedOn};
 ghost use Rattle.file_programs.specs.Files.{WasReadIn};
+ghost use Rattle.file_programs.specs.Reads.{IsNotLooked};
+ghost use Rattle.store_commits.specs.Images.{Stands};
+ghost use Rattle.store_journal.specs.Outdated.{IsOutdated};
 ghost use Rattle.doc_store.specs.declared.opening.Strictness.TheVariants.{AnyState};
 ghost use Rattle.sector_device.specs.declared.history.Held.{Held};
 ghost use Rattle.sector_device.specs.declared.history.History.{Opened};
 ghost use Rattle.std.specs.declared.snapshot.Snapshot.{Snapshot};
 
 use crate::fault::Fault;
-use doc_store::{Notice, Store, Strictness};
+use doc_store::{Looked, Notice, Store, Strictness, look};
 use file_device::{FileDevice, FileFault, Held};
+use refusals::numbers::CUT_OFF;
 use std::alloc::Global;
 use std::fs::File;
 use std::rt::Files;
 use std::snapshot::Snapshot;
-use store_journal::OpenFault;
+use store_journal::{OpenFault, newest};
 
 /// Why the store in a file was not opened.
 #[derive(Drop)]
@@ -124,18 +130,24 @@ pub fn open_and_read<R: Files<File = File>>(
     strictly_on(alloc, device, strictness)
 }
 
-/// Opens the store on the device of a file of which nothing was read yet, and counts the opening.
-pub fn store_on(alloc: Global, device: FileDevice) -> Result<Store<FileDevice>, Unopened>
-    ensures opened { (held : Snapshot Held) → device.history ≡ Opened held → IfOk result (IsOpenedIn held) }
-    ensures refused { (held : Snapshot Held) → device.history ≡ Opened held → IfErr result (IsUnopenedOn AnyState held (file_disk device).sectors (file_disk device).failures) }
+/// Opens the store on the device of a file of which nothing was read yet, so strictly, and counts the opening. It also
+/// answers what the slots say.
+pub fn store_on(
+    alloc: Global,
+    device: FileDevice,
+    strictness: Strictness,
+) -> Result<(Store<FileDevice>, Notice), Unopened>
+    ensures opened { (held : Snapshot Held) → device.history ≡ Opened held → IfOk result (λ opened. IsOpenedIn held opened.0) }
+    ensures noticed { (held : Snapshot Held) → device.history ≡ Opened held → IfOk result (λ opened. IsNoticedIn strictness held opened.0 opened.1) }
+    ensures refused { (held : Snapshot Held) → device.history ≡ Opened held → IfErr result (IsUnopenedOn strictness held (file_disk device).sectors (file_disk device).failures) }
 {
-    match strictly_on(alloc, device, Strictness::AnyState) {
-        Ok((store, _, _)) => Ok(store),
+    match strictly_on(alloc, device, strictness) {
+        Ok((store, notice, _)) => Ok((store, notice)),
         Err(unopened) => Err(unopened),
     }
 }
 
-// The same, so strictly, what its slots say, and the bytes of which it was made.
+// The same, and the bytes of which it was made.
 fn strictly_on(
     alloc: Global,
     device: FileDevice,
@@ -146,5 +158,37 @@ fn strictly_on(
     ensures read { (held : Snapshot Held) → device.history ≡ Opened held → IfOk result (λ opened. WasReadIn held opened.0 opened.2.items) }
     ensures refused { (held : Snapshot Held) → device.history ≡ Opened held → IfErr result (IsUnopenedOn strictness held (file_disk device).sectors (file_disk device).failures) }
 {
+    let device = newest(alloc, device)?;
     Ok(Store::open_with(alloc, device, strictness)?)
+}
+
+/// The documents on the device of a file of which nothing was read yet. Nothing is written. Refused as a store is that is
+/// opened so strictly.
+pub(crate) fn look_on(
+    alloc: Global,
+    device: FileDevice,
+    strictness: Strictness,
+) -> Result<Looked<FileDevice>, OpenFault<FileDevice>>
+    ensures stands { IfOk result (λ looked. (file_disk looked.device).honest → Stands looked.machine (file_disk device).seen) }
+    ensures newest { IfOk result (λ looked. (file_disk looked.device).honest → IsOutdated (file_disk device).seen → ⊥) }
+    ensures notice { IfOk result (λ looked. (file_disk looked.device).honest → IsSaidOf (file_disk device).seen looked.notice) }
+    ensures taken { IfOk result (λ looked. IsTaken strictness looked.notice) }
+    ensures good { IfOk result (λ looked. Good looked.machine) }
+    ensures refused { IfErr result (λ fault. IsNotLooked strictness (file_disk device) (file_disk fault.device) fault.number) }
+{
+    let device = match newest(alloc, device) {
+        Err(fault) => return Err(fault),
+        Ok(device) => device,
+    };
+    let looked = match look(alloc, device) {
+        Err(fault) => return Err(fault),
+        Ok(looked) => looked,
+    };
+    if !strictness.takes(looked.notice) {
+        return Err(OpenFault {
+            number: CUT_OFF,
+            device: looked.device,
+        });
+    }
+    Ok(looked)
 }

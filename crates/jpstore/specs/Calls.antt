@@ -55,10 +55,16 @@ end_of (Dumped (Err unopened)) = Err (told_of_unopened unopened)
 -- what it said of the slots when it had opened the store, and whether that could be written
 abbrev pub note_in : Kept → List ℕ
 note_in (Served (Ok closed)) = note_of closed.notice
+note_in (Copied (Ok ended)) = note_of ended.notice
+note_in (Upgraded (Ok closed)) = note_of closed.notice
+note_in (Dumped (Ok dumped)) = note_of dumped.looked.notice
 note_in kept = []
 
 abbrev pub is_noted : Kept → Bool
 is_noted (Served (Ok closed)) = closed.noted
+is_noted (Copied (Ok ended)) = ended.noted
+is_noted (Upgraded (Ok closed)) = closed.noted
+is_noted (Dumped (Ok dumped)) = dumped.noted
 is_noted kept = true
 
 -- The store in a file that held this was served. If all that there was to read was served, it was served so; the end says whether the device failed; and
@@ -86,20 +92,22 @@ Does held (check file strict) (Checked checked) left left_new before after =
     MatchResult checked (λ closed. IsShown (strictness_of strict) held closed before after) (λ unopened. IsRefused (strictness_of strict) held unopened before after) × (left_new ≡ left)
 Does held (repair file) (Repaired repaired) left left_new before after =
     MatchResult repaired (λ closed. IsShown AnyState held closed before after) (λ unopened. IsRefused AnyState held unopened before after) × (left_new ≡ left)
-Does held (copy file new sectors version identity) (Copied copied) left left_new before after =
+Does held (copy file new sectors version identity strict) (Copied copied) left left_new before after =
     MatchResult copied
-    (λ ended. IsOpenedIn held ended.store × IfOk ended.copied (IsCopiedFile sectors (format_numbered version) identity ended.store.account)
+    (λ ended. IsOpenedIn held ended.store × IsNoticedIn (strictness_of strict) held ended.store ended.notice × IfOk ended.copied (IsCopiedFile sectors (format_numbered version) identity ended.store.account)
     × ShowsCopy sectors (format_numbered version) identity ended.store.account ended.copied before after)
-    (λ unopened. IsRefused AnyState held unopened before after)
+    (λ unopened. IsRefused (strictness_of strict) held unopened before after)
     × (left_new ≡ left)
-Does held (upgrade file version identity) (Upgraded upgraded) left left_new before after =
-    MatchResult upgraded (λ closed. IsUpgrading held version identity closed before after) (λ unopened. IsRefused AnyState held unopened before after) × (left_new ≡ left)
+Does held (upgrade file version identity strict) (Upgraded upgraded) left left_new before after =
+    MatchResult upgraded (λ closed. IsUpgrading held version identity closed before after × IsNoticedIn (strictness_of strict) held closed.store closed.notice)
+    (λ unopened. IsRefused (strictness_of strict) held unopened before after)
+    × (left_new ≡ left)
 Does held (mem sectors limit) (InMemory memory) left left_new before after =
     MatchResult memory (λ closed. closed.ended ≡ Ok tt → IsServedInMemory sectors limit left left_new before after closed.store) (λ fault. (left_new ≡ left) × (after ≡ before))
 Does held (deep file) (Examined examined) left left_new before after =
-    MatchResult examined (λ e. IsExaminedIn held e before after) (λ unopened. IsUnlookedIn held unopened × (after ≡ before)) × (left_new ≡ left)
+    MatchResult examined (λ e. IsExaminedIn held e before after) (λ unopened. IsUnlookedIn AnyState held unopened × (after ≡ before)) × (left_new ≡ left)
 Does held (salvage file frames) (Salvaged salvaged) left left_new before after =
     MatchResult salvaged (λ s. IsSalvagedIn held frames s before after) (λ fault. after ≡ before) × (left_new ≡ left)
-Does held (dump file) (Dumped dumped) left left_new before after =
-    MatchResult dumped (λ d. IsDumpedIn held d before after) (λ unopened. IsUnlookedIn held unopened × (after ≡ before)) × (left_new ≡ left)
+Does held (dump file strict) (Dumped dumped) left left_new before after =
+    MatchResult dumped (λ d. IsDumpedIn (strictness_of strict) held d before after) (λ unopened. IsUnlookedIn (strictness_of strict) held unopened × (after ≡ before)) × (left_new ≡ left)
 Does held asked kept left left_new before after = ⊥

@@ -14,25 +14,25 @@ file_of (format file sectors version mode sparse identity) = Some file
 file_of (serve file batch pump history strict) = Some file
 file_of (check file strict) = Some file
 file_of (repair file) = Some file
-file_of (copy file new sectors version identity) = Some file
-file_of (upgrade file version identity) = Some file
+file_of (copy file new sectors version identity strict) = Some file
+file_of (upgrade file version identity strict) = Some file
 file_of (mem sectors history) = None
 file_of (deep file) = Some file
 file_of (salvage file frames) = Some file
-file_of (dump file) = Some file
+file_of (dump file strict) = Some file
 
 -- NEW of a call
 abbrev pub new_of : Asked → Option (List ℕ)
-new_of (copy file new sectors version identity) = Some new
+new_of (copy file new sectors version identity strict) = Some new
 new_of (format file sectors version mode sparse identity) = None
 new_of (serve file batch pump history strict) = None
 new_of (check file strict) = None
 new_of (repair file) = None
-new_of (upgrade file version identity) = None
+new_of (upgrade file version identity strict) = None
 new_of (mem sectors history) = None
 new_of (deep file) = None
 new_of (salvage file frames) = None
-new_of (dump file) = None
+new_of (dump file strict) = None
 
 -- the cause, the system's number of the error, and the path of the file
 abbrev pub reason_reply : List ℕ → ℕ → List ℕ → Doc

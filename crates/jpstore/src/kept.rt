@@ -97,7 +97,9 @@ impl Kept {
         ensures { result ≡ is_noted self.now }
     {
         match self {
-            Kept::Served(Ok(closed)) => closed.noted,
+            Kept::Served(Ok(closed)) | Kept::Upgraded(Ok(closed)) => closed.noted,
+            Kept::Copied(Ok(ended)) => ended.noted,
+            Kept::Dumped(Ok(dumped)) => dumped.noted,
             _ => true,
         }
     }

@@ -64,7 +64,7 @@ fn file_in<'a>(call: &Call<'a>) -> Option<&'a str>
         | Call::Upgrade { file, .. }
         | Call::Deep { file }
         | Call::Salvage { file, .. }
-        | Call::Dump { file } => Some(file),
+        | Call::Dump { file, .. } => Some(file),
         Call::Mem { .. } => None,
     }
 }

@@ -1,13 +1,16 @@
-//! `copy FILE NEW --sectors N [--format N] [--id HEX]`
+//! `copy FILE NEW --sectors N [--format N] [--id HEX] [--strict]`
 
-ghost use Rattle.std.specs.Prelude.{◌≡◌, ◌≤◌, IfOk, IfErr, OnErr, OnOk, length};
+ghost use Rattle.std.specs.Prelude.{◌≡◌, ◌≤◌, IfOk, IfErr, OnErr, OnOk, length, true};
+ghost use Rattle.std.specs.Io.KnownBytes.{Appends};
+ghost use Rattle.slot_commits.specs.declared.found.Notice.TheVariants.{Whole};
 ghost use Rattle.command_line.specs.declared.limits.TheConstants.{MAX_SECTORS};
 ghost use Rattle.store_commits.specs.Snapshot.{snapshot_bytes};
 ghost use Rattle.doc_store.specs.Formats.{rides_in, status_of};
 ghost use Rattle.store_commits.specs.Account.{Account};
 ghost use Rattle.file_device.specs.File.{file_disk};
 ghost use Rattle.file_programs.specs.Copies.{IsCopiedFile, IsFilled, ShowsCopy, account_copied};
-ghost use Rattle.file_programs.specs.Files.{IsOpenedIn, IsUnopenedIn};
+ghost use Rattle.file_programs.specs.Files.{IsNoticedIn, IsOpenedIn, IsUnopenedBy};
+ghost use Rattle.file_programs.specs.Notices.{note_of};
 ghost use Rattle.file_programs.specs.Shown.{Shows};
 ghost use Rattle.file_programs.specs.Upgrades.{format_numbered};
 ghost use Rattle.protocol.specs.Reply.{line_of};
@@ -17,9 +20,10 @@ ghost use Rattle.status_lines.specs.Status.{status_reply};
 use crate::fault::Fault;
 use crate::identity::identity_for;
 use crate::lines::show_line;
+use crate::notices::note;
 use crate::opening::{Unopened, store_on};
 use crate::programs::upgrade::numbered;
-use doc_store::{Format, Status, Store};
+use doc_store::{Format, Notice, Status, Store, Strictness};
 use file_device::{Blocks, FileDevice, Held, Progress, Rights};
 use status_lines::status_line;
 use std::alloc::Global;
@@ -47,36 +51,52 @@ pub struct NewCopy<'a> {
 pub struct Ended {
     /// The store that was opened, as it is then.
     pub store: Store<FileDevice>,
+    /// What its slots said when it was opened.
+    pub notice: Notice,
+    /// Whether all that is to be said of that was written.
+    pub noted: bool,
     /// The device of the copy, or why there is none.
     pub copied: Result<FileDevice, Fault>,
 }
 
-/// Opens the store in a file that holds what `held` says, which counts as an opening, copies it into a new file, and writes
-/// the status of the copy. The new file has the rights of
+/// Opens the store in a file that holds what `held` says, so strictly, which counts as an opening, copies it into a new file,
+/// and writes the status of the copy. What its slots say is a line on `errors` before that, unless all is whole. The new file has the rights of
 /// the old one before its first byte, and its blocks are allocated first, while `progress` looks on. If there is a
 /// fault it is removed again, if the system does so.
-pub fn copy_file<R: Files<File = File>, O: Write, P: Progress>(
+pub fn copy_file<R: Files<File = File>, O: Write, E: Write, P: Progress>(
     rt: &R,
     alloc: Global,
     file: &str,
     new: NewCopy,
+    strictness: Strictness,
     held: Snapshot<Held>,
     writer: &mut O,
+    errors: &mut E,
     progress: &mut P,
 ) -> Result<Ended, Unopened>
     requires most { new.sectors ≤ MAX_SECTORS }
     ensures opened { IfOk result (λ ended. IsOpenedIn held ended.store) }
     ensures copied { IfOk result (λ ended. IfOk ended.copied (IsCopiedFile new.entry.sectors (format_numbered new.entry.format) new.entry.identity ended.store.account)) }
     ensures shown { IfOk result (λ ended. ShowsCopy new.entry.sectors (format_numbered new.entry.format) new.entry.identity ended.store.account ended.copied (O.contents writer.old) (O.contents writer.new)) }
-    ensures refused { IfErr result (IsUnopenedIn held) }
+    ensures noticed { IfOk result (λ ended. IsNoticedIn strictness held ended.store ended.notice) }
+    ensures noted { IfOk result (λ ended. ended.noted ≡ true → Appends (E.contents errors.old) (E.contents errors.new) (note_of ended.notice)) }
+    ensures whole { IfOk result (λ ended. ended.notice ≡ Whole → errors.new ≡ errors.old) }
+    ensures refused { IfErr result (IsUnopenedBy strictness held) }
+    ensures unsaid { OnErr result (errors.new ≡ errors.old) }
     ensures unwritten { OnErr result (writer.new ≡ writer.old) }
 {
     let device = FileDevice::open(rt, alloc, file, held)?;
     let rights = device.rights()?;
-    let store = store_on(alloc, device)?;
+    let (store, notice) = store_on(alloc, device, strictness)?;
+    let noted = note(alloc, notice, errors);
     let format = numbered(new.format);
     let copied = copy_store(rt, alloc, &store, new, format, rights, writer, progress);
-    Ok(Ended { store, copied })
+    Ok(Ended {
+        store,
+        notice,
+        noted,
+        copied,
+    })
 }
 
 // Copies a store into a new file, in a format. The file is removed again if that isn't done.

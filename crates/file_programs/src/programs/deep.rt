@@ -4,13 +4,14 @@ ghost use Rattle.std.specs.Prelude.{◌≡◌, IfOk, IfErr, OnErr};
 ghost use Rattle.std.specs.declared.snapshot.Snapshot.{Snapshot};
 ghost use Rattle.sector_device.specs.declared.history.Held.{Held};
 ghost use Rattle.sector_device.specs.declared.history.History.{Opened};
+ghost use Rattle.doc_store.specs.declared.opening.Strictness.TheVariants.{AnyState};
 ghost use Rattle.file_device.specs.File.{file_disk};
 ghost use Rattle.file_programs.specs.Reads.{IsExaminedIn, IsFoundIn, IsUnlookedIn, IsUnlookedOn, refused_by};
 
-use crate::opening::Unopened;
+use crate::opening::{Unopened, look_on};
 use damaged_files::{ShowFault, Told, tell_damages};
 use doc_machine::Machine;
-use doc_store::look;
+use doc_store::Strictness;
 use file_device::{FileDevice, Held};
 use refusals::numbers::MEMORY;
 use std::alloc::Global;
@@ -39,7 +40,7 @@ pub fn check_deep<R: Files<File = File>, O: Write>(
     writer: &mut O,
 ) -> Result<Examined, Unopened>
     ensures examined { IfOk result (λ examined. IsExaminedIn held examined (O.contents writer.old) (O.contents writer.new)) }
-    ensures refused { IfErr result (IsUnlookedIn held) }
+    ensures refused { IfErr result (IsUnlookedIn AnyState held) }
     ensures unwritten { OnErr result (writer.new ≡ writer.old) }
 {
     let device = FileDevice::open_to_read(rt, alloc, file, held)?;
@@ -55,9 +56,9 @@ pub fn check_deep<R: Files<File = File>, O: Write>(
 // What an opening finds on the device of a file of which nothing was read yet. `Err`: memory was refused.
 fn find(alloc: Global, device: FileDevice) -> Result<(FileDevice, Result<Machine, u16>), Unopened>
     ensures found { (held : Snapshot Held) → device.history ≡ Opened held → IfOk result (λ found. IsFoundIn held (file_disk device).sectors found.0 found.1) }
-    ensures refused { (held : Snapshot Held) → device.history ≡ Opened held → IfErr result (IsUnlookedOn held (file_disk device).sectors (file_disk device).failures) }
+    ensures refused { (held : Snapshot Held) → device.history ≡ Opened held → IfErr result (IsUnlookedOn AnyState held (file_disk device).sectors (file_disk device).failures) }
 {
-    match look(alloc, device) {
+    match look_on(alloc, device, Strictness::AnyState) {
         Ok(looked) => Ok((looked.device, Ok(looked.machine))),
         Err(fault) => {
             if fault.number == MEMORY {

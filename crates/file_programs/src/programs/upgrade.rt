@@ -1,6 +1,8 @@
-//! `upgrade FILE [--format N] [--id HEX]`
+//! `upgrade FILE [--format N] [--id HEX] [--strict]`
 
-ghost use Rattle.std.specs.Prelude.{◌≡◌, false, IfOk, IfErr, OnErr, OnOk};
+ghost use Rattle.std.specs.Prelude.{◌≡◌, false, true, IfOk, IfErr, OnErr, OnOk};
+ghost use Rattle.std.specs.Io.KnownBytes.{Appends};
+ghost use Rattle.slot_commits.specs.declared.found.Notice.TheVariants.{Whole};
 ghost use Rattle.sector_device.specs.Disk.{LeavesOnly};
 ghost use Rattle.store_journal.specs.Models.{model};
 ghost use Rattle.store_commits.specs.Account.{IsStanding};
@@ -8,7 +10,8 @@ ghost use Rattle.doc_store.specs.Formats.{format_of, number_of};
 ghost use Rattle.doc_tree.specs.Text.{data_of};
 ghost use Rattle.file_device.specs.File.{file_disk};
 ghost use Rattle.file_programs.specs.Calls.{IsUpgrading};
-ghost use Rattle.file_programs.specs.Files.{IsUnopenedIn};
+ghost use Rattle.file_programs.specs.Files.{IsNoticedIn, IsUnopenedBy};
+ghost use Rattle.file_programs.specs.Notices.{note_of};
 ghost use Rattle.file_programs.specs.Shown.{Shows};
 ghost use Rattle.file_programs.specs.Upgrades.{IsUpgraded, MayTurn, format_numbered, upgrade_reply};
 ghost use Rattle.protocol.specs.Reply.{line_of};
@@ -17,6 +20,7 @@ ghost use Rattle.serde_json.specs.Events.{SendsValue};
 use crate::fault::Fault;
 use crate::identity::identity_for;
 use crate::lines::show_line;
+use crate::notices::note;
 use crate::opening::{Closed, Unopened, open_strictly};
 use doc_store::{Format, Store, Strictness};
 use file_device::{FileDevice, Held};
@@ -28,27 +32,35 @@ use std::io::Write;
 use std::rt::Files;
 use std::snapshot::Snapshot;
 
-/// Opens the store in a file that holds what `held` says, which counts as an opening, brings it to format 3 or, for any
-/// other number, 2, and writes the format that it is in and the one it was in.
-pub fn upgrade_file<R: Files<File = File>, O: Write>(
+/// Opens the store in a file that holds what `held` says, so strictly, which counts as an opening, brings it to format 3 or,
+/// for any other number, 2, and writes the format that it is in and the one it was in. What its slots say is a line on
+/// `errors` before that, unless all is whole.
+pub fn upgrade_file<R: Files<File = File>, O: Write, E: Write>(
     rt: &R,
     alloc: Global,
     file: &str,
     format: u64,
     identity: Option<u128>,
+    strictness: Strictness,
     held: Snapshot<Held>,
     writer: &mut O,
+    errors: &mut E,
 ) -> Result<Closed, Unopened>
     ensures upgraded { IfOk result (λ closed. IsUpgrading held format identity closed (O.contents writer.old) (O.contents writer.new)) }
-    ensures refused { IfErr result (IsUnopenedIn held) }
+    ensures noticed { IfOk result (λ closed. IsNoticedIn strictness held closed.store closed.notice) }
+    ensures noted { IfOk result (λ closed. closed.noted ≡ true → Appends (E.contents errors.old) (E.contents errors.new) (note_of closed.notice)) }
+    ensures whole { IfOk result (λ closed. closed.notice ≡ Whole → errors.new ≡ errors.old) }
+    ensures refused { IfErr result (IsUnopenedBy strictness held) }
+    ensures unsaid { OnErr result (errors.new ≡ errors.old) }
     ensures unwritten { OnErr result (writer.new ≡ writer.old) }
 {
-    let (mut store, notice) = open_strictly(rt, alloc, file, Strictness::AnyState, held)?;
+    let (mut store, notice) = open_strictly(rt, alloc, file, strictness, held)?;
+    let noted = note(alloc, notice, errors);
     let ended = upgrade_store(rt, alloc, &mut store, numbered(format), identity, writer);
     Ok(Closed {
         store,
         notice,
-        noted: true,
+        noted,
         ended,
     })
 }

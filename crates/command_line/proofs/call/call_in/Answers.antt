@@ -20,12 +20,12 @@ returns-in-format-clause-meant c = go
     go (serve file batch pump history strict) range m = other (serve file batch pump history strict) m refl
     go (check file strict) range m = other (check file strict) m refl
     go (repair file) range m = other (repair file) m refl
-    go (copy file new n version identity) range m = other (copy file new n version identity) m refl
-    go (upgrade file version identity) range m = other (upgrade file version identity) m refl
+    go (copy file new n version identity strict) range m = other (copy file new n version identity strict) m refl
+    go (upgrade file version identity strict) range m = other (upgrade file version identity strict) m refl
     go (mem n history) range m = other (mem n history) m refl
     go (deep file) range m = other (deep file) m refl
     go (salvage file frames) range m = other (salvage file frames) m refl
-    go (dump file) range m = other (dump file) m refl
+    go (dump file strict) range m = other (dump file strict) m refl
 
 pub returns-in-serve-clause-meant : goal.returns-in-serve-clause-meant
 returns-in-serve-clause-meant c = go
@@ -41,12 +41,12 @@ returns-in-serve-clause-meant c = go
     go (serve file batch pump history strict) range m = c.serve_in.ensures.meant file batch pump history strict range (met (serve file batch pump history strict) m).1
     go (check file strict) range m = other (check file strict) m refl
     go (repair file) range m = other (repair file) m refl
-    go (copy file new n version identity) range m = other (copy file new n version identity) m refl
-    go (upgrade file version identity) range m = other (upgrade file version identity) m refl
+    go (copy file new n version identity strict) range m = other (copy file new n version identity strict) m refl
+    go (upgrade file version identity strict) range m = other (upgrade file version identity strict) m refl
     go (mem n history) range m = other (mem n history) m refl
     go (deep file) range m = other (deep file) m refl
     go (salvage file frames) range m = other (salvage file frames) m refl
-    go (dump file) range m = other (dump file) m refl
+    go (dump file strict) range m = other (dump file strict) m refl
 
 pub returns-in-copy-clause-meant : goal.returns-in-copy-clause-meant
 returns-in-copy-clause-meant c = go
@@ -62,12 +62,12 @@ returns-in-copy-clause-meant c = go
     go (serve file batch pump history strict) range m = other (serve file batch pump history strict) m refl
     go (check file strict) range m = other (check file strict) m refl
     go (repair file) range m = other (repair file) m refl
-    go (copy file new n version identity) range m = c.copy_in.ensures.meant file new n version identity range (met (copy file new n version identity) m).1
-    go (upgrade file version identity) range m = other (upgrade file version identity) m refl
+    go (copy file new n version identity strict) range m = c.copy_in.ensures.meant file new n version identity strict range (met (copy file new n version identity strict) m).1
+    go (upgrade file version identity strict) range m = other (upgrade file version identity strict) m refl
     go (mem n history) range m = other (mem n history) m refl
     go (deep file) range m = other (deep file) m refl
     go (salvage file frames) range m = other (salvage file frames) m refl
-    go (dump file) range m = other (dump file) m refl
+    go (dump file strict) range m = other (dump file strict) m refl
 
 pub returns-in-upgrade-clause-meant : goal.returns-in-upgrade-clause-meant
 returns-in-upgrade-clause-meant c = go
@@ -83,12 +83,12 @@ returns-in-upgrade-clause-meant c = go
     go (serve file batch pump history strict) range m = other (serve file batch pump history strict) m refl
     go (check file strict) range m = other (check file strict) m refl
     go (repair file) range m = other (repair file) m refl
-    go (copy file new n version identity) range m = other (copy file new n version identity) m refl
-    go (upgrade file version identity) range m = c.upgrade_in.ensures.meant file version identity range (met (upgrade file version identity) m).1
+    go (copy file new n version identity strict) range m = other (copy file new n version identity strict) m refl
+    go (upgrade file version identity strict) range m = c.upgrade_in.ensures.meant file version identity strict range (met (upgrade file version identity strict) m).1
     go (mem n history) range m = other (mem n history) m refl
     go (deep file) range m = other (deep file) m refl
     go (salvage file frames) range m = other (salvage file frames) m refl
-    go (dump file) range m = other (dump file) m refl
+    go (dump file strict) range m = other (dump file strict) m refl
 
 pub returns-in-mem-clause-meant : goal.returns-in-mem-clause-meant
 returns-in-mem-clause-meant c = go
@@ -104,12 +104,12 @@ returns-in-mem-clause-meant c = go
     go (serve file batch pump history strict) range m = other (serve file batch pump history strict) m refl
     go (check file strict) range m = other (check file strict) m refl
     go (repair file) range m = other (repair file) m refl
-    go (copy file new n version identity) range m = other (copy file new n version identity) m refl
-    go (upgrade file version identity) range m = other (upgrade file version identity) m refl
+    go (copy file new n version identity strict) range m = other (copy file new n version identity strict) m refl
+    go (upgrade file version identity strict) range m = other (upgrade file version identity strict) m refl
     go (mem n history) range m = c.mem_in.ensures.meant n history range (met (mem n history) m).1
     go (deep file) range m = other (deep file) m refl
     go (salvage file frames) range m = other (salvage file frames) m refl
-    go (dump file) range m = other (dump file) m refl
+    go (dump file strict) range m = other (dump file strict) m refl
 
 pub returns-in-check-clause-meant : goal.returns-in-check-clause-meant
 returns-in-check-clause-meant c = go
@@ -125,12 +125,12 @@ returns-in-check-clause-meant c = go
     go (serve file batch pump history strict) range m = other (serve file batch pump history strict) m refl
     go (check file strict) range m = c.check_in.ensures.meant file strict (met (check file strict) m).1
     go (repair file) range m = other (repair file) m refl
-    go (copy file new n version identity) range m = other (copy file new n version identity) m refl
-    go (upgrade file version identity) range m = other (upgrade file version identity) m refl
+    go (copy file new n version identity strict) range m = other (copy file new n version identity strict) m refl
+    go (upgrade file version identity strict) range m = other (upgrade file version identity strict) m refl
     go (mem n history) range m = other (mem n history) m refl
     go (deep file) range m = c.check_in.ensures.meant_deep file (met (deep file) m).1
     go (salvage file frames) range m = other (salvage file frames) m refl
-    go (dump file) range m = other (dump file) m refl
+    go (dump file strict) range m = other (dump file strict) m refl
 
 pub returns-in-salvage-clause-meant : goal.returns-in-salvage-clause-meant
 returns-in-salvage-clause-meant c = go
@@ -146,12 +146,12 @@ returns-in-salvage-clause-meant c = go
     go (serve file batch pump history strict) range m = other (serve file batch pump history strict) m refl
     go (check file strict) range m = other (check file strict) m refl
     go (repair file) range m = other (repair file) m refl
-    go (copy file new n version identity) range m = other (copy file new n version identity) m refl
-    go (upgrade file version identity) range m = other (upgrade file version identity) m refl
+    go (copy file new n version identity strict) range m = other (copy file new n version identity strict) m refl
+    go (upgrade file version identity strict) range m = other (upgrade file version identity strict) m refl
     go (mem n history) range m = other (mem n history) m refl
     go (deep file) range m = other (deep file) m refl
     go (salvage file frames) range m = c.salvage_in.ensures.meant file frames (met (salvage file frames) m).1
-    go (dump file) range m = other (dump file) m refl
+    go (dump file strict) range m = other (dump file strict) m refl
 
 pub returns-in-dump-clause-meant : goal.returns-in-dump-clause-meant
 returns-in-dump-clause-meant c = go
@@ -167,9 +167,9 @@ returns-in-dump-clause-meant c = go
     go (serve file batch pump history strict) range m = other (serve file batch pump history strict) m refl
     go (check file strict) range m = other (check file strict) m refl
     go (repair file) range m = other (repair file) m refl
-    go (copy file new n version identity) range m = other (copy file new n version identity) m refl
-    go (upgrade file version identity) range m = other (upgrade file version identity) m refl
+    go (copy file new n version identity strict) range m = other (copy file new n version identity strict) m refl
+    go (upgrade file version identity strict) range m = other (upgrade file version identity strict) m refl
     go (mem n history) range m = other (mem n history) m refl
     go (deep file) range m = other (deep file) m refl
     go (salvage file frames) range m = other (salvage file frames) m refl
-    go (dump file) range m = c.dump_in.ensures.meant file (met (dump file) m).1
+    go (dump file strict) range m = c.dump_in.ensures.meant file strict (met (dump file strict) m).1

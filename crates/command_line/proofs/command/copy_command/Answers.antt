@@ -10,7 +10,8 @@ returns-clause-shape c =
     let sectors = c.in_ok-arg-3.ensures.shape c.file_sectors.ensures.local ∙ ap₂ with_rule new c.file_sectors.ensures.rule in
     let format = c.in_ok-arg-4.ensures.shape c.format_option.ensures.local ∙ ap₂ with_rule sectors c.format_option.ensures.rule in
     let identity = c.in_ok-arg-5.ensures.shape c.identity_option.ensures.local ∙ ap₂ with_rule format c.identity_option.ensures.rule in
-    ap (λ a. a.top) (c.in_ok-copy.ensures.shape c.why_flag.ensures.local ∙ ap₂ with_rule identity c.why_flag.ensures.rule)
+    let strict = c.in_ok-arg-6.ensures.shape c.strict_flag.ensures.local ∙ ap₂ with_rule identity c.strict_flag.ensures.rule in
+    ap (λ a. a.top) (c.in_ok-copy.ensures.shape c.why_flag.ensures.local ∙ ap₂ with_rule strict c.why_flag.ensures.rule)
 
 pub returns-clause-local : goal.returns-clause-local
 returns-clause-local c =
@@ -20,4 +21,5 @@ returns-clause-local c =
     let sectors = c.in_ok-arg-3.ensures.globals ∙ ap₂ (λ a b. a || b) new c.file_sectors.ensures.local in
     let format = c.in_ok-arg-4.ensures.globals ∙ ap₂ (λ a b. a || b) sectors c.format_option.ensures.local in
     let identity = c.in_ok-arg-5.ensures.globals ∙ ap₂ (λ a b. a || b) format c.identity_option.ensures.local in
-    c.in_ok-copy.ensures.globals ∙ ap₂ (λ a b. a || b) identity c.why_flag.ensures.local
+    let strict = c.in_ok-arg-6.ensures.globals ∙ ap₂ (λ a b. a || b) identity c.strict_flag.ensures.local in
+    c.in_ok-copy.ensures.globals ∙ ap₂ (λ a b. a || b) strict c.why_flag.ensures.local

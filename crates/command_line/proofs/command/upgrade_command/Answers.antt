@@ -8,7 +8,8 @@ returns-clause-shape c =
     let file = c.in_ok-arg.ensures.shape c.file_argument.ensures.local ∙ ap₂ with_rule base c.file_argument.ensures.rule in
     let format = c.in_ok-arg-2.ensures.shape c.format_option.ensures.local ∙ ap₂ with_rule file c.format_option.ensures.rule in
     let identity = c.in_ok-arg-3.ensures.shape c.identity_option.ensures.local ∙ ap₂ with_rule format c.identity_option.ensures.rule in
-    ap (λ a. a.top) (c.in_ok-upgrade.ensures.shape c.why_flag.ensures.local ∙ ap₂ with_rule identity c.why_flag.ensures.rule)
+    let strict = c.in_ok-arg-4.ensures.shape c.strict_flag.ensures.local ∙ ap₂ with_rule identity c.strict_flag.ensures.rule in
+    ap (λ a. a.top) (c.in_ok-upgrade.ensures.shape c.why_flag.ensures.local ∙ ap₂ with_rule strict c.why_flag.ensures.rule)
 
 pub returns-clause-local : goal.returns-clause-local
 returns-clause-local c =
@@ -16,4 +17,5 @@ returns-clause-local c =
     let file = c.in_ok-arg.ensures.globals ∙ ap₂ (λ a b. a || b) base c.file_argument.ensures.local in
     let format = c.in_ok-arg-2.ensures.globals ∙ ap₂ (λ a b. a || b) file c.format_option.ensures.local in
     let identity = c.in_ok-arg-3.ensures.globals ∙ ap₂ (λ a b. a || b) format c.identity_option.ensures.local in
-    c.in_ok-upgrade.ensures.globals ∙ ap₂ (λ a b. a || b) identity c.why_flag.ensures.local
+    let strict = c.in_ok-arg-4.ensures.globals ∙ ap₂ (λ a b. a || b) identity c.strict_flag.ensures.local in
+    c.in_ok-upgrade.ensures.globals ∙ ap₂ (λ a b. a || b) strict c.why_flag.ensures.local

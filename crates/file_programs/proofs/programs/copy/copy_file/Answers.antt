@@ -6,6 +6,9 @@ use Rattle.file_programs.proofs.programs.copy.copy_file.Goals as goal
 pub returns-clause-opened : goal.returns-clause-opened
 returns-clause-opened g c = c.in_ok-store.ensures.opened c.args.held c.in_ok-device.ensures.history
 
+pub returns-clause-noticed : goal.returns-clause-noticed
+returns-clause-noticed g c = c.in_ok-store.ensures.noticed c.args.held c.in_ok-device.ensures.history
+
 pub returns-clause-copied : goal.returns-clause-copied
 returns-clause-copied g c =
     subst (λ (f : Format). IfOk c.copy_store-copied.result (IsCopiedFile c.args.new.sectors f c.args.new.identity c.in_ok-store.store.account)) c.numbered-format.ensures c.copy_store-copied.ensures.copied

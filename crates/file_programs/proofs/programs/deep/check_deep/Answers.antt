@@ -1,5 +1,6 @@
 use Rattle.std.proofs.Common.{ℕ, subst}
 use Rattle.std.proofs.lemmas.Result.{err_from_is_err_and}
+use Rattle.doc_store.specs.declared.opening.Strictness.TheVariants.{AnyState}
 use Rattle.file_programs.specs.Reads.{IsUnlookedOn, refused_by}
 use Rattle.file_programs.proofs.Reading.{found_on, told_of, unlooked_in}
 use Rattle.file_programs.proofs.programs.deep.check_deep.Goals as goal
@@ -22,4 +23,4 @@ returns-in_err-device-2-clause-refused g c =
     let fault = c.in_err-device-2.field-0.0 in
     let first = c.in_ok-device.device in
     let refused = c.in_err-device-2.ensures.refused c.args.held c.in_ok-device.ensures.history in
-    rw (p.1, p.2) (unlooked_in c.args.held first.sectors fault (subst (λ (n : ℕ). IsUnlookedOn c.args.held first.sectors n fault) c.in_ok-device.ensures.failures refused))
+    rw (p.1, p.2) (unlooked_in AnyState c.args.held first.sectors fault (subst (λ (n : ℕ). IsUnlookedOn AnyState c.args.held first.sectors n fault) c.in_ok-device.ensures.failures refused))

@@ -1,3 +1,4 @@
+use Rattle.doc_store.specs.declared.opening.Strictness.TheVariants.{AnyState}
 use Rattle.file_programs.proofs.Reading.{read_in, refused_for, refused_in}
 use Rattle.file_programs.proofs.programs.deep.find.Goals as goal
 
@@ -7,7 +8,7 @@ returns-in-Ok-clause-found c = λ held was.
     (read_in held c.args.device looked.device looked.machine was c.in-Ok.ensures.stands, c.in-Ok.ensures.good)
 
 pub returns-then-fault-eq-MEMORY-clause-refused : goal.returns-then-fault-eq-MEMORY-clause-refused
-returns-then-fault-eq-MEMORY-clause-refused c = λ held was. refused_in held c.args.device c.in-Err.fault.device c.in-Err.fault.number was c.in-Err.ensures.refused
+returns-then-fault-eq-MEMORY-clause-refused c = λ held was. refused_in AnyState held c.args.device c.in-Err.fault.device c.in-Err.fault.number was c.in-Err.ensures.refused
 
 pub returns-else-fault-eq-MEMORY-clause-found : goal.returns-else-fault-eq-MEMORY-clause-found
 returns-else-fault-eq-MEMORY-clause-found c = λ held was.

@@ -8,6 +8,11 @@ use Rattle.file_programs.proofs.Fine.{given}
 use Rattle.file_programs.proofs.Upgrading.{went_to}
 use Rattle.file_programs.proofs.programs.upgrade.upgrade_file.Goals as goal
 
+pub returns-clause-noticed : goal.returns-clause-noticed
+returns-clause-noticed g c =
+    let noticed = c.in_ok-store.ensures.noticed in
+    record { said = λ honest. noticed.said (c.upgrade_store-ended.ensures.honest honest); taken = noticed.taken }
+
 pub returns-clause-upgraded : goal.returns-clause-upgraded
 returns-clause-upgraded g c =
     let e = c.upgrade_store-ended.ensures in
