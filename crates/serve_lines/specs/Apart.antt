@@ -14,7 +14,7 @@ pub use Rattle.doc_patch.specs.Reading.{operations_of}
 pub use Rattle.doc_patch.specs.Patch.{patch}
 pub use Rattle.doc_patch.specs.Held.{held}
 -- JSON Schema, draft 2020-12
-pub use Rattle.doc_schema.specs.Faults.{IsFaultless, first_fault}
+pub use Rattle.doc_schema.specs.Faults.{IsFaultless, MayHaveLargePatterns, first_fault}
 pub use Rattle.doc_schema.specs.Judge.{Judges, enough, judge}
 pub use Rattle.doc_schema.specs.Steps.{settled}
 -- JSONPath (RFC 9535)
