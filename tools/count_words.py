@@ -6,12 +6,11 @@ also looks for words to avoid in the comments of the crates.
 
 With --check it says only what is over a limit; its last line is `N passed, M failed`: each page is a test, and so are the total
 and the comments. With --long it shows the sentences over the limit, and with --avoid the sentences with a word to avoid.
-Without pages it counts README.md, CHANGELOG.md, CONTRIBUTING.md, SECURITY.md, crates/README.md and docs/*/*.md, and reads the
-comments of crates/*/src and crates/*/specs.
+Without pages it counts all pages (*.md) of the repository, and reads the comments of crates/*/src and crates/*/specs.
 
-A page's words are what `wc -w` counts outside of its fenced code blocks. The total that is limited is that of README.md and
-docs/*/*.md. In a sentence a word is what has a letter or a digit between blanks, code included. The cells of tables and headings are
-judged by the longest sentence alone, since short cells would lower the average.
+A page's words are what `wc -w` counts, and so is the total that is limited. In a sentence a word is what has a letter or a digit
+between blanks, code included. The cells of tables and headings are judged by the longest sentence alone, since short cells would lower
+the average.
 """
 import argparse
 import pathlib
@@ -22,9 +21,9 @@ ROOT = pathlib.Path(__file__).resolve().parent.parent
 MOST_ON_AVERAGE = 20
 MOST_IN_A_SENTENCE = 40
 MOST_README_LINES = 100
-MOST_WORDS = 23_000
-# A store on several machines has a page of its own, beside those of one store. Recipes for data are read one at a time.
-LIMITED = re.compile(r"README\.md|docs/(?!use/REPLICATED|use/MODELLING).*")
+MOST_WORDS = 25_000
+# Folders of which nothing is a page of the repository: what is built, and hidden ones.
+MADE = re.compile(r"target|out|dist|build|debian|\..*")
 
 # Words that ask for a second reading, each with what to say instead.
 AVOID = {
@@ -65,9 +64,8 @@ AVOIDED_IN_COMMENTS = compiled({**AVOID, **IN_COMMENTS})
 
 
 def pages():
-    names = ["README.md", "CHANGELOG.md", "CONTRIBUTING.md", "SECURITY.md"]
-    found = [ROOT / name for name in names if (ROOT / name).exists()]
-    return found + [ROOT / "crates" / "README.md"] + sorted((ROOT / "docs").glob("*/*.md"))
+    found = [path.relative_to(ROOT) for path in ROOT.rglob("*.md")]
+    return [ROOT / path for path in sorted(found) if not any(map(MADE.fullmatch, path.parts))]
 
 
 def sources():
@@ -150,7 +148,7 @@ class Page:
         self.name = path.resolve().relative_to(ROOT).as_posix()
         text = path.read_text(encoding="utf-8")
         self.lines = len(text.splitlines())
-        self.words = len(without_fences(text).split())
+        self.words = len(text.split())
         prose = without_blocks(text)
         judged = [(sentence, counts) for part, counts in parts_of(prose) for sentence in sentences_of(part)]
         self.sentences = [sentence for sentence, _ in judged]
@@ -175,15 +173,15 @@ class Page:
             yield f"{self.lines} lines, at most {MOST_README_LINES} are wanted"
 
 
-def limited_words(counted):
-    return sum(page.words for page in counted if LIMITED.fullmatch(page.name))
+def words_in_all(counted):
+    return sum(page.words for page in counted)
 
 
 def check(counted, whole):
     faults = [(page.name, fault) for page in counted for fault in page.faults()]
-    total = limited_words(counted)
+    total = words_in_all(counted)
     if whole and total > MOST_WORDS:
-        faults.append(("README.md and docs", f"{total:,} words, at most {MOST_WORDS:,} are wanted"))
+        faults.append(("all pages", f"{total:,} words, at most {MOST_WORDS:,} are wanted"))
     if whole:
         faults += [("comments", f"{place}: {fault}") for place, fault, _ in faults_of_comments()]
     for name, fault in faults:
@@ -194,11 +192,11 @@ def check(counted, whole):
 
 
 def show(counted):
-    print(f"{'page':24} {'lines':>6} {'words':>6} {'average':>8} {'longest':>8} {'to avoid':>9}")
+    print(f"{'page':28} {'lines':>6} {'words':>6} {'average':>8} {'longest':>8} {'to avoid':>9}")
     for page in counted:
         avoided = len(list(page.avoided()))
-        print(f"{page.name:24} {page.lines:6} {page.words:6} {page.average:8.1f} {page.longest:8} {avoided:9}")
-    print(f"{'README.md and docs':24} {'':6} {limited_words(counted):6}")
+        print(f"{page.name:28} {page.lines:6} {page.words:6} {page.average:8.1f} {page.longest:8} {avoided:9}")
+    print(f"{'all pages':28} {'':6} {words_in_all(counted):6}")
 
 
 def main():

@@ -1,11 +1,11 @@
 #!/usr/bin/env python3
-"""Looks whether the pages name only what exists: files of the repository, files of definitions, functions, and wrong bodies.
+"""Looks whether the pages name only what exists: files of the repository, files of definitions, and functions.
 
     page_references.py
 
 What is looked at: paths in code on every page, the files of definitions that docs/inside/DEFINITIONS.md lists, how many lines it says that
-tools/definitions.py prints, and the functions and wrong bodies of the table of docs/inside/PROOFS.md. The last line is
-`N passed, M failed`, a page a test.
+tools/definitions.py prints, and the functions of the table of docs/inside/PROOFS.md. The last line is `N passed, M failed`, a page
+a test.
 """
 import re
 import subprocess
@@ -14,7 +14,7 @@ import sys
 from count_words import ROOT, pages
 
 FOLDERS = "docs|tests|tools|crates|clients|packaging"
-PATH = re.compile(rf"`((?:{FOLDERS})/[\w./-]*)")
+PATH = re.compile(rf"`((?:{FOLDERS})/[\w./@-]*)")
 # What only a build makes, and what a reader fills in.
 MADE = re.compile(r"/out(/|$)|CRATE|NAME|what_is_wrong")
 
@@ -69,19 +69,17 @@ def declared():
 
 
 def proofs(text):
-    bodies = {path.stem for path in (ROOT / "tests" / "wrong_bodies").rglob("*.edit")}
-    bodies |= {path.stem for path in (ROOT / "crates").glob("*/must-fail/*.edit")}
-    names = declared()
+    names, rows = declared(), 0
     for heading, cells in rows_of(text):
-        if heading != "The rows" or len(cells) != 3 or cells[0] == "Claim":
+        if heading != "The rows" or len(cells) != 3 or cells[0] == "Family":
             continue
-        for call in re.findall(r"`([\w:]+)`", cells[1]):
+        rows += 1
+        for call in re.findall(r"`([\w:]+)`", cells[2]):
             for name in call.split("::"):
                 if name not in names:
                     yield f"{call}: there is no {name} in the code"
-        for body in re.findall(r"`(\w+)`", cells[2]):
-            if body not in bodies:
-                yield f"{cells[1]}: there is no wrong body {body}"
+    if not rows:
+        yield "there is no table of claims"
 
 
 def main():

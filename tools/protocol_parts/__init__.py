@@ -1,0 +1,1 @@
+"""The parts that tools/protocol.py writes and compares."""
