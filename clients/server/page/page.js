@@ -513,13 +513,14 @@ $("query-form").addEventListener("submit", async (event) => {
     return;
   }
   try {
-    const nodes = await valueAt(`${documentPath(state.name)}?query=${encodeURIComponent(query)}`);
+    const response = await ask(`${documentPath(state.name)}?query=${encodeURIComponent(query)}`);
+    const nodes = parse(await response.text()), warning = response.headers.get("Jpstore-Warning");
     const pointers = nodes.slice(0, MOST_MARKS).map((node) => pointerOf(node.path));
     state.marks = new Set(pointers);
     pointers.forEach(reveal);
     mark();
     placeOf(pointers[0] ?? "")?.scrollIntoView({ block: "nearest" });
-    $("query-result").textContent = nodes.length === 0 ? "No value is found." : nodes.length === 1 ? "1 value is marked." : nodes.length > MOST_MARKS
+    $("query-result").textContent = nodes.length === 0 ? `No value is found${warning ? `: ${warning}` : ""}.` : nodes.length === 1 ? "1 value is marked." : nodes.length > MOST_MARKS
       ? `${grouped(nodes.length)} values are found, and the first ${MOST_MARKS} are marked.` : `${nodes.length} values are marked.`;
   } catch (error) {
     mark();

@@ -2,6 +2,7 @@
 
 use crate::error::Error;
 use crate::http::guard::origin_of;
+use crate::protocol::MOST_STEP_SECTORS;
 use std::ffi::{OsStr, OsString};
 use std::os::unix::ffi::OsStrExt;
 use std::path::PathBuf;
@@ -19,7 +20,7 @@ SIGINT. STORE may also be the socket of a running server, which is then served o
   --token-file FILE    who asks over HTTP needs the token in this file
   --origin ORIGIN      lets in the pages of this origin, such as https://example.org; may be given several times
   --program PATH       the program jpstore (the one on PATH)
-  --wait SECONDS       how long to wait for a file that is in use (5)
+  --wait SECONDS       how long to wait for a file, a port or a socket that is in use, or for a hub (5)
   --pump SECTORS       copies this many sectors of a snapshot after each group of changes, while a half fills
   --cache BYTES        keeps at most so many bytes of documents for readers (67108864)
   --no-cache           asks the program for each document
@@ -49,7 +50,7 @@ pub struct Options {
     pub origins: Vec<String>,
     /// The program.
     pub program: Option<PathBuf>,
-    /// How long to wait for a file that is in use.
+    /// How long to wait for a file, a port or a socket that is in use, or for a hub.
     pub wait: Duration,
     /// The sectors of a step of a snapshot.
     pub pump: u64,
@@ -117,7 +118,7 @@ impl Options {
             "--wait" => self.wait = seconds(value).ok_or_else(wrong)?,
             "--patience" => self.patience = seconds(value).filter(|most| *most >= LEAST_PATIENCE).ok_or_else(wrong)?,
             "--pump" => {
-                self.pump = value.parse().ok().filter(|count| *count <= 1_000_000).ok_or_else(wrong)?;
+                self.pump = value.parse().ok().filter(|count| *count <= MOST_STEP_SECTORS as u64).ok_or_else(wrong)?;
             }
             "--cache" => self.cache = value.parse().map_err(|_| wrong())?,
             _ => return Err(Error::new(unknown(option))),

@@ -1,6 +1,7 @@
 //! The refusals: the number and the name of each, its HTTP status, what it means, and what to do about it.
-//!
-//! The texts are those of `docs/use/PROTOCOL.md`, the statuses those of `docs/use/HTTP.md`; a test compares them.
+
+use crate::protocol::OWN_REFUSALS;
+pub use crate::protocol::{EXISTS, GONE, NOT_GROWN, NO_DOCUMENT, NO_MAJORITY, REFUSALS, REVISION, WATCHING};
 
 /// A refusal of the store.
 pub struct Refusal {
@@ -16,71 +17,6 @@ pub struct Refusal {
     pub advice: &'static str,
 }
 
-const fn row(number: u64, name: &'static str, status: u16, meaning: &'static str, advice: &'static str) -> Refusal {
-    Refusal { number, name, status, meaning, advice }
-}
-
-/// Those of a store. From 70 on they are of its opening, and no request is answered them.
-pub const REFUSALS: &[Refusal] = &[
-    row(10, "line-too-long", 413, "the line has over 1,048,576 bytes", "send a smaller document, or make it by several patches"),
-    row(11, "not-json", 400, "the line is not a JSON text in UTF-8, or nests deeper than 127 levels", "correct the text; a JSON parser tells the place"),
-    row(12, "number", 422, "the text has a number that is not a 64-bit whole number, such as `1.5`", "send whole numbers, or a text"),
-    row(13, "depth", 422, "the document would nest deeper than 64 levels", "make the document flatter"),
-    row(14, "command", 400, "no command has this form: a member is missing, unknown, or has a wrong value", "compare with the command in `docs/use/PROTOCOL.md`; `create` needs `schema` too"),
-    row(15, "name", 400, "the name is not 1 to 64 of the allowed characters", "use the letters A to Z and a to z, digits, `.`, `_` and `-`"),
-    row(20, "exists", 409, "a document of that name exists already", "choose another name, or patch the document that exists"),
-    row(21, "no-document", 404, "no document has that name", "list the names, and compare"),
-    row(22, "too-many", 507, "the store has 1,024 documents already, or 65,536 in format 3; `upgrade` and `copy` say it of over 1,024", "delete one, join several in one document, or bring a store in format 2 to format 3 by `upgrade`"),
-    row(23, "too-large", 413, "the document's compact text would have over 1,048,576 bytes", "make the document smaller, or divide it into several"),
-    row(24, "revision", 412, "the document has another revision than `if_rev`; `rev` is the document's", "read the document again, and send a patch that fits it, with its new revision"),
-    row(25, "mark", 409, "the mark is another than `if_mark`; `mark` is the present one", "if it is your own, the change is made"),
-    row(30, "patch-shape", 400, "`ops` is not a list, or an operation is not an object, has no known `op`, or lacks a member", "compare the operations with RFC 6902, section 4"),
-    row(31, "patch-pointer", 400, "`path` or `from` of an operation is not a JSON Pointer", "begin it with `/`, and write `~` as `~0` and `/` in a name as `~1`"),
-    row(32, "patch-missing", 409, "a place that the operation needs does not exist", "read the document; `add` the parent first"),
-    row(33, "patch-into-itself", 422, "a `move` puts a value into itself", "use `copy` instead"),
-    row(34, "patch-test", 409, "a `test` found another value", "read the document again, and send a patch that fits it"),
-    row(35, "patch-root", 422, "the patch removes the whole document", "use the command `delete` instead"),
-    row(36, "patch-long", 413, "there are over 4,096 operations, their text has over 2,097,152 bytes, or it nests deeper than 66 levels", "divide the patch into several"),
-    row(37, "no-value", 404, "the document has no value at this place", "read the value at a shorter path, to see what is there"),
-    row(38, "pointer", 400, "the path is not a JSON Pointer", "begin it with `/`, or leave it empty for the whole document; write `~` as `~0` and `/` in a name as `~1`"),
-    row(40, "schema-form", 422, "a schema is neither a boolean nor an object, a keyword's value has a wrong form, two schemas have one `$anchor`, or a pattern is none", "compare the schema with JSON Schema Validation 2020-12, section 6, and a pattern with `docs/use/MODELLING.md`"),
-    row(41, "schema-keyword", 422, "the schema has a keyword that is not supported (in format 2 also `pattern`, `patternProperties`, `dependentSchemas` and `$anchor`), has `$id` or `$schema` below its root, or names another dialect", "leave the keyword out, or use supported ones; `jpstore upgrade FILE` makes format 3"),
-    row(42, "schema-ref", 422, "a `$ref` leads to no schema in this one; format 2 reads `#` and `#/$defs/NAME` alone", "define the schema under `$defs` of the root"),
-    row(43, "schema-loop", 422, "by `$ref`, `allOf`, `anyOf`, `oneOf`, `not`, `if`, `then`, `else` and `dependentSchemas` a schema leads back to itself without a step into the value", "put `properties` or `items` between"),
-    row(44, "schema-size", 413, "the schema's compact text has over 262,144 bytes, it nests deeper than 64 levels, or it has over 64 patterns, or one of over 4,096 bytes", "make the schema smaller, for instance by `$defs` and `$ref`"),
-    row(45, "invalid", 422, "the document, as the change would leave it, is not valid under its schema", "change the value that is not valid, or the schema first"),
-    row(50, "path", 400, "the path is not a JSONPath query (RFC 9535): its syntax or the types of its functions are wrong, or it begins or ends with a blank", "compare the query with RFC 9535, section 2; a query begins with `$`"),
-    row(51, "path-left-out", 422, "the path is a query, but calls `match` or `search`, or has a number that is not a 64-bit whole number without fraction and exponent", "compare with whole numbers and `==`, and match texts in your own program"),
-    row(52, "path-long", 414, "the path has over 1,024 bytes", "send several shorter queries"),
-    row(53, "path-nodes", 422, "a list of nodes, after some segment of the query or of a query in its filters, would have over 100,000", "select less, for instance by a slice such as `[0:100000]`"),
-    row(54, "reply-long", 422, "the reply would have over 16,777,216 bytes without its LF", "select less, or read the values one by one; of `changes`, read the documents anew"),
-    row(60, "full", 507, "there is no room for the change, not even after a snapshot, and in format 3 none for the documents and marks that it would leave; or the requested snapshot is longer than a half", "make it larger by `jpstore-cli grow STORE`, also while a hub serves it; in format 2 a `delete` takes room too"),
-    row(61, "device", 500, "reading, writing or syncing the file failed during this change, snapshot or step, perhaps as the file system is full; the next opening shows whether it is stored", "look at the disk and its free space, end the program and open the store again (a hub's service does that)"),
-    row(62, "broken", 503, "the device failed before; nothing is written any more, and questions are answered from the state after the last change that was answered as done", "look at the disk and its free space, end the program and open the store again (a hub's service does that)"),
-    row(63, "memory", 503, "the program ran out of memory for this line or its batch, or a schema's patterns take too much; nothing was changed", "send the line again; a smaller document, query or pattern needs less"),
-    row(64, "seq-end", 507, "the count of accepted changes is at its end (2^64-1)", "go on reading; for more changes `dump` it, and `load` the dump into a new store"),
-    row(65, "transaction-large", 413, "what a transaction copies, and the documents that it puts under other schemas, have over 33,554,432 bytes of text", "divide it"),
-    row(70, "already-a-store", 500, "the device holds a store already; only programs in Rattle are told this, by `Store::format`", "format another device"),
-    row(71, "small", 500, "`format` or `copy` for format 3 was given under 160 sectors, or a program in Rattle, by `Store::format`, a device with under 3 or over 4,294,967,296", "choose another number"),
-    row(72, "not-a-store", 500, "the file does not begin as a store does, or has too few or too many sectors for any store; said when a store is opened", "check that it is the right file"),
-    row(73, "damaged", 500, "the file begins as a store, but what follows is not one, or was not copied whole; said when a store is opened", "restore it from a copy or a dump; without one, `jpstore salvage FILE` writes what can still be read"),
-    row(74, "no-room", 500, "the documents do not fit in a half: those of a store in the file that `copy` would make, or those of a file of format 1 in format 2, said when it is opened. Or `upgrade` lacks room for both formats. No document was written", "copy it to a larger file; one of format 1: dump it with the earlier program that wrote it, make a larger store by `format`, and load the dump"),
-    row(75, "cut-off", 500, "a store of format 3 was opened with `--strict`, and a commit was cut off in it: one that was under way at a stop, or, if both its copies are damaged, the last one that was answered. The file was left as it is", "compare it with a copy, or with what its clients know; `jpstore repair FILE` takes it as it is"),
-    row(76, "newer-schema", 500, "a schema has a keyword or a reference that format 2 lacks; said by `upgrade` and `copy`", "change the schema, or stay in format 3"),
-];
-
-/// The changes after a number are gone.
-pub const GONE: u64 = 80;
-
-/// A line came after `watch`.
-pub const WATCHING: u64 = 81;
-
-/// No majority of a replicated store's log answered in time.
-pub const NO_MAJORITY: u64 = 82;
-
-/// The store has not grown.
-pub const NOT_GROWN: u64 = 83;
-
 /// The refusal of this number.
 pub fn by_number(number: u64) -> Option<&'static Refusal> {
     REFUSALS.iter().find(|row| row.number == number)
@@ -93,34 +29,6 @@ pub fn by_name(name: &str) -> Option<&'static Refusal> {
 
 /// The name of the refusal with this number.
 pub fn name_of(number: u64) -> &'static str {
-    match number {
-        GONE => "gone",
-        WATCHING => "watching",
-        NO_MAJORITY => "no-majority",
-        NOT_GROWN => "not-grown",
-        _ => by_number(number).map_or("", |row| row.name),
-    }
-}
-
-#[cfg(test)]
-mod tests {
-    use super::REFUSALS;
-
-    #[test]
-    fn the_rows_are_those_of_the_pages() {
-        let protocol = include_str!("../../../docs/use/PROTOCOL.md");
-        let http = include_str!("../../../docs/use/HTTP.md");
-        let told = protocol.split_once("| Refusal | Means |").and_then(|(_, rest)| rest.split_once("\n\n"));
-        let told: Vec<&str> = told.unwrap().0.lines().skip(2).collect();
-        let own: Vec<String> = REFUSALS
-            .iter()
-            .map(|row| format!("| {} {} | {} | {} |", row.number, row.name, row.meaning, row.advice))
-            .collect();
-        assert_eq!(own, told);
-        for row in REFUSALS.iter().filter(|row| row.number < 70) {
-            let told = format!("{} {}", row.number, row.name);
-            let statuses = http.lines().find(|line| line.starts_with("| ") && line.contains(&told));
-            assert!(statuses.unwrap().starts_with(&format!("| {} ", row.status)), "{told}");
-        }
-    }
+    let own = OWN_REFUSALS.iter().find(|(known, _)| *known == number).map(|(_, name)| *name);
+    own.or_else(|| by_number(number).map(|row| row.name)).unwrap_or("")
 }

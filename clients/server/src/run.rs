@@ -7,6 +7,7 @@ use crate::http::guard::{token_in, Guard};
 use crate::http::reasons::Reasons;
 use crate::http::{self, App};
 use crate::hub::{self, listening};
+use crate::limits::ANSWERS;
 use crate::options::Options;
 use crate::other::Other;
 use crate::program::cache::Cache;
@@ -15,6 +16,7 @@ use crate::program::room::Room;
 use crate::program::{self, Handle};
 use crate::say;
 use crate::store::{Store, Which};
+use std::io::ErrorKind;
 use std::os::unix::fs::FileTypeExt;
 use std::path::Path;
 use std::sync::Arc;
@@ -35,9 +37,6 @@ const LAST: Duration = Duration::from_secs(15);
 
 /// How often it looks for a socket that isn't there yet.
 const PAUSE: Duration = Duration::from_millis(50);
-
-/// The most bytes of answers over HTTP that are in memory at once.
-const ANSWERS: usize = 1 << 28;
 
 /// Serves until a signal comes, or until the program ends.
 pub fn run(options: Options) -> Result<(), Error> {
@@ -65,19 +64,23 @@ struct Web {
 
 async fn serve(options: Options, workers: Workers) -> Result<(), Error> {
     let mut signals = signals(&workers)?;
-    let web = web(&options, &workers)?;
-    if options.socket.is_none() {
-        tokio::select! {
-            () = until_there(&options.store, options.wait) => (),
-            _ = signals.changed() => return Ok(()),
-        }
-    }
-    if std::fs::metadata(&options.store).map_or(false, |found| found.file_type().is_socket()) {
+    let web = tokio::select! {
+        web = web(&options, &workers) => web?,
+        _ = signals.changed() => return Ok(()),
+    };
+    let is_other = tokio::select! {
+        is_other = is_other(&options) => is_other?,
+        _ = signals.changed() => return Ok(()),
+    };
+    if is_other {
         return serve_other(&options, &workers, web, signals).await;
     }
     if let Some(path) = &options.socket {
         // Before the store is opened, which may take a while.
-        listening::check_free(path).await?;
+        tokio::select! {
+            free = listening::until_free(path, options.wait) => free?,
+            _ = signals.changed() => return Ok(()),
+        }
     }
     let path = program::find(options.program.as_deref())?;
     let program = tokio::select! {
@@ -99,12 +102,31 @@ async fn serve(options: Options, workers: Workers) -> Result<(), Error> {
     until_the_end(engine, end, signals, app).await
 }
 
-/// Waits for so long until something is at a path: the server whose socket it is may begin at the same time.
-async fn until_there(path: &Path, wait: Duration) {
-    let until = Instant::now() + wait;
-    while !path.exists() && Instant::now() < until {
-        tokio::time::sleep(PAUSE).await;
+/// Whether the store is the socket of another server. One that isn't there is waited for, unless it must be a file: the
+/// server whose socket it is may begin at the same time.
+async fn is_other(options: &Options) -> Result<bool, Error> {
+    let until = Instant::now() + options.wait;
+    loop {
+        match std::fs::metadata(&options.store) {
+            Ok(found) => return Ok(found.file_type().is_socket()),
+            Err(error) if error.kind() == ErrorKind::NotFound && options.socket.is_none() => {
+                if Instant::now() >= until {
+                    return Err(nothing_there(&options.store, error));
+                }
+                tokio::time::sleep(PAUSE).await;
+            }
+            // The program tells why it can't be opened.
+            Err(_) => return Ok(false),
+        }
     }
+}
+
+/// The error of a path at which nothing is: a store, or the socket of a hub, may be meant.
+fn nothing_there(path: &Path, error: std::io::Error) -> Error {
+    let to_do =
+        "what to do: compare the path; if it is a file, `jpstore-cli format FILE` makes a store; if it is the socket \
+                 of a hub, start that, or wait longer by `--wait SECONDS`";
+    Error::new(format!("{}\n  {to_do}", Error::of_path(path, error)))
 }
 
 /// Serves the store of another server over HTTP.
@@ -133,7 +155,7 @@ async fn serve_other(
     Ok(())
 }
 
-fn web(options: &Options, workers: &Workers) -> Result<Option<Web>, Error> {
+async fn web(options: &Options, workers: &Workers) -> Result<Option<Web>, Error> {
     let token = options.token_file.as_deref().map(token_in).transpose()?;
     let listen = match &options.listen {
         Some(listen) => listen,
@@ -141,8 +163,7 @@ fn web(options: &Options, workers: &Workers) -> Result<Option<Web>, Error> {
     };
     let (host, port) = http::listening::place(listen)?;
     let address = http::listening::address(&host, port, token.is_some())?;
-    let _entered = workers.enter();
-    let listener = http::listening::at(address)?;
+    let listener = http::listening::at(address, options.wait, workers).await?;
     Ok(Some(Web { listener, guard: Guard::new(token, options.origins.clone(), &host) }))
 }
 
@@ -152,7 +173,7 @@ fn doors(options: &Options) -> usize {
 }
 
 fn welcome_web(options: &Options, workers: &Workers, web: Web, which: Which, ending: &Ending) -> Arc<App> {
-    let store = Store { which, answers: Room::new(ANSWERS) };
+    let store = Store { which, answers: Room::of_bytes(ANSWERS) };
     let reasons = Reasons::new(&options.python, Workers::current(), ending.clone());
     let app = Arc::new(App::new(store, web.guard, reasons, options.patience));
     let told = web.listener.local_addr().map_or_else(|_| String::new(), |address| format!("http://{address}/"));

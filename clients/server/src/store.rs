@@ -1,20 +1,18 @@
 //! The store that is asked over HTTP: the one that this server has, or that of another server, by its socket.
 
 use crate::http::problem::Problem;
+use crate::limits::REPLY;
 use crate::lines::replies::{self, refusal, rev_in, rev_told, text_in};
 use crate::lines::{Lines, MOST_LINE};
 use crate::other::{Lost, Other};
 use crate::program::cache::Document;
 use crate::program::room::{Room, Taken};
 use crate::program::{Handle, Job, Reply};
+use crate::refusals::NO_DOCUMENT;
 use bytes::Bytes;
 use std::sync::Arc;
-use std::time::Duration;
 use tokio::sync::oneshot;
 use tokio::time::timeout;
-
-/// How long the store may take for a reply.
-const PATIENCE: Duration = Duration::from_secs(60);
 
 /// How often something is tried if others change a document meanwhile.
 pub const ATTEMPTS: usize = 100;
@@ -49,8 +47,8 @@ fn no_room() -> Problem {
 
 impl Store {
     /// Takes room for so many bytes of an answer.
-    pub fn room(&self, size: usize) -> Result<Taken, Problem> {
-        self.answers.take(size).ok_or_else(no_room)
+    pub async fn room(&self, size: usize) -> Result<Taken, Problem> {
+        self.answers.take_soon(size).await.ok_or_else(no_room)
     }
 
     /// The replies to questions, which an own store answers in one round.
@@ -59,13 +57,14 @@ impl Store {
         match &self.which {
             Which::Own(handle) => {
                 let lines = Lines { questions: all.map(shortened).collect(), ..Lines::default() };
-                own(handle, lines, &self.answers).await?.ok_or_else(Problem::unavailable)
+                let replies = timeout(REPLY, own(handle, lines, &self.answers)).await;
+                replies.map_err(|_| Problem::unavailable())??.ok_or_else(Problem::unavailable)
             }
             Which::Other(other) => {
                 let lines: Vec<Bytes> = all.collect();
-                let replies = timeout(PATIENCE, other.exchange(&lines, false)).await;
+                let replies = timeout(REPLY, other.exchange(&lines, false)).await;
                 let lines = replies.ok().and_then(Result::ok).ok_or_else(Problem::unavailable)?;
-                let taken = self.room(lines.iter().map(Bytes::len).sum())?;
+                let taken = self.room(lines.iter().map(Bytes::len).sum()).await?;
                 Ok(Replies { lines, taken: Some(taken) })
             }
         }
@@ -79,14 +78,14 @@ impl Store {
         let line = Bytes::from(line);
         let replied = match &self.which {
             Which::Own(handle) => {
-                let lines = Lines { changes: vec![line], ..Lines::default() };
-                let replied = timeout(PATIENCE, own(handle, lines, &self.answers)).await;
+                let lines = Lines { changes: [line].into(), ..Lines::default() };
+                let replied = timeout(REPLY, own(handle, lines, &self.answers)).await;
                 replied
                     .map(|replied| replied.map(|replies| replies.ok_or(Lost::Sent)))
                     .map_err(|_| Problem::lost(true))??
             }
             Which::Other(other) => {
-                let replied = timeout(PATIENCE, other.exchange(&[line], true)).await;
+                let replied = timeout(REPLY, other.exchange(&[line], true)).await;
                 replied.map_err(|_| Problem::lost(true))?.map(|lines| Replies { lines, taken: None })
             }
         };
@@ -111,14 +110,14 @@ impl Store {
         }
         let (reply, answer) = oneshot::channel();
         let lines = [replies::rev(name), replies::get(name, "")].map(|line| shortened(line.into()));
-        let lines = Lines { questions: lines.to_vec(), ..Lines::default() };
+        let lines = Lines { questions: lines.into(), ..Lines::default() };
         handle.ask(Job {
             lines,
             room: self.answers.clone(),
             whole: true,
             reply: Reply::Document(name.to_owned(), reply),
         });
-        match timeout(PATIENCE, answer).await {
+        match timeout(REPLY, answer).await {
             Ok(Ok(found)) => found.map_err(|refused| Problem::of_reply(&refused)),
             _ => Err(Problem::unavailable()),
         }
@@ -146,7 +145,7 @@ impl Store {
     pub async fn rev_if_there(&self, name: &str) -> Result<Option<u64>, Problem> {
         match self.rev(name).await {
             Ok(rev) => Ok(Some(rev)),
-            Err(problem) if problem.number == Some(21) => Ok(None),
+            Err(problem) if problem.number == Some(NO_DOCUMENT) => Ok(None),
             Err(problem) => Err(problem),
         }
     }
@@ -183,9 +182,9 @@ async fn own(handle: &Handle, lines: Lines, room: &Room) -> Result<Option<Replie
     let count = lines.count();
     let (reply, answer) = oneshot::channel();
     handle.ask(Job { lines, room: room.clone(), whole: true, reply: Reply::Lines(reply) });
-    let answer = match timeout(PATIENCE, answer).await {
-        Ok(Ok(answer)) => answer.map_err(|_| no_room())?,
-        _ => return Ok(None),
+    let answer = match answer.await {
+        Ok(answer) => answer.map_err(|_| no_room())?,
+        Err(_) => return Ok(None),
     };
     let all = Bytes::from(answer.replies);
     let lines: Vec<Bytes> = all.split_inclusive(|byte| *byte == b'\n').map(|line| all.slice_ref(line)).collect();

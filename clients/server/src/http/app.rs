@@ -5,24 +5,11 @@ use super::facts::Counts;
 use super::guard::Guard;
 use super::reasons::Reasons;
 use super::trees::Trees;
+use crate::limits::{BODIES, EXPORTS, FOLLOWERS, GRACE, HEADS, PLACE, QUERIES};
 use crate::program::room::Room;
 use crate::store::Store;
-use std::sync::Arc;
 use std::time::Duration;
 use tokio::sync::Semaphore;
-
-/// The most bytes of bodies that are in memory at once, and of long heads, which anybody may send.
-const BODIES: usize = 1 << 25;
-const HEADS: usize = 1 << 25;
-
-/// The most queries that are asked at once: a reply to one may have 16 MiB.
-const MOST_QUERIES: usize = 8;
-
-/// The most clients that read all documents at once: each may have a file of them.
-const MOST_EXPORTS: usize = 16;
-
-/// The most clients that follow the changes.
-const MOST_FOLLOWERS: usize = 1000;
 
 /// The store over HTTP.
 pub struct App {
@@ -45,7 +32,7 @@ pub struct App {
     /// The bodies that are taken apart.
     pub trees: Trees,
     /// The clients that read all documents.
-    pub exports: Arc<Semaphore>,
+    pub exports: Room,
     /// The followers that there may be.
     pub followers: Room,
     /// How long a client may take for a request; for a piece of an answer half of it.
@@ -61,12 +48,12 @@ impl App {
             reasons,
             facts: Counts::default(),
             date: Clock::default(),
-            bodies: Room::new(BODIES),
-            heads: Room::new(HEADS),
-            queries: Semaphore::new(MOST_QUERIES),
+            bodies: Room::of_bytes(BODIES),
+            heads: Room::of_bytes(HEADS),
+            queries: Semaphore::new(QUERIES),
             trees: Trees::new(),
-            exports: Arc::new(Semaphore::new(MOST_EXPORTS)),
-            followers: Room::new(MOST_FOLLOWERS),
+            exports: Room::of_places(EXPORTS, GRACE),
+            followers: Room::of_places(FOLLOWERS, PLACE),
             patience,
         }
     }

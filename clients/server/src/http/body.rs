@@ -1,16 +1,15 @@
 //! The body of a request, read within limits of size and time.
 
+use super::fields::{is_field, is_text};
 use super::head::Framing;
 use super::problem::Problem;
-use crate::program::room::Taken;
+use crate::limits::{BODY as MOST_BODY, SMALL};
+use crate::program::room::{lost, Taken};
 use bytes::{Buf, BytesMut};
 use std::time::Duration;
 use tokio::io::{AsyncReadExt, AsyncWriteExt};
 use tokio::net::TcpStream;
-use tokio::time::timeout;
-
-/// The most bytes of a body. A line has half of that, so a text with blanks may be sent too.
-pub const MOST_BODY: usize = 1 << 21;
+use tokio::time::{timeout, timeout_at, Instant};
 
 /// The longest line between chunks, and the most bytes of all fields after the last one.
 const MOST_CHUNK_LINE: usize = 1 << 12;
@@ -48,6 +47,7 @@ enum Fault {
     NotWhole,
     TooLong,
     NoRoom,
+    Slow,
 }
 
 impl BodyState {
@@ -72,44 +72,52 @@ impl BodyState {
         !self.expects && !self.is_wrong && !is_long
     }
 
-    /// The body. The room for it is taken piece by piece.
+    /// The body. The room for it is taken, of one in chunks piece by piece, and none of it is given to others when it is whole.
     pub async fn all(
         &mut self,
         stream: &mut TcpStream,
         buffer: &mut BytesMut,
-        taken: &mut Taken,
+        taken: &mut Option<Taken>,
         patience: Duration,
     ) -> Result<Vec<u8>, Problem> {
         if matches!(self.left, Left::Length(length) if length > MOST_BODY as u64) {
             return Err(too_long());
         }
-        let read = timeout(patience, self.read(stream, buffer, Some(taken))).await;
-        self.is_wrong = !matches!(read, Ok(Ok(_)));
-        match read {
-            Ok(Ok(body)) => Ok(body),
-            Ok(Err(Fault::NotWhole)) => Err(Problem::new(400, "body", "the body is not whole")),
-            Ok(Err(Fault::TooLong)) => Err(too_long()),
-            Ok(Err(Fault::NoRoom)) => {
-                Err(Problem::busy("too many bytes of requests are on their way: send the request again"))
+        let read = timeout(patience, self.read(stream, buffer, taken, patience)).await.unwrap_or(Err(Fault::Slow));
+        taken.iter().for_each(|taken| taken.waits(false));
+        self.is_wrong = read.is_err();
+        read.map_err(|fault| match fault {
+            Fault::NotWhole => Problem::new(400, "body", "the body is not whole"),
+            Fault::TooLong => too_long(),
+            Fault::NoRoom => Problem::busy("too many bytes of requests are on their way: send the request again"),
+            Fault::Slow => {
+                let seconds = patience.as_secs();
+                let told =
+                    format!("the body did not come within {seconds} seconds, and half of that for {SMALL} bytes");
+                Problem::new(408, "slow", told)
             }
-            Err(_) => {
-                Err(Problem::new(408, "slow", format!("the body did not come within {} seconds", patience.as_secs())))
-            }
-        }
+        })
     }
 
     /// Reads what is left, and drops it; whether it came.
     pub async fn drop_rest(&mut self, stream: &mut TcpStream, buffer: &mut BytesMut, patience: Duration) -> bool {
-        matches!(timeout(patience, self.read(stream, buffer, None)).await, Ok(Ok(_)))
+        matches!(timeout(patience, self.read(stream, buffer, &mut None, patience)).await, Ok(Ok(_)))
     }
 
+    /// The body that is read, or nothing if no room is taken for it.
     async fn read(
         &mut self,
         stream: &mut TcpStream,
         buffer: &mut BytesMut,
-        mut taken: Option<&mut Taken>,
+        taken: &mut Option<Taken>,
+        patience: Duration,
     ) -> Result<Vec<u8>, Fault> {
         let (mut body, mut count_of_all) = (Vec::new(), 0);
+        let mut rate = LeastRate::new(patience / 2);
+        if let Left::Length(length) = self.left {
+            // At once, so that those who have a part of their room don't wait for each other.
+            has_room(taken, length as usize).await?;
+        }
         if std::mem::take(&mut self.expects) && buffer.is_empty() {
             stream.write_all(b"HTTP/1.1 100 Continue\r\n\r\n").await.map_err(|_| Fault::NotWhole)?;
         }
@@ -119,20 +127,27 @@ impl BodyState {
                 if count_of_all > MOST_BODY {
                     return Err(Fault::TooLong);
                 }
-                if let Some(taken) = &mut taken {
-                    if !taken.more(count) {
-                        return Err(Fault::NoRoom);
-                    }
+                if matches!(self.left, Left::InChunk(_)) {
+                    has_room(taken, count_of_all).await?;
+                }
+                if let Some(taken) = taken {
+                    taken.moved(count);
                     body.extend_from_slice(&buffer[..count]);
                 }
                 buffer.advance(count);
+                rate.moved(count);
             }
             if self.is_done() {
                 return Ok(body);
             }
             buffer.reserve(PIECE);
-            if stream.read_buf(buffer).await.map_err(|_| Fault::NotWhole)? == 0 {
-                return Err(Fault::NotWhole);
+            tokio::select! {
+                read = timeout_at(rate.deadline, stream.read_buf(buffer)) => match read {
+                    Ok(Ok(count)) if count > 0 => (),
+                    Ok(_) => return Err(Fault::NotWhole),
+                    Err(_) => return Err(Fault::Slow),
+                },
+                () = lost(taken) => return Err(Fault::NoRoom),
             }
         }
     }
@@ -167,13 +182,45 @@ impl BodyState {
                 },
                 Left::Trailer(read) => match line(buffer, MOST_TRAILER)? {
                     Some(line) if line.is_empty() => Left::Nothing,
-                    Some(line) if read + line.len() > MOST_TRAILER => return Err(Fault::NotWhole),
+                    Some(line) if read + line.len() > MOST_TRAILER || !is_field(&line) => return Err(Fault::NotWhole),
                     Some(line) => Left::Trailer(read + line.len()),
                     None => return Ok(None),
                 },
             };
         }
     }
+}
+
+/// The rate at which a client has to send at least: so much of a time for each small piece.
+struct LeastRate {
+    of_a_piece: Duration,
+    /// When the rest of this piece has to be there.
+    deadline: Instant,
+    moved: usize,
+}
+
+impl LeastRate {
+    fn new(of_a_piece: Duration) -> LeastRate {
+        LeastRate { of_a_piece, deadline: Instant::now() + of_a_piece, moved: 0 }
+    }
+
+    fn moved(&mut self, count: usize) {
+        self.moved += count;
+        if self.moved >= SMALL {
+            (self.moved, self.deadline) = (0, Instant::now() + self.of_a_piece);
+        }
+    }
+}
+
+/// Takes room for a body of so many bytes in all, from now on as one whose client is waited for.
+async fn has_room(taken: &mut Option<Taken>, size: usize) -> Result<(), Fault> {
+    if let Some(taken) = taken {
+        if !taken.becomes_soon(size).await {
+            return Err(Fault::NoRoom);
+        }
+        taken.waits(true);
+    }
+    Ok(())
 }
 
 fn too_long() -> Problem {
@@ -201,7 +248,9 @@ fn chunk_size(line: &[u8]) -> Option<u64> {
     let digits = line.iter().take_while(|byte| byte.is_ascii_hexdigit()).count();
     let rest = &line[digits..];
     // Blanks are allowed before an extension alone.
-    let is_end = rest.is_empty() || rest.iter().find(|byte| !matches!(byte, b' ' | b'\t')) == Some(&b';');
+    let is_extension = || rest.iter().copied().all(is_text);
+    let is_end =
+        rest.is_empty() || (rest.iter().find(|byte| !matches!(byte, b' ' | b'\t')) == Some(&b';') && is_extension());
     let text = std::str::from_utf8(&line[..digits]).ok().filter(|_| is_end && (1..=16).contains(&digits))?;
     u64::from_str_radix(text, 16).ok()
 }
@@ -246,6 +295,11 @@ mod tests {
             b"0\r\n\n",
             b"2 \r\n{}\r\n0\r\n\r\n",
             b"12345678901234567\r\n",
+            b"2;x=\0\r\n{}\r\n0\r\n\r\n",
+            b"0\r\nX\r\n\r\n",
+            b"0\r\nX: 1\r\n 2\r\n\r\n",
+            b"0\r\nX : 1\r\n\r\n",
+            b"0\r\nX: \0\r\n\r\n",
         ] {
             assert_eq!(read(Framing::Chunks, sent), None, "{:?}", String::from_utf8_lossy(sent));
         }

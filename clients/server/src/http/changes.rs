@@ -27,8 +27,9 @@ const PIECE: usize = 1 << 16;
 /// How long a client waits before it connects again, in milliseconds.
 const RETRY: &str = "retry: 1000\n\n";
 
-/// How long it waits before it connects to another server again.
+/// How long it waits before it connects to another server again: twice as long each time, since all followers do so.
 const PAUSE: Duration = Duration::from_millis(50);
+const LONGEST_PAUSE: Duration = Duration::from_secs(2);
 
 /// How long after a change that isn't wanted its number is told, so that a client that comes again goes on after it.
 const LAG: Duration = Duration::from_secs(1);
@@ -44,7 +45,8 @@ pub struct Events {
     begin: Option<Bytes>,
     told: Told,
     is_done: bool,
-    _follower: Taken,
+    /// Its place among the followers, until it is sent.
+    pub place: Option<Taken>,
 }
 
 enum Source {
@@ -106,7 +108,7 @@ pub async fn follow(request: &Request<'_>) -> Result<Response, Problem> {
     let (since, history, wanted) = asked(request)?;
     let app = &request.app;
     let busy = || Problem::new(503, "busy", "1000 clients follow the changes already").with("Retry-After", "10");
-    let follower = app.followers.take(1).ok_or_else(busy)?;
+    let follower = app.followers.take_soon(1).await.ok_or_else(busy)?;
     let events = Events::begin(&app.store, since, history, wanted, follower).await?;
     let mut response = Response::empty(200).with("Cache-Control", "no-store").with("X-Accel-Buffering", "no");
     response.kind = "text/event-stream; charset=utf-8";
@@ -161,14 +163,14 @@ impl Events {
                 (Source::Own { history, news, since }, since, name)
             }
             Which::Other(other) => {
-                let mut followed = Followed { path: other.path.clone(), since, name, stream: None };
+                let mut followed = Followed { path: other.path.clone(), since, name, stream: None, pause: PAUSE };
                 followed.connect().await?;
                 let (since, name) = (followed.since.unwrap_or(0), followed.name.clone().unwrap_or_default());
                 (Source::Other(followed), since, name)
             }
         };
         let begin = Some(format!("id: {since}-{name}\n{RETRY}").into());
-        Ok(Events { source, wanted, begin, told: Told::now(since), is_done: false, _follower: follower })
+        Ok(Events { source, wanted, begin, told: Told::now(since), is_done: false, place: Some(follower) })
     }
 
     /// The next events; none at the end. What came is kept if this is broken off.
@@ -244,6 +246,8 @@ struct Followed {
     since: Option<u64>,
     name: Option<String>,
     stream: Option<LineStream>,
+    /// How long it waits next.
+    pause: Duration,
 }
 
 impl Followed {
@@ -266,7 +270,7 @@ impl Followed {
         }
         self.since = told.get("from").and_then(Value::as_u64);
         self.name = told.get("history").and_then(Value::as_str).map(str::to_owned);
-        self.stream = Some(stream);
+        (self.stream, self.pause) = (Some(stream), PAUSE);
         Ok(())
     }
 
@@ -301,7 +305,8 @@ impl Followed {
                 }
                 _ => {
                     self.stream = None;
-                    tokio::time::sleep(PAUSE).await;
+                    tokio::time::sleep(self.pause).await;
+                    self.pause = LONGEST_PAUSE.min(2 * self.pause);
                 }
             }
         }

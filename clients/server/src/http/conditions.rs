@@ -2,6 +2,7 @@
 
 use super::head::Head;
 use super::problem::Problem;
+use crate::refusals::{EXISTS, NO_DOCUMENT, REVISION};
 
 /// The value of `If-Match` or `If-None-Match`.
 #[derive(Debug, PartialEq, Eq)]
@@ -91,17 +92,17 @@ impl Condition {
 /// The problem of a condition that doesn't hold.
 fn failed(rev: Option<u64>) -> Problem {
     match rev {
-        None => Problem::refused(21, "`If-Match` asks for a document that is there").status(412),
+        None => Problem::refused(NO_DOCUMENT, "`If-Match` asks for a document that is there").status(412),
         Some(rev) => {
             let told = format!("the document has the revision {rev}: read it again, and send a change that fits it");
-            Problem { rev: Some(rev), ..Problem::refused(24, told) }.with("ETag", tag_of(rev))
+            Problem { rev: Some(rev), ..Problem::refused(REVISION, told) }.with("ETag", tag_of(rev))
         }
     }
 }
 
 /// The problem of a document that must not be there.
 pub fn exists(rev: Option<u64>) -> Problem {
-    Problem { rev, ..Problem::refused(20, "`If-None-Match` asks for a name without a document").status(412) }
+    Problem { rev, ..Problem::refused(EXISTS, "`If-None-Match` asks for a name without a document").status(412) }
 }
 
 /// The entity tag of a revision.

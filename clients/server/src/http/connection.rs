@@ -3,16 +3,16 @@
 use super::app::App;
 use super::body::BodyState;
 use super::changes::Events;
-use super::date;
 use super::head::{self, Head};
 use super::once::Once;
+use super::pace;
 use super::problem::{phrase_of, Problem};
 use super::response::{Body, Response};
 use super::routes;
 use super::target;
-use crate::doors::{let_in, Places};
+use crate::doors::{let_in, Guest, Places};
 use crate::ending::Ending;
-use crate::program::room::Taken;
+use crate::program::room::{lost, Taken};
 use bytes::{Bytes, BytesMut};
 use std::io;
 use std::sync::Arc;
@@ -37,7 +37,8 @@ const MOST_DROPPED: usize = 1 << 25;
 pub async fn serve(listener: TcpListener, app: Arc<App>, places: Places, ending: Ending) {
     let listener = &listener;
     let accept = || async move { Ok(listener.accept().await?.0) };
-    let_in(places, ending.clone(), accept, |stream| Connection::new(stream, app.clone(), ending.clone()).serve()).await;
+    let serve = |stream, guest| Connection::new(stream, app.clone(), ending.clone(), guest).serve();
+    let_in(places, ending.clone(), accept, serve).await;
 }
 
 /// A connection of a client.
@@ -50,6 +51,9 @@ pub struct Connection {
     body: BodyState,
     app: Arc<App>,
     ending: Ending,
+    guest: Arc<Guest>,
+    /// What is taken of others for what is written now.
+    held: Option<Taken>,
 }
 
 /// A request whose head was read.
@@ -67,14 +71,20 @@ pub struct Request<'c> {
     /// How it is made once, if it changes something and says so.
     pub once: Option<Once>,
     connection: &'c mut Connection,
-    taken: Taken,
+    taken: Option<Taken>,
 }
 
 impl Request<'_> {
     /// The body.
     pub async fn body(&mut self) -> Result<Vec<u8>, Problem> {
-        let Connection { stream, buffer, body, app, .. } = &mut *self.connection;
-        let read = body.all(stream, buffer, &mut self.taken, app.patience).await?;
+        let Connection { stream, buffer, body, app, guest, .. } = &mut *self.connection;
+        guest.is_waited_for();
+        let read = tokio::select! {
+            biased;
+            read = body.all(stream, buffer, &mut self.taken, app.patience) => read?,
+            () = guest.must_leave() => return Err(Problem::new(408, "slow", "others wait for the place of this client")),
+        };
+        guest.waits();
         if let Some(once) = &mut self.once {
             once.take_body(&read);
         }
@@ -90,9 +100,10 @@ enum After {
 }
 
 impl Connection {
-    fn new(stream: TcpStream, app: Arc<App>, ending: Ending) -> Connection {
+    fn new(stream: TcpStream, app: Arc<App>, ending: Ending, guest: Arc<Guest>) -> Connection {
         let body = BodyState::new(head::Framing::Length(0), false);
-        Connection { stream, buffer: BytesMut::new(), looked: 0, was_long: false, body, app, ending }
+        let buffer = BytesMut::new();
+        Connection { stream, buffer, looked: 0, was_long: false, body, app, ending, guest, held: None }
     }
 
     async fn serve(mut self) {
@@ -106,10 +117,7 @@ impl Connection {
         loop {
             let head = match self.head().await? {
                 Some(Ok(head)) => head,
-                Some(Err(malformed)) => {
-                    self.write(malformed_answer(&malformed).as_bytes()).await?;
-                    return self.close().await;
-                }
+                Some(Err(refused)) => return self.refuse(refused).await,
                 None => return Ok(()),
             };
             if self.answer(head).await? == After::Close {
@@ -118,35 +126,54 @@ impl Connection {
         }
     }
 
+    /// Answers what is no request, and ends the connection.
+    async fn refuse(&mut self, refused: head::Refused) -> io::Result<()> {
+        let head::Refused { why, known } = refused;
+        let problem = match why.status {
+            503 => Problem::busy(why.told),
+            status => Problem::new(status, "request", why.told),
+        };
+        let mut response = problem.response();
+        response.fields.extend(self.app.guard.allowance(&known));
+        self.app.facts.count(&known.method, response.status);
+        self.send(response, known.method == "HEAD", known.is_1_1, true).await?;
+        self.close().await
+    }
+
     /// The next head; none if the client has ended, was idle for too long, or the server ends.
-    async fn head(&mut self) -> io::Result<Option<Result<Head, head::Malformed>>> {
+    async fn head(&mut self) -> io::Result<Option<Result<Head, head::Refused>>> {
         let deadline = Instant::now() + self.app.patience;
-        let (mut taken, mut size) = (self.app.heads.begin(), READ);
+        let mut taken = None;
+        self.guest.is_waited_for();
         loop {
-            match head::take(&mut self.buffer, &mut self.looked) {
-                Ok(Some(head)) => return Ok(Some(Ok(head))),
-                Ok(None) => (),
-                Err(malformed) => return Ok(Some(Err(malformed))),
+            let found = head::take(&mut self.buffer, &mut self.looked);
+            if let Some(found) = found.transpose() {
+                self.guest.waits();
+                return Ok(Some(found));
             }
-            if self.buffer.len() > size {
+            if self.buffer.len() > READ {
                 self.was_long = true;
-                if !taken.more(self.buffer.len() - size) {
-                    return Ok(Some(Err(head::NO_ROOM)));
+                let taken = taken.get_or_insert_with(|| self.app.heads.begin());
+                if !taken.becomes(self.buffer.len()) {
+                    return Ok(Some(Err(head::Refused::of(head::NO_ROOM, &self.buffer))));
                 }
-                size = self.buffer.len();
+                taken.waits(true);
             }
             if self.was_long && self.buffer.is_empty() {
                 (self.buffer, self.was_long) = (BytesMut::new(), false);
             }
             self.buffer.reserve(READ);
-            let Connection { stream, buffer, ending, .. } = self;
+            let Connection { stream, buffer, ending, guest, .. } = self;
             let read = tokio::select! {
+                biased;
                 read = timeout_at(deadline, stream.read_buf(buffer)) => read,
                 () = ending.begun() => return Ok(None),
+                () = guest.must_leave() => return Ok(None),
+                () = lost(&taken) => return Ok(Some(Err(head::Refused::of(head::NO_ROOM, buffer)))),
             };
             match read {
                 Ok(Ok(0)) | Err(_) => return Ok(None),
-                Ok(Ok(_)) => (),
+                Ok(Ok(count)) => taken.iter().for_each(|taken| taken.moved(count)),
                 Ok(Err(error)) => return Err(error),
             }
         }
@@ -162,18 +189,20 @@ impl Connection {
         app.facts.count(&method, response.status);
         // A stream of which an old client can't see the end, or a body that can't be passed over.
         let must_close = (response.is_stream() && !is_1_1) || (!self.body.is_done() && !self.body.may_be_dropped());
-        let closes = !keeps || must_close || self.ending.has_begun() || response.status == 408;
+        let is_end = self.ending.has_begun() || self.guest.is_last();
+        let closes = !keeps || must_close || is_end || response.status == 408;
         self.send(response, method == "HEAD", is_1_1, closes).await?;
         if closes {
             return Ok(After::Close);
         }
         let Connection { stream, buffer, body, app, .. } = self;
         let is_read = body.is_done() || body.drop_rest(stream, buffer, app.patience).await;
-        Ok(if is_read { After::Next } else { After::Close })
+        Ok(if is_read && !self.guest.is_last() { After::Next } else { After::Close })
     }
 
     async fn response(&mut self, head: Head, app: &Arc<App>) -> Response {
-        let parts = match target::parts(&head.target) {
+        let is_for = |parts: &target::Target| parts.path != target::WHOLE_SERVER || head.method == "OPTIONS";
+        let parts = match target::parts(&head.target).filter(is_for) {
             Some(parts) => parts,
             None => {
                 return Problem::new(400, "request", "the target of the request is no address of this server")
@@ -181,7 +210,7 @@ impl Connection {
             }
         };
         let (path, query, host) = (parts.path.to_owned(), parts.query.to_owned(), parts.host.map(str::to_owned));
-        let taken = app.bodies.begin();
+        let taken = Some(app.bodies.begin());
         let request = Request { app: app.clone(), head, path, query, host, once: None, connection: self, taken };
         routes::answered(request).await.unwrap_or_else(Problem::response)
     }
@@ -195,9 +224,12 @@ impl Connection {
             add_field(&mut head, "Connection", "keep-alive");
         }
         match response.body {
-            Body::Bytes(bytes, _taken) if response.status != 304 => {
+            Body::Bytes(bytes, taken) if response.status != 304 => {
                 add_field(&mut head, "Content-Length", &bytes.len().to_string());
-                self.send_bytes(head + "\r\n", if is_head { Bytes::new() } else { bytes }).await
+                self.held = taken;
+                let sent = self.send_bytes(head + "\r\n", if is_head { Bytes::new() } else { bytes }).await;
+                self.held = None;
+                sent
             }
             Body::Bytes(..) | Body::None => {
                 if !matches!(response.status, 204 | 304) {
@@ -210,11 +242,13 @@ impl Connection {
                     add_field(&mut head, "Transfer-Encoding", "chunked");
                 }
                 self.write((head + "\r\n").as_bytes()).await?;
-                match stream {
+                let sent = match stream {
                     Body::Events(events) if !is_head => self.send_events(*events, is_1_1).await,
                     Body::Lines(lines) if !is_head => self.send_lines(*lines, is_1_1).await,
                     _ => Ok(()),
-                }
+                };
+                self.held = None;
+                sent
             }
         }
     }
@@ -246,29 +280,40 @@ impl Connection {
             return self.write(&first).await;
         }
         self.write(&first).await?;
-        for piece in bytes.chunks(PIECE) {
-            self.write(piece).await?;
-        }
-        Ok(())
+        self.write(&bytes).await
     }
 
-    /// Writes bytes; a client that doesn't take them in time is given up.
+    /// Writes bytes; a client that takes too few of them in time, or whose place or room others need more, is given up.
     async fn write(&mut self, bytes: &[u8]) -> io::Result<()> {
         let written = match self.stream.try_write(bytes) {
-            Ok(count) if count == bytes.len() => return Ok(()),
+            Ok(count) if count == bytes.len() => {
+                self.moved(count);
+                return Ok(());
+            }
             Ok(count) => count,
             Err(error) if error.kind() == io::ErrorKind::WouldBlock => 0,
             Err(error) => return Err(error),
         };
-        let patience = self.app.patience / 2;
-        match timeout(patience, self.stream.write_all(&bytes[written..])).await {
-            Ok(done) => done,
-            Err(_) => {
-                // What it doesn't take would else be kept for it.
-                self.stream.set_linger(Some(Duration::ZERO))?;
-                Err(io::ErrorKind::TimedOut.into())
-            }
+        self.guest.is_waited_for();
+        let Connection { stream, app, guest, held, .. } = &mut *self;
+        held.iter().for_each(|taken| taken.waits(true));
+        let moved = |count| held.iter().for_each(|taken| taken.moved(count));
+        let done = tokio::select! {
+            done = pace::write_all(stream, &bytes[written..], app.patience / 2, moved) => done,
+            () = guest.must_leave() => Err(io::ErrorKind::TimedOut.into()),
+            () = lost(held) => Err(io::ErrorKind::TimedOut.into()),
+        };
+        self.guest.waits();
+        if matches!(&done, Err(error) if error.kind() == io::ErrorKind::TimedOut) {
+            // What it doesn't take would else be kept for it.
+            self.stream.set_linger(Some(Duration::ZERO))?;
         }
+        done
+    }
+
+    /// Notes that the client took so many bytes.
+    fn moved(&self, size: usize) {
+        self.held.iter().for_each(|taken| taken.moved(size));
     }
 
     async fn write_piece(&mut self, piece: &[u8], in_chunks: bool) -> io::Result<()> {
@@ -297,10 +342,13 @@ impl Connection {
 
     /// Sends the changes until the client goes away, or is too slow, or the server ends.
     async fn send_events(&mut self, mut events: Events, in_chunks: bool) -> io::Result<()> {
+        self.held = events.place.take();
+        self.held.iter().for_each(|place| place.waits(true));
         loop {
             self.buffer.reserve(READ);
+            self.guest.follows();
             let next = {
-                let Connection { stream, buffer, ending, .. } = &mut *self;
+                let Connection { stream, buffer, ending, held, guest, .. } = &mut *self;
                 tokio::select! {
                     next = timeout(BEAT, events.next()) => next.map_or(Next::Beat, Next::Event),
                     read = stream.read_buf(buffer), if buffer.len() < PIECE => match read? {
@@ -308,6 +356,8 @@ impl Connection {
                         _ => Next::Nothing,
                     },
                     () = ending.begun() => Next::Event(None),
+                    () = lost(held) => Next::Event(None),
+                    () = guest.must_leave() => Next::Event(None),
                 }
             };
             match next {
@@ -320,6 +370,7 @@ impl Connection {
     }
 
     async fn send_lines(&mut self, mut lines: super::lines::DocumentLines, in_chunks: bool) -> io::Result<()> {
+        self.held = lines.place.take();
         while let Some(piece) = lines.next().await? {
             self.write_piece(&piece, in_chunks).await?;
         }
@@ -331,8 +382,13 @@ impl Connection {
         self.stream.shutdown().await?;
         let deadline = Instant::now() + LINGER;
         let (mut dropped, mut piece) = (0, vec![0; READ]);
+        self.guest.is_waited_for();
         while dropped < MOST_DROPPED && !self.ending.has_begun() {
-            match timeout_at(deadline, self.stream.read(&mut piece)).await {
+            let read = tokio::select! {
+                read = timeout_at(deadline, self.stream.read(&mut piece)) => read,
+                () = self.guest.must_leave() => break,
+            };
+            match read {
                 Ok(Ok(count)) if count > 0 => dropped += count,
                 _ => break,
             }
@@ -354,14 +410,4 @@ fn add_field(text: &mut String, name: &str, value: &str) {
     // No value that came from a client has these: else it could add fields.
     text.extend(value.chars().filter(|letter| !matches!(letter, '\r' | '\n' | '\0')));
     text.push_str("\r\n");
-}
-
-fn malformed_answer(malformed: &head::Malformed) -> String {
-    let (status, told) = (malformed.status, malformed.told);
-    let mut text = format!("HTTP/1.1 {status} {}\r\n", phrase_of(status));
-    add_field(&mut text, "Content-Type", "text/plain; charset=utf-8");
-    add_field(&mut text, "Date", &date::now());
-    add_field(&mut text, "Connection", "close");
-    add_field(&mut text, "Content-Length", &(told.len() + 1).to_string());
-    text + "\r\n" + told + "\n"
 }

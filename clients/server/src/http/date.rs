@@ -10,11 +10,6 @@ fn seconds() -> u64 {
     SystemTime::now().duration_since(UNIX_EPOCH).map_or(0, |since| since.as_secs())
 }
 
-/// The date and time now, as the field has it.
-pub fn now() -> String {
-    text_of(seconds())
-}
-
 /// The text of the second that is now, made once.
 #[derive(Default)]
 pub struct Clock(Mutex<(u64, String)>);

@@ -1,8 +1,12 @@
 //! The documents as resources.
 
+use super::accept;
 use super::conditions::{exists, tag_of, Condition};
 use super::connection::Request;
+use super::filters::{self, notice};
+use super::guard::host_of;
 use super::lines::DocumentLines;
+use super::link;
 use super::making::{changed, done, make, or_problem, Refused};
 use super::merge::{operations_of, replacement_of};
 use super::notices::notices_in;
@@ -13,32 +17,31 @@ use super::target::parameters;
 use crate::json::canonical::{canonical, value_of};
 use crate::json::compact::{LEVELS_OF_A_DOCUMENT, LEVELS_OF_A_LINE};
 use crate::json::{compact, quoted, Compact, Fault};
+use crate::limits::SMALL;
 use crate::lines::replies::{self, names_in, text_in, told_names};
 use crate::lines::MOST_LINE;
 use crate::program::room::Taken;
+use crate::refusals::{EXISTS, NO_DOCUMENT, REVISION};
 use crate::store::{too_busy, ATTEMPTS};
 use bytes::Bytes;
 
 /// The media types of a document and of patches. Each that ends in `+json` is one of a document too, but those of patches.
 pub const JSON: &str = "application/json";
+const LINES: &str = "application/x-ndjson";
 const PATCHES: [&str; 2] = ["application/json-patch+json", "application/merge-patch+json"];
-const ACCEPT_PATCH: &str = "application/json-patch+json, application/merge-patch+json";
+pub const ACCEPT_PATCH: &str = "application/json-patch+json, application/merge-patch+json";
 
 /// What the line of a change has at most beside its document or its operations.
 const MOST_BESIDE: usize = 512;
-
-/// Up to this size a document is sent without room being taken for it.
-const SHORT: usize = 1 << 16;
 
 /// The names in the order of creation, or the documents themselves as lines of JSON.
 pub async fn names(request: &Request<'_>) -> Result<Response, Problem> {
     let [prefix] = parameters(&request.query, ["prefix"])?;
     let (prefix, store) = (prefix.unwrap_or_default(), &request.app.store);
-    let accepted = request.head.list("accept").unwrap_or_default().to_ascii_lowercase();
-    if accepted.contains("application/x-ndjson") {
+    if accept::names(&request.head.list("accept").unwrap_or_default(), LINES, JSON) {
         let (seq, lines) = DocumentLines::begin(&request.app, &prefix).await?;
         let mut response = Response::empty(200).with("Vary", "Accept").with("Jpstore-Seq", seq.to_string());
-        response.kind = "application/x-ndjson";
+        response.kind = LINES;
         response.body = Body::Lines(Box::new(lines));
         return Ok(response);
     }
@@ -51,22 +54,30 @@ pub async fn names(request: &Request<'_>) -> Result<Response, Problem> {
 pub async fn get(request: &Request<'_>, name: &str) -> Result<Response, Problem> {
     let [pointer, query] = parameters(&request.query, ["pointer", "query"])?;
     let store = &request.app.store;
+    let mut warning = None;
     let (rev, text, taken) = match (pointer, query) {
         (Some(_), Some(_)) => {
             return Err(Problem::new(400, "parameter", "a request has `pointer` or `query`, and not both"))
         }
-        (None, Some(query)) => queried(request, name, &query).await?,
+        (None, Some(query)) => {
+            let found = queried(request, name, &query).await?;
+            if &found.1[..] == b"[]" {
+                warning = notice(request, name, &query).await?;
+            }
+            found
+        }
         (Some(pointer), None) if !pointer.is_empty() => {
             store.of_one_moment(name, &replies::get(name, &pointer)).await?
         }
         _ => {
             let document = store.document(name).await?;
             let text = document.text.clone();
-            let taken = if text.len() > SHORT { Some(store.room(text.len())?) } else { None };
+            let taken = if text.len() > SMALL { Some(store.room(text.len()).await?) } else { None };
             (document.rev, text, taken)
         }
     };
-    read(request, name, rev, text, taken, JSON)
+    let response = read(request, name, rev, text, taken, JSON)?;
+    Ok(warning.into_iter().fold(response, |response, told| response.with(filters::FIELD, told)))
 }
 
 async fn queried(request: &Request<'_>, name: &str, query: &str) -> Result<(u64, Bytes, Option<Taken>), Problem> {
@@ -102,12 +113,6 @@ pub fn about(response: Response, name: &str, rev: u64) -> Response {
     response.with("ETag", tag_of(rev)).with("Link", link).with("Accept-Patch", ACCEPT_PATCH)
 }
 
-/// What may be done with a document.
-pub fn options() -> Response {
-    let allowed = "GET, HEAD, PUT, PATCH, DELETE, OPTIONS";
-    Response::empty(204).with("Allow", allowed).with("Accept-Patch", ACCEPT_PATCH)
-}
-
 /// Checks the media type of the body, and answers it in small letters.
 pub fn check_kind(request: &Request<'_>, kinds: &[&str]) -> Result<String, Problem> {
     let field = request.head.field("content-type").unwrap_or(JSON);
@@ -136,7 +141,8 @@ pub async fn text_of(request: &mut Request<'_>) -> Result<Compact, Problem> {
         let problem = Problem::new(415, "coding", "the body must not be compressed");
         return Err(problem.with("Accept-Encoding", "identity"));
     }
-    checked(&request.body().await?)
+    let body = request.body().await?;
+    request.app.trees.work(body.len(), || checked(&body)).await
 }
 
 /// A text that was checked, or the problem of one that no line can carry.
@@ -168,9 +174,47 @@ fn patching(name: &str, rev: Option<u64>, ops: &[u8]) -> Vec<u8> {
     [b"{\"cmd\":\"patch\",", rev.as_bytes(), b"\"name\":", quoted(name).as_bytes(), b",\"ops\":", ops, b"}\n"].concat()
 }
 
+/// The line that puts a document under another schema.
+pub fn setting(name: &str, schema: &[u8]) -> Vec<u8> {
+    [b"{\"cmd\":\"schema\",\"name\":", quoted(name).as_bytes(), b",\"schema\":", schema, b"}\n"].concat()
+}
+
+/// The line that replaces the whole of a document, and its schema too if one is given.
+fn replacement(name: &str, rev: Option<u64>, doc: &[u8], schema: Option<&[u8]>) -> Vec<u8> {
+    let ops = [b"[{\"op\":\"replace\",\"path\":\"\",\"value\":", doc, b"}]"].concat();
+    match schema {
+        None => patching(name, rev, &ops),
+        Some(schema) => {
+            // The old schema need not allow the new document, nor the new schema the old document.
+            let guard = rev.map(|rev| patching(name, Some(rev), b"[]"));
+            let changes = [setting(name, b"true"), patching(name, None, &ops), setting(name, schema)];
+            transaction(&guard.into_iter().chain(changes).collect::<Vec<_>>())
+        }
+    }
+}
+
+/// The line of a transaction, of the lines of its changes.
+fn transaction(changes: &[Vec<u8>]) -> Vec<u8> {
+    let changes: Vec<&[u8]> = changes.iter().map(|line| line.strip_suffix(b"\n").unwrap_or(line)).collect();
+    [b"{\"changes\":[", &changes.join(&b","[..])[..], b"],\"cmd\":\"transaction\"}\n"].concat()
+}
+
+/// Refuses a name to which no path leads: clients take it for a step to another path (RFC 3986, section 5.2.4).
+pub fn check_path(name: &str) -> Result<(), Problem> {
+    match name {
+        "." | ".." => Err(Problem::new(
+            400,
+            "request",
+            format!("clients can't ask for the path of `{name}`: choose another name"),
+        )),
+        _ => Ok(()),
+    }
+}
+
 /// Makes a document, or replaces the whole of it.
 pub async fn put(request: &mut Request<'_>, name: &str) -> Result<Response, Problem> {
     let [schema] = parameters(&request.query, ["schema"])?;
+    check_path(name)?;
     check_kind(request, &[JSON])?;
     let condition = Condition::of(&request.head)?;
     let doc = text_of(request).await?;
@@ -182,10 +226,12 @@ pub async fn put(request: &mut Request<'_>, name: &str) -> Result<Response, Prob
         Err(problem) => (None, Err(problem)),
     };
     let made = or_before(request, made).await?;
-    Ok(changed(name, made, &schema.map_or_else(Vec::new, |schema| notices_in(&schema))))
+    let schema = schema.unwrap_or_default();
+    let notices = request.app.trees.work(schema.len(), || notices_in(&schema)).await;
+    Ok(changed(name, made, &notices))
 }
 
-/// Makes a document under a schema, or makes it under `true` or replaces it.
+/// Makes a document or replaces it; with a schema it is under that one then, else under its own, and a new one under `true`.
 async fn put_made(
     request: &Request<'_>,
     name: &str,
@@ -193,15 +239,8 @@ async fn put_made(
     schema: Option<&[u8]>,
     condition: &Condition,
 ) -> Result<Made, Problem> {
-    if let Some(schema) = schema {
-        condition.check(None)?;
-        return match make(request, creation(name, &doc.text, schema), 201).await? {
-            Err(Refused { number: 20, .. }) if condition.is_only_new() => Err(exists(None)),
-            made => or_problem(request, made).await,
-        };
-    }
     for _ in 0..ATTEMPTS {
-        if let Some(made) = put_at(request, name, doc, condition).await? {
+        if let Some(made) = put_at(request, name, doc, schema, condition).await? {
             return Ok(made);
         }
     }
@@ -213,8 +252,10 @@ async fn put_at(
     request: &Request<'_>,
     name: &str,
     doc: &Compact,
+    schema: Option<&[u8]>,
     condition: &Condition,
 ) -> Result<Option<Made>, Problem> {
+    let new = creation(name, &doc.text, schema.unwrap_or(b"true"));
     let mut rev = None;
     if condition.is_given() && !condition.is_only_new() {
         rev = request.app.store.rev_if_there(name).await?;
@@ -222,19 +263,20 @@ async fn put_at(
     }
     if rev.is_some() || !condition.is_given() {
         check_levels(name, doc)?;
-        let ops = [b"[{\"op\":\"replace\",\"path\":\"\",\"value\":", &doc.text[..], b"}]"].concat();
-        match make(request, patching(name, rev, &ops), 200).await? {
+        match make(request, replacement(name, rev, &doc.text, schema), 200).await? {
             Ok(made) => return Ok(Some(made)),
-            Err(Refused { number: 24, .. }) => return Ok(None),
-            Err(Refused { number: 21, .. }) if rev.is_some() => return Ok(None),
-            Err(Refused { number: 21, .. }) => (),
+            Err(Refused { number: REVISION, .. }) => return Ok(None),
+            Err(Refused { number: NO_DOCUMENT, .. }) if rev.is_some() => return Ok(None),
+            Err(Refused { number: NO_DOCUMENT, .. }) => (),
+            // It is judged as a whole, as a new document would be.
+            Err(refused) if schema.is_some() => return Err(refused.of_one(&new).problem(&request.app).await),
             Err(refused) => return Err(refused.problem(&request.app).await),
         }
     }
-    match make(request, creation(name, &doc.text, b"true"), 201).await? {
+    match make(request, new, 201).await? {
         Ok(made) => Ok(Some(made)),
-        Err(Refused { number: 20, .. }) if condition.is_only_new() => Err(exists(None)),
-        Err(Refused { number: 20, .. }) => Ok(None),
+        Err(Refused { number: EXISTS, .. }) if condition.is_only_new() => Err(exists(None)),
+        Err(Refused { number: EXISTS, .. }) => Ok(None),
         Err(refused) => Err(refused.problem(&request.app).await),
     }
 }
@@ -252,31 +294,26 @@ fn check_levels(name: &str, doc: &Compact) -> Result<(), Problem> {
 
 /// The schema that a new document is to have: in `?schema=`, or by `Link` that of another document.
 async fn schema_asked(request: &Request<'_>, text: Option<String>) -> Result<Option<Vec<u8>>, Problem> {
-    let fields = request.head.list("link").unwrap_or_default();
-    let links: Vec<&str> = fields.split(',').filter_map(described_by).collect();
-    match (text, &links[..]) {
+    let wrong = || {
+        let told = "one schema is given: by `?schema=`, or by `Link: </schemas/NAME>; rel=\"describedby\"` to one here";
+        Problem::new(400, "link", told)
+    };
+    let links = request.head.list("link").unwrap_or_default();
+    let targets = link::described_by(&links).ok_or_else(wrong)?;
+    match (text, &targets[..]) {
         (None, []) => Ok(None),
         (Some(text), []) => match checked(text.as_bytes()) {
             Ok(schema) => Ok(Some(schema.text)),
             Err(problem) => Err(Problem { detail: format!("`schema`: {}", problem.detail), ..problem }),
         },
-        (None, [link]) if link.starts_with("/schemas/") && link.len() > 9 && !link[9..].contains('/') => {
-            let reply = request.app.store.one(replies::get_schema(&link[9..])).await?;
+        (None, [target]) => {
+            let host = host_of(&request.head, request.host.as_deref())?;
+            let name = link::name_at(target, &host).ok_or_else(wrong)?;
+            let reply = request.app.store.one(replies::get_schema(&name)).await?;
             text_in(&reply).map(|text| Some(text.to_vec())).ok_or_else(|| Problem::of_reply(&reply))
         }
-        _ => {
-            let told = "one schema is given: by `?schema=`, or by a `Link` to `/schemas/NAME` here";
-            Err(Problem::new(400, "link", told))
-        }
+        _ => Err(wrong()),
     }
-}
-
-/// The target of a link that says by what a document is described.
-fn described_by(link: &str) -> Option<&str> {
-    let (target, rest) = link.trim().strip_prefix('<')?.split_once('>')?;
-    let (name, relation) = rest.trim().strip_prefix(';')?.split_once('=')?;
-    let relation = relation.trim().trim_matches('"');
-    (name.trim().eq_ignore_ascii_case("rel") && relation.eq_ignore_ascii_case("describedby")).then(|| target)
 }
 
 /// Changes a document by a JSON Patch or a JSON Merge Patch.
@@ -297,11 +334,14 @@ async fn patch_made(
     condition: &Condition,
 ) -> Result<Made, Problem> {
     for _ in 0..ATTEMPTS {
-        let rev = revision_allowed(request, name, condition, is_merge).await?;
-        let ops = if is_merge { merging(request, name, patch).await? } else { patch.text.clone() };
+        let (rev, ops) = if is_merge {
+            merging(request, name, patch, condition).await?
+        } else {
+            (revision_allowed(request, name, condition).await?, patch.text.clone())
+        };
         match make(request, patching(name, rev, &ops), 200).await? {
             Ok(made) => return Ok(made),
-            Err(Refused { number: 24, rev: found, .. }) if rev.is_some() => condition.check(found)?,
+            Err(Refused { number: REVISION, rev: found, .. }) if rev.is_some() => condition.check(found)?,
             Err(refused) => return Err(refused.problem(&request.app).await),
         }
     }
@@ -309,16 +349,11 @@ async fn patch_made(
 }
 
 /// The revision of which a change may be made; none if that doesn't matter.
-async fn revision_allowed(
-    request: &Request<'_>,
-    name: &str,
-    condition: &Condition,
-    always: bool,
-) -> Result<Option<u64>, Problem> {
-    if !condition.is_given() && !always {
+async fn revision_allowed(request: &Request<'_>, name: &str, condition: &Condition) -> Result<Option<u64>, Problem> {
+    if !condition.is_given() {
         return Ok(None);
     }
-    if !always && condition.only_revision().is_some() {
+    if condition.only_revision().is_some() {
         // The store compares it, and tells the other one.
         return Ok(condition.only_revision());
     }
@@ -327,19 +362,29 @@ async fn revision_allowed(
     Ok(Some(rev))
 }
 
-/// The operations of a merge patch on the document. It is of the revision that was asked for before, or they are refused.
-async fn merging(request: &Request<'_>, name: &str, patch: &Compact) -> Result<Vec<u8>, Problem> {
+/// The operations of a merge patch on the document, and the revision of the document of which they were made. At another one
+/// they would be wrong.
+async fn merging(
+    request: &Request<'_>,
+    name: &str,
+    patch: &Compact,
+    condition: &Condition,
+) -> Result<(Option<u64>, Vec<u8>), Problem> {
     let document = request.app.store.document(name).await?;
-    let _turn = request.app.trees.turn(document.text.len() + patch.text.len()).await;
-    match (value_of(&document.text), value_of(&patch.text)) {
-        (Some(doc), Some(patch)) => {
-            let operations = canonical(&operations_of(&doc, &patch));
-            // Operations may be longer than what they make, by their places.
-            let is_short = operations.len() < MOST_LINE - MOST_BESIDE;
-            Ok(if is_short { operations } else { canonical(&replacement_of(&doc, &patch)) })
-        }
-        _ => Err(Problem::refused(11, "the patch nests deeper than 127 levels")),
-    }
+    condition.check(Some(document.rev))?;
+    let size = document.text.len() + patch.text.len();
+    let operations = request.app.trees.work(size, || merge_operations(&document.text, &patch.text)).await;
+    let told = "the patch nests deeper than 127 levels";
+    operations.map(|operations| (Some(document.rev), operations)).ok_or_else(|| Problem::refused(11, told))
+}
+
+/// The operations that make of a document what a merge patch asks for; none if it nests too deep.
+fn merge_operations(doc: &[u8], patch: &[u8]) -> Option<Vec<u8>> {
+    let (doc, patch) = (value_of(doc)?, value_of(patch)?);
+    let operations = canonical(&operations_of(&doc, &patch));
+    // Operations may be longer than what they make, by their places.
+    let is_short = operations.len() < MOST_LINE - MOST_BESIDE;
+    Some(if is_short { operations } else { canonical(&replacement_of(&doc, &patch)) })
 }
 
 /// Deletes a document.
@@ -359,12 +404,9 @@ pub async fn change_if(request: &Request<'_>, name: &str, condition: &Condition,
     for _ in 0..ATTEMPTS {
         let rev = request.app.store.rev(name).await?;
         condition.check(Some(rev))?;
-        let guard = patching(name, Some(rev), b"[]");
-        // Both are without their LF.
-        let (guard, change) = (&guard[..guard.len() - 1], &line[..line.len() - 1]);
-        let both = [b"{\"changes\":[", guard, b",", change, b"],\"cmd\":\"transaction\"}\n"].concat();
+        let both = transaction(&[patching(name, Some(rev), b"[]"), line.to_vec()]);
         match make(request, both, 200).await? {
-            Err(refused) if refused.number == 24 && refused.change == Some(0) => (),
+            Err(refused) if refused.number == REVISION && refused.change == Some(0) => (),
             made => return or_problem(request, made.map_err(|refused| refused.of_one(line))).await,
         }
     }

@@ -5,11 +5,13 @@ use super::problem::Problem;
 use super::response::Response;
 use super::target::parameters;
 use crate::json::Object;
+use crate::limits::PROBE;
 use crate::lines::replies::Status;
 use crate::lines::STATUS;
 use crate::refusals::{by_name, by_number};
 use std::fmt::Write;
 use std::sync::atomic::{AtomicU64, Ordering};
+use tokio::time::timeout;
 
 /// The methods that are counted each by itself. A client may make methods up, and each figure stays.
 const METHODS: [&str; 8] = ["DELETE", "GET", "HEAD", "OPTIONS", "PATCH", "POST", "PUT", "other"];
@@ -77,7 +79,8 @@ pub async fn status(request: &Request<'_>) -> Result<Response, Problem> {
 /// Whether the store answers, and can be changed.
 pub async fn health(request: &Request<'_>) -> Result<Response, Problem> {
     let [] = parameters(&request.query, [])?;
-    if status_of(request).await?.broken {
+    let found = timeout(PROBE, status_of(request)).await.map_err(|_| Problem::unavailable())?;
+    if found?.broken {
         return Err(Problem::refused(62, by_number(62).map_or("", |row| row.meaning)));
     }
     Ok(Response::json(200, Object::new().json("ok", "true").end()))

@@ -15,12 +15,17 @@ const OPEN: [&str; 5] = ["/", "/page.css", "/page.js", "/healthz", "/openapi.jso
 
 const LEAST_TOKEN: usize = 16;
 
-/// The rights of those who are neither the owner of a file nor of its group.
-const OTHERS: u32 = 0o006;
+/// The rights of those who don't own a file: of its group, and of all others.
+const OTHERS: u32 = 0o077;
+const OTHERS_OF_A_CREDENTIAL: u32 = 0o007;
 
 const METHODS: &str = "GET, HEAD, PUT, PATCH, DELETE, POST";
 const FIELDS: &str = "Authorization, Content-Type, Idempotency-Key, If-Match, If-None-Match, Last-Event-ID, Link";
-const SHOWN: &str = "ETag, Link, Location, Retry-After, Accept-Patch, Jpstore-Seq";
+const SHOWN: &str = "ETag, Link, Location, Retry-After, Accept-Patch, Jpstore-Seq, Jpstore-Warning";
+
+/// What to do if a gateway without a token is asked by another name, as by a proxy or in a container.
+const NO_TOKEN: &str =
+    "ask `localhost` or 127.0.0.1, which a proxy sends as the field `Host`; or start the gateway with `--token-file`";
 
 /// Refuses requests that haven't the token, and those of pages of origins that were not named.
 pub struct Guard {
@@ -42,7 +47,8 @@ impl Guard {
         let head = &request.head;
         let host = host_of(head, request.host.as_deref())?;
         if self.token.is_none() && !self.knows(&host) {
-            return Err(Problem::new(421, "host", "the gateway is not asked by this name without a token"));
+            let problem = Problem::new(421, "host", "the gateway is not asked by this name without a token");
+            return Err(Problem { advice: Some(NO_TOKEN.to_owned()), ..problem });
         }
         if let Some(origin) = head.bytes("origin") {
             let origin = String::from_utf8_lossy(origin);
@@ -77,17 +83,16 @@ impl Guard {
         head.method == "OPTIONS" && head.field("origin").map_or(false, |origin| self.lets_in(origin))
     }
 
-    /// The fields that let a page of another origin read the answer, if it may.
+    /// The fields that tell that an answer is for one origin, and let a page of another origin read it, if it may.
     pub fn allowance(&self, head: &Head) -> Vec<(&'static str, String)> {
+        // Whoever keeps an answer must not give it to the page of another origin.
+        let mut fields = vec![("Vary", "Origin".to_owned())];
         let origin = match head.field("origin").filter(|origin| self.lets_in(origin)) {
             Some(origin) => origin.to_owned(),
-            None => return Vec::new(),
+            None => return fields,
         };
-        let mut fields = vec![
-            ("Access-Control-Allow-Origin", origin),
-            ("Vary", "Origin".to_owned()),
-            ("Access-Control-Expose-Headers", SHOWN.to_owned()),
-        ];
+        fields.push(("Access-Control-Allow-Origin", origin));
+        fields.push(("Access-Control-Expose-Headers", SHOWN.to_owned()));
         if head.method == "OPTIONS" {
             fields.push(("Access-Control-Allow-Methods", METHODS.to_owned()));
             fields.push(("Access-Control-Allow-Headers", FIELDS.to_owned()));
@@ -98,7 +103,7 @@ impl Guard {
 }
 
 /// The host that is asked: that of the target, or else of the field `Host` (RFC 9112, section 3.2).
-fn host_of(head: &Head, of_target: Option<&str>) -> Result<String, Problem> {
+pub fn host_of(head: &Head, of_target: Option<&str>) -> Result<String, Problem> {
     let wrong = |told: &str| Err(Problem::new(400, "request", told));
     let mut all = head.all("host");
     let host = match (all.next(), all.next()) {
@@ -139,7 +144,9 @@ fn check_token(head: &Head, token: &[u8]) -> Result<(), Problem> {
     let given = head.bytes("authorization").unwrap_or_default();
     let space = memchr::memchr(b' ', given).unwrap_or(given.len());
     let (scheme, rest) = given.split_at(space);
-    let is_known = is_same(rest.get(1..).unwrap_or_default(), token);
+    // One or more blanks (RFC 9110, section 11.4).
+    let blanks = rest.iter().take_while(|byte| **byte == b' ').count();
+    let is_known = is_same(&rest[blanks..], token);
     if scheme.eq_ignore_ascii_case(b"bearer") && is_known {
         return Ok(());
     }
@@ -153,14 +160,21 @@ fn is_same(given: &[u8], known: &[u8]) -> bool {
     given.len() == known.len() && differs == 0
 }
 
+/// Whether systemd gives this file to the service (systemd.exec(5), section "Credentials"): an access control list lets that
+/// in alone, and the rights of the group show its mask.
+fn is_credential(path: &Path) -> bool {
+    std::env::var_os("CREDENTIALS_DIRECTORY").map_or(false, |folder| !folder.is_empty() && path.starts_with(folder))
+}
+
 /// The token in a file that others can't read: a line of 16 or more visible characters.
 pub fn token_in(path: &Path) -> Result<Vec<u8>, Error> {
     let told = |error| Error::of_path(path, error);
     let mut file = File::open(path).map_err(told)?;
     let found = file.metadata().map_err(told)?;
-    if found.is_file() && found.permissions().mode() & OTHERS != 0 {
+    let others = if is_credential(path) { OTHERS_OF_A_CREDENTIAL } else { OTHERS };
+    if found.is_file() && found.permissions().mode() & others != 0 {
         let path = path.display();
-        return Err(Error::new(format!("{path}: other users can read or write this token: `chmod o= {path}`")));
+        return Err(Error::new(format!("{path}: other users can read or write this token: `chmod go= {path}`")));
     }
     let mut text = Vec::new();
     file.read_to_end(&mut text).map_err(told)?;

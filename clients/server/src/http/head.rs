@@ -1,6 +1,7 @@
 //! The head of a request. Only well-formed HTTP is taken (RFC 9112): each line ends with CR and LF, no field goes on in the
 //! next line, and one thing alone says how long the body is.
 
+use super::fields::{elements, is_token};
 use bytes::BytesMut;
 
 /// The longest request line, the longest field, and the longest head.
@@ -46,11 +47,24 @@ pub struct Malformed {
     pub told: &'static str,
 }
 
+/// A head that is refused, and what is known of it: its method, and the origin of the page that asks.
+#[derive(Debug)]
+pub struct Refused {
+    /// Why.
+    pub why: Malformed,
+    /// What is known.
+    pub known: Head,
+}
+
 /// What is said of a long head, if too many bytes of requests are in memory.
 pub const NO_ROOM: Malformed =
     Malformed { status: 503, told: "too many bytes of requests are on their way: send the request again" };
 
-const TOO_MANY: &str = "the request has too many fields";
+const LONG_LINE: Malformed = Malformed { status: 414, told: "the request line is too long" };
+const LONG_FIELD: Malformed = Malformed { status: 431, told: "a field is too long" };
+const LONG_HEAD: Malformed = Malformed { status: 431, told: "the head of the request is too long" };
+const TOO_MANY: Malformed = Malformed { status: 431, told: "the request has too many fields" };
+const OTHER_VERSION: Malformed = Malformed { status: 505, told: "the request must be one of HTTP/1.1" };
 
 const fn malformed<T>(told: &'static str) -> Result<T, Malformed> {
     Err(Malformed { status: 400, told })
@@ -91,14 +105,46 @@ impl Head {
 
     /// Whether the client waits for a word before it sends the body.
     pub fn expects(&self) -> bool {
-        self.is_1_1 && self.field("expect").map_or(false, |word| word.eq_ignore_ascii_case("100-continue"))
+        self.is_1_1 && self.list("expect").map_or(false, |words| !elements(&words).is_empty() && only_continue(&words))
+    }
+
+    /// Whether the client expects what isn't known here.
+    pub fn expects_else(&self) -> bool {
+        self.list("expect").map_or(false, |words| !only_continue(&words))
     }
 }
 
+fn only_continue(words: &str) -> bool {
+    elements(words).iter().all(|word| word.eq_ignore_ascii_case("100-continue"))
+}
+
+impl Refused {
+    /// The refusal of a head, of which so much was read.
+    pub fn of(why: Malformed, read: &[u8]) -> Refused {
+        let method: Vec<u8> = read.iter().copied().take_while(|byte| is_token(*byte)).collect();
+        let mut lines = read.split(|byte| *byte == b'\n').skip(1);
+        // The last one may not be whole.
+        let origin = lines.by_ref().filter(|line| line.ends_with(b"\r")).find_map(origin_in);
+        let known = Head {
+            method: String::from_utf8_lossy(&method).into_owned(),
+            target: String::new(),
+            is_1_1: true,
+            fields: origin.map(|origin| ("origin".to_owned(), origin)).into_iter().collect(),
+            framing: Framing::Length(0),
+        };
+        Refused { why, known }
+    }
+}
+
+fn origin_in(line: &[u8]) -> Option<Vec<u8>> {
+    let (name, value) = line.split_at(memchr::memchr(b':', line)?);
+    name.eq_ignore_ascii_case(b"origin").then(|| trimmed(&value[1..value.len() - 1]).to_vec())
+}
+
 /// Takes the head at the begin of what was read, if it is there whole. `looked` is how far it was looked for its end.
-pub fn take(buffer: &mut BytesMut, looked: &mut usize) -> Result<Option<Head>, Malformed> {
-    // A client may send an empty line before a request (section 2.2).
-    if buffer.starts_with(b"\r\n") {
+pub fn take(buffer: &mut BytesMut, looked: &mut usize) -> Result<Option<Head>, Refused> {
+    // A client may send empty lines before a request (section 2.2).
+    while buffer.starts_with(b"\r\n") {
         let _ = buffer.split_to(2);
         *looked = 0;
     }
@@ -107,18 +153,20 @@ pub fn take(buffer: &mut BytesMut, looked: &mut usize) -> Result<Option<Head>, M
         Some(place) => from + place + END.len(),
         None => {
             *looked = buffer.len();
-            return check_begun(buffer).map(|()| None);
+            return check_begun(buffer).map(|()| None).map_err(|why| Refused::of(why, buffer));
         }
     };
     *looked = 0;
-    let head = buffer.split_to(end);
-    parsed(&head).map(Some)
+    let mut head = buffer.split_to(end);
+    parsed(&mut head).map(Some).map_err(|why| Refused::of(why, &head))
 }
 
-/// Refuses a head that can't become one.
+/// Refuses a head that can't become one. A line that is too long is so when all has come, since what comes later tells the
+/// origin of the page that has to read why.
 fn check_begun(begun: &[u8]) -> Result<(), Malformed> {
     if begun.len() > MOST_HEAD {
-        return malformed("the head of the request is too long");
+        check_length(memchr::memchr(b'\n', begun).unwrap_or(begun.len()), true)?;
+        return Err(LONG_HEAD);
     }
     check_lines(begun, false)
 }
@@ -134,36 +182,53 @@ fn check_lines(head: &[u8], is_whole: bool) -> Result<(), Malformed> {
             return malformed("a line of the head doesn't end with CR and LF");
         }
         if is_second {
-            check_length(place - 1 - begin, begin == 0)?;
+            if is_whole {
+                check_length(place - 1 - begin, begin == 0)?;
+            }
             (begin, lines) = (place + 1, lines + 1);
             // Those of the fields, the first, and the empty one at the end.
             if lines > MOST_FIELDS + 2 {
-                return malformed(TOO_MANY);
+                return Err(TOO_MANY);
             }
         }
     }
-    check_length(head.len() - begin, begin == 0)
+    Ok(())
 }
 
 fn check_length(length: usize, is_first: bool) -> Result<(), Malformed> {
     match length > if is_first { MOST_LINE } else { MOST_FIELD } {
-        true if is_first => malformed("the request line is too long"),
-        true => malformed("a field is too long"),
+        true if is_first => Err(LONG_LINE),
+        true => Err(LONG_FIELD),
         false => Ok(()),
     }
 }
 
-fn parsed(head: &[u8]) -> Result<Head, Malformed> {
+/// The version in a request line: its two digits.
+fn version_in(head: &mut [u8]) -> Option<&mut [u8]> {
+    let end = memchr::memchr(b'\r', head)?;
+    let line = &mut head[..end];
+    let (begin, version) = line.split_at_mut(end.checked_sub(3)?);
+    let is_version = begin.ends_with(b" HTTP/") && matches!(version, [b'0'..=b'9', b'.', b'0'..=b'9']);
+    is_version.then(|| version)
+}
+
+fn parsed(head: &mut [u8]) -> Result<Head, Malformed> {
     check_lines(head, true)?;
     if head.len() > MOST_HEAD {
-        return malformed("the head of the request is too long");
+        return Err(LONG_HEAD);
     }
+    match version_in(head) {
+        // What is newer is read as the newest version that is known (RFC 9110, section 2.5).
+        Some([b'1', _, minor]) if *minor > b'1' => *minor = b'1',
+        Some([b'1', ..]) | None => (),
+        Some(_) => return Err(OTHER_VERSION),
+    }
+    let head = &*head;
     let mut fields = [httparse::EMPTY_HEADER; MOST_FIELDS];
     let mut request = httparse::Request::new(&mut fields);
     match request.parse(head) {
         Ok(httparse::Status::Complete(length)) if length == head.len() => (),
-        Err(httparse::Error::TooManyHeaders) => return malformed(TOO_MANY),
-        Err(httparse::Error::Version) => return malformed("this version of HTTP is not known"),
+        Err(httparse::Error::TooManyHeaders) => return Err(TOO_MANY),
         _ => return malformed("this is no request of HTTP/1.1"),
     }
     // httparse lets more pass as a method.
@@ -183,11 +248,6 @@ fn parsed(head: &[u8]) -> Result<Head, Malformed> {
     Ok(made)
 }
 
-/// Whether a byte may be in a token (RFC 9110, section 5.6.2).
-fn is_token(byte: u8) -> bool {
-    byte.is_ascii_alphanumeric() || b"!#$%&'*+-.^_`|~".contains(&byte)
-}
-
 fn trimmed(value: &[u8]) -> &[u8] {
     let is_blank = |byte: &u8| matches!(byte, b' ' | b'\t');
     let begin = value.iter().position(|byte| !is_blank(byte)).unwrap_or(value.len());
@@ -202,13 +262,13 @@ fn framing_of(head: &Head) -> Result<Framing, Malformed> {
         if !head.is_1_1 || !lengths.is_empty() {
             return malformed("the request says in two ways how long its body is");
         }
-        let last = codings.rsplit(',').next().unwrap_or_default().trim();
-        return match codings.trim().eq_ignore_ascii_case("chunked") {
-            true => Ok(Framing::Chunks),
-            false if last.eq_ignore_ascii_case("chunked") => {
+        let is_chunked = |coding: &&str| coding.eq_ignore_ascii_case("chunked");
+        return match elements(&codings).split_last() {
+            Some((last, [])) if is_chunked(last) => Ok(Framing::Chunks),
+            Some((last, others)) if is_chunked(last) && !others.iter().any(|other| is_chunked(other)) => {
                 Err(Malformed { status: 501, told: "this transfer coding is not known" })
             }
-            false => malformed("the last transfer coding isn't `chunked`"),
+            _ => malformed("`chunked` isn't the last transfer coding alone"),
         };
     }
     match lengths[..] {
@@ -234,7 +294,11 @@ mod tests {
     use bytes::BytesMut;
 
     fn head_of(text: &str) -> Result<Option<Head>, Malformed> {
-        take(&mut BytesMut::from(text.as_bytes()), &mut 0)
+        take(&mut BytesMut::from(text.as_bytes()), &mut 0).map_err(|refused| refused.why)
+    }
+
+    fn status_of(text: &str) -> u16 {
+        head_of(text).map(|_| ()).unwrap_err().status
     }
 
     #[test]
@@ -271,39 +335,91 @@ mod tests {
             "Transfer-Encoding: ",
             "Transfer-Encoding: chunked\r\nContent-Length: 1",
             "Transfer-Encoding: xchunked",
+            "Transfer-Encoding: ,",
+            "Transfer-Encoding: chunked, chunked",
+            "Transfer-Encoding: chunked;x=y",
         ] {
             let text = format!("GET / HTTP/1.1\r\nHost: x\r\n{fields}\r\n\r\n");
-            assert_eq!(head_of(&text).map(|_| ()).unwrap_err().status, 400, "{fields:?}");
+            assert_eq!(status_of(&text), 400, "{fields:?}");
         }
         for line in [
             "GET /",
             "GET  / HTTP/1.1",
-            "GET / HTTP/1.9",
-            "GET / HTTP/2.0",
+            "GET / HTTP/11",
+            "GET / HTTP/1.10",
+            "GET / HTTP/x.0",
+            "GET / XTTP/2.0",
             "G(T / HTTP/1.1",
             " GET / HTTP/1.1",
             "GET / HTTP/1.1 ",
         ] {
-            assert_eq!(head_of(&format!("{line}\r\n\r\n")).map(|_| ()).unwrap_err().status, 400, "{line:?}");
+            assert_eq!(status_of(&format!("{line}\r\n\r\n")), 400, "{line:?}");
         }
-        let coded = "PUT / HTTP/1.1\r\nTransfer-Encoding: gzip, chunked\r\n\r\n";
-        assert_eq!(head_of(coded).unwrap_err().status, 501);
-        let old = "PUT / HTTP/1.0\r\nTransfer-Encoding: chunked\r\n\r\n";
-        assert_eq!(head_of(old).unwrap_err().status, 400);
+        assert_eq!(status_of("PUT / HTTP/1.1\r\nTransfer-Encoding: gzip, chunked\r\n\r\n"), 501);
+        assert_eq!(status_of("PUT / HTTP/1.0\r\nTransfer-Encoding: chunked\r\n\r\n"), 400);
     }
 
     #[test]
-    fn what_is_too_long_is_refused_before_it_is_whole() {
-        assert!(head_of(&format!("GET /{}", "x".repeat(65_000))).unwrap().is_none());
-        for text in [
-            format!("GET /{}", "x".repeat(70_000)),
-            format!("GET / HTTP/1.1\r\nX: {}", "x".repeat(17_000)),
-            format!("GET / HTTP/1.1\r\n{}", "X: 1\r\n".repeat(102)),
-            "GET / HTTP/1.1\nHost".to_owned(),
-        ] {
-            assert!(head_of(&text).is_err());
+    fn empty_elements_and_empty_lines_are_passed_over() {
+        for codings in [", chunked", "chunked,", " ,, CHUNKED , "] {
+            let text = format!("PUT / HTTP/1.1\r\nTransfer-Encoding:{codings}\r\n\r\n");
+            assert_eq!(head_of(&text).unwrap().unwrap().framing, Framing::Chunks, "{codings}");
         }
-        assert!(head_of(&format!("GET / HTTP/1.1\r\n{}\r\n", "X: 1\r\n".repeat(101))).is_err());
+        let long = "x".repeat(60_000);
+        for begin in ["\r\n", "\r\n\r\n"] {
+            let text = format!("{begin}GET /{long} HTTP/1.1\r\n\r\n");
+            let (mut buffer, mut looked) = (BytesMut::new(), 0);
+            let taken = text.as_bytes().chunks(997).find_map(|piece| {
+                buffer.extend_from_slice(piece);
+                take(&mut buffer, &mut looked).unwrap()
+            });
+            assert_eq!(taken.unwrap().target.len(), 60_001);
+        }
+    }
+
+    #[test]
+    fn a_later_version_is_read_as_the_newest_that_is_known() {
+        for minor in ["1", "2", "9"] {
+            assert!(head_of(&format!("GET / HTTP/1.{minor}\r\n\r\n")).unwrap().unwrap().is_1_1);
+        }
+        assert!(!head_of("GET / HTTP/1.0\r\n\r\n").unwrap().unwrap().is_1_1);
+        for version in ["0.9", "2.0", "3.1"] {
+            assert_eq!(status_of(&format!("GET / HTTP/{version}\r\n\r\n")), 505, "{version}");
+        }
+    }
+
+    #[test]
+    fn of_a_refused_head_the_method_and_the_origin_are_known() {
+        let refused = |text: &str| take(&mut BytesMut::from(text.as_bytes()), &mut 0).map(|_| ()).unwrap_err().known;
+        let known = refused("HEAD / HTTP/2.0\r\nHost: x\r\nORIGIN: \thttp://y \r\n\r\n");
+        assert_eq!((&known.method[..], known.field("origin")), ("HEAD", Some("http://y")));
+        let long = "x".repeat(131_000);
+        assert_eq!(
+            refused(&format!("GET /{long} HTTP/1.1\r\nOrigin: http://y\r\n\r\n")).field("origin"),
+            Some("http://y")
+        );
+        assert_eq!(refused("GET / HTTP/1.1\nOrigin: y\r\n\r\n").field("origin"), Some("y"));
+        assert_eq!(refused("GET / HTTP/1.1\r\nX\nOrigin: y").field("origin"), None);
+    }
+
+    #[test]
+    fn what_is_too_long_is_refused() {
+        let (line, field) = ("x".repeat(70_000), "x".repeat(17_000));
+        for (text, status) in [
+            (format!("GET /{line} HTTP/1.1\r\n\r\n"), 414),
+            (format!("GET /{line}{line}"), 414),
+            (format!("GET / HTTP/1.1\r\nX: {field}\r\n\r\n"), 431),
+            (format!("GET / HTTP/1.1\r\nX: {line}{line}"), 431),
+            (format!("GET / HTTP/1.1\r\n{}", "X: 1\r\n".repeat(102)), 431),
+            (format!("GET / HTTP/1.1\r\n{}\r\n", "X: 1\r\n".repeat(101)), 431),
+            (format!("GET / HTTP/1.1\r\n{}\r\n", format!("X: {}\r\n", &field[..16_000]).repeat(9)), 431),
+            ("GET / HTTP/1.1\nHost".to_owned(), 400),
+        ] {
+            assert_eq!(status_of(&text), status, "{}", &text[..20]);
+        }
+        for begun in [format!("GET /{line}"), format!("GET / HTTP/1.1\r\nX: {field}")] {
+            assert!(head_of(&begun).unwrap().is_none());
+        }
     }
 
     #[test]

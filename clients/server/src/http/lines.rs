@@ -3,6 +3,7 @@
 use super::app::App;
 use super::problem::Problem;
 use crate::other::LineStream;
+use crate::program::room::Taken;
 use crate::program::Spool;
 use crate::store::Which;
 use bytes::{Bytes, BytesMut};
@@ -10,16 +11,10 @@ use serde_json::value::RawValue;
 use serde_json::Value;
 use std::collections::BTreeMap;
 use std::io;
-use std::time::Duration;
 use tokio::io::AsyncWriteExt;
-use tokio::sync::OwnedSemaphorePermit;
-use tokio::time::timeout;
 
 /// How many bytes are gathered before they are written.
 const PIECE: usize = 1 << 16;
-
-/// How long a client waits until others have read.
-const TURN: Duration = Duration::from_secs(5);
 
 const EXPORT: &[u8] = b"{\"cmd\":\"export\"}\n";
 
@@ -34,14 +29,16 @@ enum Source {
 pub struct DocumentLines {
     source: Source,
     is_done: bool,
-    _turn: OwnedSemaphorePermit,
+    /// Its place among those who read all documents, until it is sent.
+    pub place: Option<Taken>,
 }
 
 impl DocumentLines {
     /// The lines of the documents whose names begin with the prefix, and the number of the last change in them.
     pub async fn begin(app: &App, prefix: &str) -> Result<(u64, DocumentLines), Problem> {
-        let turn = timeout(TURN, app.exports.clone().acquire_owned()).await.ok().and_then(Result::ok);
-        let turn = turn.ok_or_else(|| Problem::busy("too many clients read all documents: send the request again"))?;
+        let place = app.exports.take_soon(1).await;
+        let place =
+            place.ok_or_else(|| Problem::busy("too many clients read all documents: send the request again"))?;
         let store = &app.store;
         let source = match &store.which {
             Which::Own(handle) => {
@@ -56,7 +53,7 @@ impl DocumentLines {
                 Source::Stream(stream, prefix.to_owned())
             }
         };
-        let mut lines = DocumentLines { source, is_done: false, _turn: turn };
+        let mut lines = DocumentLines { source, is_done: false, place: Some(place) };
         let first = lines.line().await.ok().flatten().ok_or_else(Problem::unavailable)?;
         let told: Value = serde_json::from_slice(&first).unwrap_or_default();
         match told.get("seq").and_then(Value::as_u64) {

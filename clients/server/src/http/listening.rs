@@ -1,13 +1,16 @@
 //! The address at which the server is asked over HTTP.
 
 use crate::error::{system_words, Error};
-use std::io::ErrorKind;
+use crate::limits::{BACKLOG, RECEIVED, SENT};
+use std::io::{self, ErrorKind};
 use std::net::{SocketAddr, ToSocketAddrs};
+use std::time::{Duration, Instant};
 use tokio::net::{TcpListener, TcpSocket};
+use tokio::runtime::Handle;
+use tokio::time::sleep;
 
-/// This many connections wait until they are taken, and this many bytes of one wait until they are read.
-const BACKLOG: u32 = 1024;
-const RECEIVED: u32 = 1 << 16;
+/// How long it waits before it tries a port again that another program has.
+const PAUSE: Duration = Duration::from_millis(50);
 
 /// The host and the port of `HOST:PORT`, with an IPv6 address in brackets.
 pub fn place(listen: &str) -> Result<(String, u16), Error> {
@@ -37,24 +40,38 @@ pub fn address(host: &str, port: u16, has_token: bool) -> Result<SocketAddr, Err
     Ok(address)
 }
 
-/// A socket at the address. It belongs to the runtime in which this is called.
-pub fn at(address: SocketAddr) -> Result<TcpListener, Error> {
-    let bound = || -> std::io::Result<TcpListener> {
-        let socket = if address.is_ipv4() { TcpSocket::new_v4()? } else { TcpSocket::new_v6()? };
-        socket.set_reuseaddr(true)?;
-        socket.set_recv_buffer_size(RECEIVED)?;
-        socket.bind(address)?;
-        socket.listen(BACKLOG)
-    };
-    bound().map_err(|error| match error.kind() {
+/// A socket at the address, which belongs to the runtime of `workers`. A port that another program has is waited for: a
+/// server that was killed may have a child that hasn't let go of it yet.
+pub async fn at(address: SocketAddr, wait: Duration, workers: &Handle) -> Result<TcpListener, Error> {
+    let until = Instant::now() + wait;
+    loop {
+        match bound(address, workers) {
+            Err(error) if error.kind() == ErrorKind::AddrInUse && Instant::now() < until => sleep(PAUSE).await,
+            bound => return bound.map_err(|error| told(address, &error)),
+        }
+    }
+}
+
+fn bound(address: SocketAddr, workers: &Handle) -> io::Result<TcpListener> {
+    let _entered = workers.enter();
+    let socket = if address.is_ipv4() { TcpSocket::new_v4()? } else { TcpSocket::new_v6()? };
+    socket.set_reuseaddr(true)?;
+    socket.set_recv_buffer_size(RECEIVED)?;
+    socket.set_send_buffer_size(SENT)?;
+    socket.bind(address)?;
+    socket.listen(BACKLOG)
+}
+
+fn told(address: SocketAddr, error: &io::Error) -> Error {
+    match error.kind() {
         ErrorKind::AddrInUse => {
             Error::new(format!("another program listens at {address}: end it, or choose another port"))
         }
         ErrorKind::PermissionDenied => {
             Error::new(format!("only root may listen at {address}: choose a port from 1024 on, and a proxy before it"))
         }
-        _ => Error::new(format!("{address} cannot be listened at: {}", system_words(&error))),
-    })
+        _ => Error::new(format!("{address} cannot be listened at: {}", system_words(error))),
+    }
 }
 
 #[cfg(test)]

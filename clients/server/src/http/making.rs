@@ -27,12 +27,12 @@ pub struct Refused {
 }
 
 impl Refused {
-    /// The same as of a line alone, before which there was a guard in a transaction.
+    /// The same as of this line alone, in place of a transaction that does it.
     pub fn of_one(mut self, line: &[u8]) -> Refused {
         if let Some(row) = crate::refusals::by_number(self.number) {
             self.problem.status = row.status;
         }
-        self.problem.change = None;
+        (self.problem.change, self.problem.op) = (None, None);
         self.line = line.to_vec();
         self
     }

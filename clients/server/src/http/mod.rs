@@ -1,5 +1,6 @@
 //! The store over HTTP, as `docs/use/HTTP.md` says it.
 
+mod accept;
 pub mod app;
 mod body;
 mod changes;
@@ -8,14 +9,18 @@ mod connection;
 mod date;
 mod documents;
 mod facts;
+mod fields;
+mod filters;
 pub mod guard;
 mod head;
 mod lines;
+mod link;
 pub mod listening;
 mod making;
 mod merge;
 mod notices;
 mod once;
+mod pace;
 mod page;
 pub mod problem;
 pub mod reasons;

@@ -1,67 +1,8 @@
 //! Warnings of what the store accepts in a schema, although it may not be what was meant.
 
 use crate::json::canonical::value_of;
+use crate::protocol::{Holds, EARLIER, KEYWORDS};
 use serde_json::Value;
-
-// Keywords of JSON Schema 2020-12 by what their values are: a schema, a list of schemas, schemas by name, or none of these.
-const OF_SCHEMA: [&str; 11] = [
-    "additionalProperties",
-    "contains",
-    "contentSchema",
-    "else",
-    "if",
-    "items",
-    "not",
-    "propertyNames",
-    "then",
-    "unevaluatedItems",
-    "unevaluatedProperties",
-];
-const OF_SCHEMAS: [&str; 4] = ["allOf", "anyOf", "oneOf", "prefixItems"];
-const OF_NAMED_SCHEMAS: [&str; 5] = ["$defs", "definitions", "dependentSchemas", "patternProperties", "properties"];
-const OTHERS: [&str; 41] = [
-    "$anchor",
-    "$comment",
-    "$dynamicAnchor",
-    "$dynamicRef",
-    "$id",
-    "$recursiveAnchor",
-    "$recursiveRef",
-    "$ref",
-    "$schema",
-    "$vocabulary",
-    "const",
-    "contentEncoding",
-    "contentMediaType",
-    "default",
-    "dependencies",
-    "dependentRequired",
-    "deprecated",
-    "description",
-    "enum",
-    "examples",
-    "exclusiveMaximum",
-    "exclusiveMinimum",
-    "format",
-    "maxContains",
-    "maxItems",
-    "maxLength",
-    "maxProperties",
-    "maximum",
-    "minContains",
-    "minItems",
-    "minLength",
-    "minProperties",
-    "minimum",
-    "multipleOf",
-    "pattern",
-    "readOnly",
-    "required",
-    "title",
-    "type",
-    "uniqueItems",
-    "writeOnly",
-];
 
 /// The most warnings of one schema and letters of a place, and the most words that are looked at.
 const MOST_NOTICES: usize = 100;
@@ -71,18 +12,14 @@ const MOST_WORDS: usize = 1 << 16;
 /// The longest word that may be meant as a keyword.
 const LONGEST: usize = 22;
 
-fn keywords() -> impl Iterator<Item = &'static str> {
-    OF_SCHEMA.into_iter().chain(OF_SCHEMAS).chain(OF_NAMED_SCHEMAS).chain(OTHERS)
+/// How the value of a word holds schemas.
+fn holds(word: &str) -> Holds {
+    KEYWORDS.iter().find(|(known, _)| *known == word).map_or(Holds::Nothing, |(_, holds)| *holds)
 }
 
 /// The keyword of 2020-12 that says the same as one of an earlier draft.
 fn earlier(word: &str) -> Option<&'static str> {
-    match word {
-        "$recursiveRef" => Some("$ref"),
-        "additionalItems" => Some("prefixItems` and `items"),
-        "dependencies" => Some("dependentRequired"),
-        _ => None,
-    }
+    EARLIER.iter().find(|(known, _)| *known == word).map(|(_, same)| *same)
 }
 
 /// What may be a mistake in the text of a schema that the store accepted.
@@ -133,17 +70,21 @@ fn below<'s>(
         places.push(Place { around, token });
         Some(places.len() - 1)
     };
-    if OF_SCHEMA.contains(&word) && value.is_object() {
-        waiting.push((add(around, word.to_owned()), value));
-    } else if OF_SCHEMAS.contains(&word) {
-        let list = add(around, word.to_owned());
-        for (index, item) in value.as_array().into_iter().flatten().enumerate() {
-            waiting.push((add(list, index.to_string()), item));
+    match holds(word) {
+        Holds::Nothing => (),
+        Holds::One if value.is_object() => waiting.push((add(around, word.to_owned()), value)),
+        Holds::One => (),
+        Holds::Several => {
+            let list = add(around, word.to_owned());
+            for (index, item) in value.as_array().into_iter().flatten().enumerate() {
+                waiting.push((add(list, index.to_string()), item));
+            }
         }
-    } else if OF_NAMED_SCHEMAS.contains(&word) {
-        let named = add(around, word.to_owned());
-        for (name, item) in value.as_object().into_iter().flatten() {
-            waiting.push((add(named, name.clone()), item));
+        Holds::Named => {
+            let named = add(around, word.to_owned());
+            for (name, item) in value.as_object().into_iter().flatten() {
+                waiting.push((add(named, name.clone()), item));
+            }
         }
     }
 }
@@ -180,11 +121,12 @@ fn pointer(places: &[Place], around: Option<usize>, word: &str) -> String {
 
 /// The first keyword that is one letter away from a word that is none; upper case doesn't count.
 fn meant_by(word: &str) -> Option<&'static str> {
-    if word.len() > LONGEST + 1 || keywords().any(|known| known == word) {
+    if word.len() > LONGEST + 1 || KEYWORDS.iter().any(|(known, _)| *known == word) {
         return None;
     }
     let letters: Vec<char> = word.to_lowercase().chars().collect();
-    keywords().filter(|known| is_one_letter_away(&letters, known.as_bytes())).min()
+    let near = KEYWORDS.iter().map(|(known, _)| *known).filter(|known| is_one_letter_away(&letters, known.as_bytes()));
+    near.min()
 }
 
 /// Whether a letter is changed, missing or too many, or two neighbours are exchanged. A schema has many words, so nothing is
@@ -226,6 +168,8 @@ mod tests {
             "schema /requierd: `requierd` is not a keyword, and is ignored: perhaps `required` is meant",
         ]);
         assert!(notices_of(&json!({"minimum": 1, "properties": {"minimun": true}})).is_empty());
+        let told = notices_of(&json!({"id": "x"}));
+        assert_eq!(told, ["schema /id: `id` is a keyword of earlier drafts, and is ignored: use `$id`"]);
     }
 
     #[test]

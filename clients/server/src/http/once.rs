@@ -6,6 +6,7 @@
 //! what is made once is decided there, also for requests of the same time, and after a stop.
 
 use super::connection::Request;
+use super::fields::Rest;
 use super::head::Head;
 use super::problem::Problem;
 use crate::json::Object;
@@ -26,6 +27,9 @@ const BEGIN: &str = "idem-";
 const DIGITS: usize = 40;
 
 const COMMAND: u64 = 14;
+
+/// The line that a node of a replicated store alone answers: it takes no marks of clients.
+const NODE: &str = "{\"cmd\":\"node\"}\n";
 
 /// What was made, or was made before: the number of the last change, and the status of the answer.
 #[derive(Clone, Copy, Debug, PartialEq, Eq)]
@@ -115,15 +119,16 @@ pub async fn or_before(request: &Request<'_>, made: Result<Made, Problem>) -> Re
         // The store doesn't answer now.
         return Err(problem);
     }
-    let asked = [replies::mark(&once.key), String::from_utf8_lossy(STATUS).into_owned()];
+    let asked = [replies::mark(&once.key), String::from_utf8_lossy(STATUS).into_owned(), NODE.to_owned()];
     let told = match request.app.store.ask(&asked).await {
         Ok(told) => told.lines,
         Err(_) => return Err(problem),
     };
     let has_identity = told.get(1).and_then(|reply| Status::of(reply)).map_or(true, |status| status.identity.is_some());
+    let is_node = told.get(2).map_or(false, |reply| reply.starts_with(b"{\"age\":"));
     match told.first().and_then(|reply| mark_in(reply)) {
         Some(Some(mark)) => once.answered(&mark, digest),
-        Some(None) if has_identity || problem.number != Some(COMMAND) => Err(problem),
+        Some(None) if (has_identity && !is_node) || problem.number != Some(COMMAND) => Err(problem),
         None if problem.number != Some(COMMAND) => Err(problem),
         _ => Err(Once::has_no_marks()),
     }
@@ -139,18 +144,25 @@ fn hex(digest: Sha256) -> String {
     digest.finalize().iter().map(|byte| format!("{byte:02x}")).collect()
 }
 
-/// The characters of a string of structured fields (RFC 9651, section 3.3.3), which has no parameters here.
+/// The characters of a string of structured fields (RFC 9651, section 3.3.3). Its parameters mean nothing here.
 fn key_in(text: &str) -> Option<String> {
-    let mut letters = text.trim_matches(' ').strip_prefix('"')?.strip_suffix('"')?.chars();
-    let mut key = String::new();
-    while let Some(letter) = letters.next() {
-        key.push(match letter {
+    let (mut letters, mut key) = (text.trim_matches(' ').strip_prefix('"')?.chars(), String::new());
+    loop {
+        key.push(match letters.next()? {
+            '"' => break,
             '\\' => letters.next().filter(|letter| matches!(letter, '"' | '\\'))?,
-            ' '..='~' if letter != '"' => letter,
+            letter @ ' '..='~' => letter,
             _ => return None,
         });
     }
-    (1..=MOST).contains(&key.len()).then(|| key)
+    let mut rest = Rest::of(letters.as_str());
+    rest.parameters(is_item)?;
+    ((1..=MOST).contains(&key.len()) && rest.is_empty()).then(|| key)
+}
+
+/// Whether a byte may be in an item that is no string.
+fn is_item(byte: u8) -> bool {
+    byte.is_ascii_graphic() && !b"\",;".contains(&byte)
 }
 
 #[cfg(test)]
@@ -171,11 +183,27 @@ mod tests {
     #[test]
     fn a_key_is_a_string_of_structured_fields() {
         assert_eq!(key_in(" \"a \\\"b\\\\\" ").as_deref(), Some("a \"b\\"));
+        for text in ["\"a\";x=1", "\"a\" ; x ;y=\"b;\\\"\";z=:YQ==:;u=?1"] {
+            assert_eq!(key_in(text).as_deref(), Some("a"), "{text}");
+        }
         assert_eq!(key_in(&format!("\"{}\"", "x".repeat(200))).map(|key| key.len()), Some(200));
         let long = format!("\"{}\"", "x".repeat(201));
-        for text in
-            ["", "a", "\"", "\"\"", "\"a", "\"a\"b\"", "\"\\a\"", "\"a\\\"", "\"\u{e4}\"", "\"a\", \"b\"", &long]
-        {
+        for text in [
+            "",
+            "a",
+            "\"",
+            "\"\"",
+            "\"a",
+            "\"a\"b\"",
+            "\"\\a\"",
+            "\"a\\\"",
+            "\"\u{e4}\"",
+            "\"a\", \"b\"",
+            "\"a\";x=\"",
+            "\"a\" x",
+            "\"a\";=1",
+            &long,
+        ] {
             assert_eq!(key_in(text), None, "{text}");
         }
     }

@@ -129,8 +129,9 @@ impl Problem {
             told = told.json("mark", &value).number_if("seq", mark.as_ref().map(|mark| mark.seq));
         }
         let advice = self.advice.as_deref().or_else(|| row.map(|row| row.advice));
-        let is_placed = self.number.map_or(false, |number| PLACED.contains(&number));
-        if let Some(advice) = advice.filter(|advice| is_placed && *advice != self.detail) {
+        // The gateway's own refusals tell a place or nothing.
+        let has_place = self.number.map_or(true, |number| PLACED.contains(&number));
+        if let Some(advice) = advice.filter(|advice| has_place && *advice != self.detail) {
             told = told.text("advice", advice);
         }
         if let Some(errors) = &self.errors {
@@ -165,11 +166,13 @@ pub fn phrase_of(status: u16) -> &'static str {
         417 => "Expectation Failed",
         421 => "Misdirected Request",
         422 => "Unprocessable Content",
+        431 => "Request Header Fields Too Large",
         500 => "Internal Server Error",
         501 => "Not Implemented",
         502 => "Bad Gateway",
         503 => "Service Unavailable",
         504 => "Gateway Timeout",
+        505 => "HTTP Version Not Supported",
         507 => "Insufficient Storage",
         _ => "",
     }

@@ -1,8 +1,12 @@
 //! Why something is refused: the place of the fault, if a process of Python finds it in time.
 //!
 //! The store tells a number. Each line of the process's input has the number, the change, the operation at fault of a
-//! patch, the changes before it in its transaction, and the document and the schema that the store has, if they are needed. It is answered with a line that has
-//! the faults of a document, a text that tells the place, and one that tells what to do. A process that takes too long is killed.
+//! patch, the changes before it in its transaction, and the document and the schema that the store has, if they are needed.
+//! It is answered with a line that has the faults of a document, a text that tells the place, and one that tells what to do.
+//! A process that takes too long is killed.
+//!
+//! The first process begins with the server. No refusal waits longer than a second in all, and none at all if no process can be
+//! had: one that couldn't begin, such as without the package, is tried again after a minute at the soonest.
 
 use super::app::App;
 use super::problem::Problem;
@@ -22,7 +26,7 @@ use tokio::io::{AsyncBufReadExt, AsyncReadExt, AsyncWriteExt, BufReader};
 use tokio::process::{Child, ChildStdin, ChildStdout, Command};
 use tokio::runtime::Handle;
 use tokio::sync::Semaphore;
-use tokio::time::timeout;
+use tokio::time::{timeout_at, Instant};
 
 /// The refusals of which more can be told. Those that clients meet as they work beside others, such as 34, aren't among
 /// them: they are answered at once.
@@ -32,11 +36,12 @@ const INVALID: u64 = 45;
 /// How many processes look beside each other.
 const MOST: usize = 2;
 
-/// How long a refusal waits for its turn, a process may take to begin, and may look. Its processor time is what ends it
-/// sooner.
-const TURN: Duration = Duration::from_secs(5);
-const BEGIN: Duration = Duration::from_secs(20);
-const LOOK: Duration = Duration::from_secs(10);
+/// How long a refusal waits for its reason.
+const PATIENCE: Duration = Duration::from_secs(1);
+
+/// How long a process may take to begin, and how long none is begun after one that couldn't.
+const BEGIN: Duration = Duration::from_secs(60);
+const REST: Duration = Duration::from_secs(60);
 
 /// Longer than any answer.
 const MOST_ANSWER: u64 = 1 << 21;
@@ -44,17 +49,30 @@ const MOST_ANSWER: u64 = 1 << 21;
 /// The module that looks.
 const MODULE: &str = "jpstore.judging";
 
+/// Where an archive has it.
+const PACKAGE: &str = "share/jpstore/python";
+
 /// Has processes look for faults, one refusal at a time each.
-pub struct Reasons {
+pub struct Reasons(Arc<Processes>);
+
+struct Processes {
     python: PathBuf,
     /// Where the processes belong: they are children of its thread.
     home: Handle,
-    turns: Semaphore,
-    idle: Arc<Mutex<Idle>>,
+    known: Mutex<Known>,
+    /// One permit for each process that waits for a refusal.
+    idle: Semaphore,
 }
 
-struct Idle {
-    looking: Vec<Looking>,
+struct Known {
+    /// The processes that wait for a refusal.
+    idle: Vec<Looking>,
+    /// How many processes there are, with one that begins.
+    count: usize,
+    /// Whether one begins.
+    begins: bool,
+    /// None begins before.
+    rest: Option<Instant>,
     /// What each process that looks holds until it is done; none at the end.
     ending: Option<Ending>,
 }
@@ -76,16 +94,18 @@ struct Told {
 impl Reasons {
     /// Reasons by this Python, whose processes are children of the thread of `home`, and are killed at the end.
     pub fn new(python: &Path, home: Handle, ending: Ending) -> Reasons {
-        let idle = Arc::new(Mutex::new(Idle { looking: Vec::new(), ending: Some(ending) }));
-        Reasons { python: python.to_owned(), home, turns: Semaphore::new(MOST), idle }
+        let known = Mutex::new(Known { idle: Vec::new(), count: 0, begins: false, rest: None, ending: Some(ending) });
+        let all = Arc::new(Processes { python: python.to_owned(), home, known, idle: Semaphore::new(0) });
+        all.is_there();
+        Reasons(all)
     }
 
     /// Kills the processes that wait, and waits for their end; further refusals are looked at by none.
     pub async fn end(&self) {
         let waiting = {
-            let mut idle = lock(&self.idle);
-            idle.ending = None;
-            std::mem::take(&mut idle.looking)
+            let mut known = self.0.known();
+            known.ending = None;
+            std::mem::take(&mut known.idle)
         };
         for looking in waiting {
             looking.kill().await;
@@ -94,11 +114,12 @@ impl Reasons {
 
     /// The problem of a refused question, with the place of the fault if that is found.
     pub async fn told(&self, problem: Problem, line: &[u8]) -> Problem {
+        let deadline = Instant::now() + PATIENCE;
         match problem.number {
-            Some(number) if TOLD.contains(&number) => {
+            Some(number) if TOLD.contains(&number) && self.0.is_there() => {
                 let command = String::from_utf8_lossy(line);
                 let asked = asked(number, problem.op, &[], command.trim_end(), &[]);
-                self.added(problem, asked).await
+                self.added(problem, asked, deadline).await
             }
             _ => problem,
         }
@@ -106,25 +127,19 @@ impl Reasons {
 
     /// The problem of a refused change, with the place of the fault if that is found.
     pub async fn told_of_change(&self, app: &App, problem: Problem, line: &[u8]) -> Problem {
+        let deadline = Instant::now() + PATIENCE;
         let number = match problem.number {
-            Some(number) if TOLD.contains(&number) => number,
+            Some(number) if TOLD.contains(&number) && self.0.is_there() => number,
             _ => return problem,
         };
-        let refused = {
-            // The values take much more memory than the line, so only a few clients have them at once, and not for long.
-            let _turn = app.trees.turn(line.len()).await;
-            Refused::of(line, problem.change)
-        };
-        let pair = match &refused.document {
-            Some(name) if number == INVALID => pair_of(&app.store, name).await,
-            _ => Vec::new(),
-        };
-        let asked = asked(number, problem.op, &refused.before, &refused.command, &pair);
-        self.added(problem, asked).await
+        match timeout_at(deadline, asked_of_change(app, &problem, number, line)).await {
+            Ok(asked) => self.added(problem, asked, deadline).await,
+            Err(_) => problem,
+        }
     }
 
-    async fn added(&self, mut problem: Problem, asked: Vec<u8>) -> Problem {
-        if let Some(told) = self.looked(asked).await {
+    async fn added(&self, mut problem: Problem, asked: Vec<u8>, deadline: Instant) -> Problem {
+        if let Some(told) = self.0.looked(asked, deadline).await {
             if !told.detail.is_empty() {
                 problem.detail = told.detail;
                 problem.advice = Some(told.advice);
@@ -133,36 +148,92 @@ impl Reasons {
         }
         problem
     }
+}
 
-    /// What a process answers; none if it couldn't begin, was too slow, or was ended by a limit of the system.
-    async fn looked(&self, asked: Vec<u8>) -> Option<Told> {
-        let _turn = timeout(TURN, self.turns.acquire()).await.ok()?.ok()?;
-        let (python, idle) = (self.python.clone(), self.idle.clone());
+/// What a process is asked of a refused change.
+async fn asked_of_change(app: &App, problem: &Problem, number: u64, line: &[u8]) -> Vec<u8> {
+    let refused = app.trees.work(line.len(), || Refused::of(line, problem.change)).await;
+    let pair = match &refused.document {
+        Some(name) if number == INVALID => pair_of(&app.store, name).await,
+        _ => Vec::new(),
+    };
+    asked(number, problem.op, &refused.before, &refused.command, &pair)
+}
+
+impl Processes {
+    fn known(&self) -> MutexGuard<'_, Known> {
+        self.known.lock().unwrap_or_else(std::sync::PoisonError::into_inner)
+    }
+
+    /// Whether there is a process, or one that begins. If all of them look, a further one begins, unless there are as many as
+    /// there may be.
+    fn is_there(self: &Arc<Self>) -> bool {
+        let mut known = self.known();
+        let may_begin = !known.begins && known.count < MOST && known.rest.map_or(true, |rest| rest <= Instant::now());
+        if let Some(ending) = known.ending.clone().filter(|_| known.idle.is_empty() && may_begin) {
+            (known.count, known.begins) = (known.count + 1, true);
+            self.home.spawn(self.clone().begin(ending));
+        }
+        known.count > 0
+    }
+
+    /// Has a process begin, which is counted already.
+    async fn begin(self: Arc<Self>, mut ending: Ending) {
+        let begun = Looking::begin(&self.python, &mut ending).await;
+        {
+            let mut known = self.known();
+            known.begins = false;
+            if begun.is_none() {
+                known.rest = Some(Instant::now() + REST);
+            }
+        }
+        self.give_back(begun).await;
+    }
+
+    /// Has a process wait for a refusal; if it has gone, there is one less.
+    async fn give_back(&self, looking: Option<Looking>) {
+        let late = {
+            let mut known = self.known();
+            match looking {
+                Some(looking) if known.ending.is_some() => {
+                    known.idle.push(looking);
+                    self.idle.add_permits(1);
+                    return;
+                }
+                looking => {
+                    known.count -= 1;
+                    looking
+                }
+            }
+        };
+        if let Some(looking) = late {
+            looking.kill().await;
+        }
+    }
+
+    /// What a process answers until then; none if there was none, it was too slow, or was ended by a limit of the system.
+    async fn looked(self: &Arc<Self>, asked: Vec<u8>, deadline: Instant) -> Option<Told> {
+        timeout_at(deadline, self.idle.acquire()).await.ok()?.ok()?.forget();
+        let all = self.clone();
         // In the thread that the processes are children of.
         let looked = self.home.spawn(async move {
-            let (mut ending, found) = {
-                let mut idle = lock(&idle);
-                (idle.ending.clone()?, idle.looking.pop())
+            let (mut looking, mut ending) = {
+                let mut known = all.known();
+                (known.idle.pop()?, known.ending.clone()?)
             };
-            let mut looking = match found {
-                Some(looking) => looking,
-                None => Looking::begin(&python, &mut ending).await?,
-            };
-            let line = looking.answer(&asked, LOOK, &mut ending).await;
-            let keeps = line.is_some() && lock(&idle).ending.is_some();
-            if keeps {
-                lock(&idle).looking.push(looking);
+            let line = looking.answer(&asked, deadline, &mut ending).await;
+            if line.is_some() {
+                all.give_back(Some(looking)).await;
             } else {
                 looking.kill().await;
+                all.give_back(None).await;
+                // The next refusal need not wait until another one has begun.
+                all.is_there();
             }
             line
         });
-        told_in(&looked.await.ok()??)
+        told_in(&timeout_at(deadline, looked).await.ok()?.ok()??)
     }
-}
-
-fn lock(idle: &Mutex<Idle>) -> MutexGuard<'_, Idle> {
-    idle.lock().unwrap_or_else(std::sync::PoisonError::into_inner)
 }
 
 /// A change that was refused, in texts.
@@ -227,9 +298,7 @@ impl Looking {
         command.args(["-m", MODULE]).stdin(Stdio::piped()).stdout(Stdio::piped()).stderr(Stdio::null());
         // In a folder that is nobody's, so that nothing there is taken for a module.
         command.current_dir("/").kill_on_drop(true);
-        if let Some(paths) = std::env::var_os("PYTHONPATH") {
-            command.env("PYTHONPATH", absolute(&paths)?);
-        }
+        command.env("PYTHONPATH", module_paths(std::env::var_os("PYTHONPATH"))?);
         // SAFETY: between fork and exec only `setsid` and `signal` are called, which are safe there (signal-safety(7)).
         unsafe {
             command.pre_exec(|| {
@@ -241,7 +310,7 @@ impl Looking {
         let mut child = command.spawn().ok()?;
         let (input, output) = (child.stdin.take()?, BufReader::new(child.stdout.take()?));
         let mut looking = Looking { child, input, output };
-        match looking.answer(b"", BEGIN, ending).await {
+        match looking.answer(b"", Instant::now() + BEGIN, ending).await {
             Some(_) => Some(looking),
             None => {
                 looking.kill().await;
@@ -250,15 +319,15 @@ impl Looking {
         }
     }
 
-    /// The line that it answers within this time, unless the server ends.
-    async fn answer(&mut self, asked: &[u8], patience: Duration, ending: &mut Ending) -> Option<String> {
+    /// The line that it answers until then, unless the server ends.
+    async fn answer(&mut self, asked: &[u8], deadline: Instant, ending: &mut Ending) -> Option<String> {
         let mut line = String::new();
         let answered = async {
             self.input.write_all(asked).await?;
             (&mut self.output).take(MOST_ANSWER).read_line(&mut line).await
         };
         let count = tokio::select! {
-            answered = timeout(patience, answered) => answered.ok()?.ok()?,
+            answered = timeout_at(deadline, answered) => answered.ok()?.ok()?,
             () = ending.begun() => return None,
         };
         (count > 0 && line.ends_with('\n')).then(|| line)
@@ -271,12 +340,18 @@ impl Looking {
     }
 }
 
-/// Paths of modules that hold in another folder too.
-fn absolute(paths: &OsString) -> Option<OsString> {
+/// The folders of modules that are named, so that they hold in another folder too, and that of an archive.
+fn module_paths(named: Option<OsString>) -> Option<OsString> {
     let here = std::env::current_dir().ok()?;
-    let all =
-        std::env::split_paths(paths).map(|path| if path.is_absolute() { path } else { here.join(Path::new(&path)) });
-    std::env::join_paths(all).ok()
+    let named = named.filter(|paths| !paths.is_empty()).unwrap_or_default();
+    let named = std::env::split_paths(&named).filter(|path| !path.as_os_str().is_empty()).map(|path| here.join(path));
+    std::env::join_paths(named.chain(package_beside())).ok()
+}
+
+/// The folder of the package in an archive, in whose `bin` this server is.
+fn package_beside() -> Option<PathBuf> {
+    let server = std::env::current_exe().ok()?;
+    Some(server.parent()?.parent()?.join(PACKAGE)).filter(|folder| folder.is_dir())
 }
 
 #[cfg(test)]

@@ -4,7 +4,7 @@ use super::connection::Request;
 use super::once::Once;
 use super::problem::Problem;
 use super::response::Response;
-use super::target::decoded;
+use super::target::{decoded, WHOLE_SERVER};
 use super::{changes, documents, facts, page, schemas, transactions};
 
 /// What a path leads to.
@@ -22,9 +22,10 @@ enum Route {
     Problem(String),
     Description,
     Page(&'static page::File),
+    WholeServer,
 }
 
-const READ: &str = "GET,HEAD";
+const READ: &str = "GET,HEAD,OPTIONS";
 
 impl Route {
     fn of(path: &str) -> Option<Route> {
@@ -32,6 +33,7 @@ impl Route {
             return Some(Route::Page(file));
         }
         Some(match path {
+            WHOLE_SERVER => Route::WholeServer,
             "/documents" => Route::Documents,
             "/transactions" => Route::Transactions,
             "/changes" => Route::Changes,
@@ -57,9 +59,9 @@ impl Route {
     fn methods(&self) -> &'static str {
         match self {
             Route::Document(_) => "GET,HEAD,PUT,PATCH,DELETE,OPTIONS",
-            Route::Schema(_) => "GET,HEAD,PUT",
-            Route::Transactions => "POST",
-            Route::Changes => "GET",
+            Route::Schema(_) => "GET,HEAD,PUT,OPTIONS",
+            Route::Transactions => "POST,OPTIONS",
+            Route::WholeServer => "GET,HEAD,PUT,PATCH,DELETE,POST,OPTIONS",
             _ => READ,
         }
     }
@@ -78,7 +80,7 @@ pub async fn answered(mut request: Request<'_>) -> Result<Response, Problem> {
     if app.guard.is_preflight(&request.head) {
         return Ok(Response::empty(204));
     }
-    if request.head.field("expect").map_or(false, |word| !word.eq_ignore_ascii_case("100-continue")) {
+    if request.head.expects_else() {
         return Err(Problem::new(417, "request", "only `100-continue` may be expected"));
     }
     let route =
@@ -88,7 +90,10 @@ pub async fn answered(mut request: Request<'_>) -> Result<Response, Problem> {
         let told = format!("{method} is not for this path");
         return Err(Problem::new(405, "request", told).with("Allow", route.methods()));
     }
-    if !matches!(method.as_str(), "GET" | "HEAD" | "OPTIONS") {
+    if method == "OPTIONS" {
+        return Ok(options(&route));
+    }
+    if !matches!(method.as_str(), "GET" | "HEAD") {
         request.once = Once::of(&request.head)?;
     }
     match route {
@@ -99,12 +104,20 @@ pub async fn answered(mut request: Request<'_>) -> Result<Response, Problem> {
     }
 }
 
+/// What may be asked.
+fn options(route: &Route) -> Response {
+    let response = Response::empty(204).with("Allow", route.methods());
+    match route {
+        Route::Document(_) => response.with("Accept-Patch", documents::ACCEPT_PATCH),
+        _ => response,
+    }
+}
+
 async fn of_document(request: &mut Request<'_>, name: &str) -> Result<Response, Problem> {
     match request.head.method.as_str() {
         "PUT" => documents::put(request, name).await,
         "PATCH" => documents::patch(request, name).await,
         "DELETE" => documents::delete(request, name).await,
-        "OPTIONS" => Ok(documents::options()),
         _ => documents::get(request, name).await,
     }
 }
@@ -123,7 +136,8 @@ async fn read(request: &Request<'_>, route: Route) -> Result<Response, Problem> 
         Route::Problem(name) => facts::problem(request, &name),
         Route::Description => page::description(request),
         Route::Page(file) => Ok(file.response()),
-        Route::Transactions => Err(Problem::new(405, "request", "this path is only posted to")),
+        // Their methods are answered before.
+        Route::Transactions | Route::WholeServer => Err(Problem::new(405, "request", "this is not read")),
     }
 }
 
@@ -141,5 +155,6 @@ mod tests {
             assert_eq!(Route::of(path), None, "{path}");
         }
         assert!(matches!(Route::of("/"), Some(Route::Page(_))));
+        assert_eq!(Route::of("*"), Some(Route::WholeServer));
     }
 }

@@ -2,14 +2,13 @@
 
 use super::conditions::Condition;
 use super::connection::Request;
-use super::documents::{change_if, check_kind, read, text_of, JSON};
+use super::documents::{change_if, check_kind, read, setting, text_of, JSON};
 use super::making::changed;
 use super::notices::notices_in;
 use super::once::or_before;
 use super::problem::Problem;
 use super::response::Response;
 use super::target::parameters;
-use crate::json::quoted;
 use crate::lines::replies;
 
 /// The media type of a schema.
@@ -28,8 +27,8 @@ pub async fn put(request: &mut Request<'_>, name: &str) -> Result<Response, Prob
     check_kind(request, &[SCHEMA, JSON])?;
     let condition = Condition::of(&request.head)?;
     let schema = text_of(request).await?.text;
-    let line =
-        [b"{\"cmd\":\"schema\",\"name\":", quoted(name).as_bytes(), b",\"schema\":", &schema[..], b"}\n"].concat();
-    let made = change_if(request, name, &condition, &line).await;
-    Ok(changed(name, or_before(request, made).await?, &notices_in(&schema)))
+    let made = change_if(request, name, &condition, &setting(name, &schema)).await;
+    let made = or_before(request, made).await?;
+    let notices = request.app.trees.work(schema.len(), || notices_in(&schema)).await;
+    Ok(changed(name, made, &notices))
 }

@@ -5,12 +5,15 @@ use super::problem::Problem;
 /// The most parameters that are looked at.
 const MOST_PARAMETERS: usize = 16;
 
+/// The target that is the server as a whole, of which options alone may be asked (RFC 9112, section 3.2.4).
+pub const WHOLE_SERVER: &str = "*";
+
 /// A target, and the host that it names if it is a whole address (RFC 9112, section 3.2.2).
 #[derive(Debug, PartialEq, Eq)]
 pub struct Target<'t> {
     /// The host and the port.
     pub host: Option<&'t str>,
-    /// The path, which begins with `/`.
+    /// The path, which begins with `/`, or is the whole server.
     pub path: &'t str,
     /// What is after `?`.
     pub query: &'t str,
@@ -18,6 +21,9 @@ pub struct Target<'t> {
 
 /// The parts of a target; none if it isn't one for this server.
 pub fn parts(target: &str) -> Option<Target<'_>> {
+    if target == WHOLE_SERVER {
+        return Some(Target { host: None, path: target, query: "" });
+    }
     let target = target.split('#').next().unwrap_or_default();
     let (host, rest) = if target.starts_with('/') { (None, target) } else { of_address(target)? };
     let (path, query) = rest.split_once('?').unwrap_or((rest, ""));
@@ -98,8 +104,8 @@ mod tests {
         assert_eq!((found.host, found.path, found.query), (None, "/a/b", "c=d?e"));
         let found = parts("http://x:80/a?b").unwrap();
         assert_eq!((found.host, found.path, found.query), (Some("x:80"), "/a", "b"));
-        assert_eq!(parts("http://x").unwrap().path, "/");
-        for target in ["*", "x:80", "http://evil:x[/", "ftp://x/", "http:///a", "http://a@b/"] {
+        assert_eq!((parts("http://x").unwrap().path, parts("*").unwrap().path), ("/", "*"));
+        for target in ["**", "*?x", "x:80", "http://evil:x[/", "ftp://x/", "http:///a", "http://a@b/"] {
             assert!(parts(target).is_none(), "{target}");
         }
         assert!(is_host("[::1]:80") && is_host("localhost") && !is_host("[::g]") && !is_host("a:b") && !is_host(""));

@@ -2,7 +2,7 @@
 
 use super::conditions::Condition;
 use super::connection::Request;
-use super::documents::{check_kind, text_of, JSON};
+use super::documents::{check_kind, check_path, text_of, JSON};
 use super::making::{done, make, or_problem};
 use super::notices::notices_of;
 use super::once::or_before;
@@ -28,23 +28,26 @@ pub async fn make_all(request: &mut Request<'_>) -> Result<Response, Problem> {
         return Err(Problem::new(412, "condition", told));
     }
     let body = text_of(request).await?.text;
-    let (line, warnings) = {
-        let _turn = request.app.trees.turn(body.len()).await;
-        let (changes, of_mark) = changes_in(&body)?;
-        if !of_mark.is_empty() && request.once.is_some() {
-            let told = "a transaction that sets a `mark` of its own has no `Idempotency-Key`";
-            return Err(Problem::new(400, "idempotency-key", told));
-        }
-        let changed = canonical(&changes);
-        let line = [b"{", &of_mark[..], b"\"changes\":", &changed, b",\"cmd\":\"transaction\"}\n"].concat();
-        (line, warnings_of(&changes))
-    };
+    let has_key = request.once.is_some();
+    let (line, warnings) = request.app.trees.work(body.len(), || line_of(&body, has_key)).await?;
     let made = match make(request, line, 200).await {
         Ok(made) => or_problem(request, made).await,
         Err(problem) => Err(problem),
     };
     let made = or_before(request, made).await?;
     Ok(Response::json(made.status, done(made.seq, &warnings)))
+}
+
+/// The line of the changes of a body, and what may be mistakes in it. A request with a key has no mark of its own.
+fn line_of(body: &[u8], has_key: bool) -> Result<(Vec<u8>, Vec<String>), Problem> {
+    let (changes, of_mark) = changes_in(body)?;
+    if !of_mark.is_empty() && has_key {
+        let told = "a transaction that sets a `mark` of its own has no `Idempotency-Key`";
+        return Err(Problem::new(400, "idempotency-key", told));
+    }
+    let changed = canonical(&changes);
+    let line = [b"{", &of_mark[..], b"\"changes\":", &changed, b",\"cmd\":\"transaction\"}\n"].concat();
+    Ok((line, warnings_of(&changes)))
 }
 
 /// The mark of a key.
@@ -75,6 +78,11 @@ fn changes_in(body: &[u8]) -> Result<(Value, Vec<u8>), Problem> {
     let is_change =
         |change: &Value| change.get("cmd").and_then(Value::as_str).map_or(false, |word| CHANGES.contains(&word));
     let wrong = changes.as_array().and_then(|changes| changes.iter().position(|change| !is_change(change)));
+    let made = changes.as_array().into_iter().flatten().enumerate().filter(|(_, change)| change["cmd"] == CHANGES[0]);
+    for (place, change) in made {
+        let checked = check_path(change["name"].as_str().unwrap_or_default());
+        checked.map_err(|problem| Problem { change: Some(place as u64), ..problem })?;
+    }
     match wrong {
         Some(place) => {
             let told = format!(

@@ -6,7 +6,7 @@ use crate::lines::framing::Framing;
 use crate::lines::kinds::{kind_of, own_command, Kind, Own};
 use crate::lines::replies::refusal;
 use crate::lines::{Line, Lines};
-use crate::program::room::{Room, Taken};
+use crate::program::room::{lost, Room, Taken};
 use crate::program::{Handle, Job, Reply, Spool};
 use bytes::BytesMut;
 use std::future::Future;
@@ -21,7 +21,7 @@ use tokio::time::timeout;
 const PIECE: usize = 1 << 16;
 const MOST_LINES: usize = 256;
 
-/// The refusal of an export for which there is no room.
+/// The refusal of an export for which there is no room in memory or on the disk.
 const NO_MEMORY: u64 = 63;
 
 /// How long a client may take for its last replies.
@@ -43,14 +43,27 @@ pub(super) struct Client {
     lines: Taken,
     /// Whether the buffer has held more than a piece.
     was_long: bool,
+    /// What is taken of others for what is written to it now.
+    held: Option<Taken>,
 }
 
 /// Serves a client until it says that no more lines come and all are answered, it goes away, or the server ends.
 pub(super) fn attend(stream: UnixStream, store: Handle, rooms: &Rooms, ending: Ending) -> impl Future<Output = ()> {
     let (framing, lines) = (Framing::default(), rooms.lines.begin());
     let (replies, exports) = (rooms.replies.clone(), rooms.exports.clone());
-    let mut client =
-        Client { stream, framing, ending, next: None, ended: false, store, replies, exports, lines, was_long: false };
+    let mut client = Client {
+        stream,
+        framing,
+        ending,
+        next: None,
+        ended: false,
+        store,
+        replies,
+        exports,
+        lines,
+        was_long: false,
+        held: None,
+    };
     async move {
         // A client that has gone away is no error.
         let _ = client.serve().await;
@@ -102,9 +115,9 @@ impl Client {
                 break;
             }
             match kind {
-                Kind::Change => lines.changes.push(line),
-                Kind::Question => lines.questions.push(line),
-                _ => lines.snapshots.push(line),
+                Kind::Change => lines.changes.push_back(line),
+                Kind::Question => lines.questions.push_back(line),
+                _ => lines.snapshots.push_back(line),
             }
         }
         lines
@@ -126,18 +139,23 @@ impl Client {
             (self.framing.buffer, self.was_long) = (BytesMut::new(), false);
         }
         self.framing.buffer.reserve(PIECE);
+        self.lines.waits(true);
+        let before = self.framing.buffer.len();
         tokio::select! {
             count = self.stream.read_buf(&mut self.framing.buffer) => self.ended = count? == 0,
             () = self.ending.begun() => return Ok(false),
+            () = self.lines.lost() => return Ok(false),
         }
+        self.lines.moved(self.framing.buffer.len() - before);
+        self.lines.waits(false);
         Ok(self.has_room())
     }
 
     /// Whether there is room for what was read and isn't answered.
     pub(super) fn has_room(&mut self) -> bool {
-        let more = self.framing.buffer.len().saturating_sub(PIECE);
-        self.was_long |= more > 0;
-        self.lines.becomes(more)
+        let size = self.framing.buffer.len();
+        self.was_long |= size > PIECE;
+        self.lines.becomes(size)
     }
 
     /// Has lines done, and hands over the replies; false if the server ends, or there is no room for the replies.
@@ -149,38 +167,53 @@ impl Client {
                 Ok(Ok(answer)) => answer,
                 _ => return Ok(false),
             };
+            self.held = Some(answer.taken);
             self.write(&answer.replies).await?;
+            self.held = None;
             lines = answer.rest;
         }
         Ok(true)
     }
 
-    /// Writes as fast as the client takes it; at the server's end not for long.
+    /// Writes as fast as the client takes it, unless others need what it has more; at the server's end not for long.
     pub(super) async fn write(&mut self, bytes: &[u8]) -> io::Result<()> {
-        let Client { stream, ending, .. } = self;
+        let Client { stream, ending, held, .. } = self;
         let late = async {
             ending.begun().await;
             tokio::time::sleep(FAREWELL).await;
         };
+        let written = async {
+            for piece in bytes.chunks(PIECE) {
+                stream.write_all(piece).await?;
+                held.iter().for_each(|taken| taken.moved(piece.len()));
+            }
+            Ok(())
+        };
+        held.iter().for_each(|taken| taken.waits(true));
         tokio::select! {
-            written = stream.write_all(bytes) => written,
+            written = written => written,
             () = late => Err(io::ErrorKind::TimedOut.into()),
+            () = lost(held) => Err(io::ErrorKind::TimedOut.into()),
         }
     }
 
     /// Hands the client all documents of one moment; a refusal, if too many others haven't read theirs.
     async fn export(&mut self) -> io::Result<()> {
-        let _place = match self.exports.take(1) {
+        let place = match self.exports.take_soon(1).await {
             Some(place) => place,
             None => return self.write(&refusal(NO_MEMORY)).await,
         };
         let mut spool: Spool = match self.store.export("", &self.replies).await {
-            Ok(spool) => spool?,
+            Ok(Ok(spool)) => spool,
+            // It was said why.
+            Ok(Err(_)) => return self.write(&refusal(NO_MEMORY)).await,
             Err(_) => return Err(io::ErrorKind::BrokenPipe.into()),
         };
+        self.held = Some(place);
         loop {
             let piece = spool.next()?;
             if piece.is_empty() {
+                self.held = None;
                 return Ok(());
             }
             self.write(&piece).await?;

@@ -1,16 +1,19 @@
 //! The Unix socket: made for its user alone, and taken away only if it is the one that was made.
 
 use crate::error::{system_words, Error};
+use crate::limits::BACKLOG;
 use std::fs::{self, Metadata};
 use std::io;
 use std::os::unix::fs::{FileTypeExt, MetadataExt};
 use std::os::unix::io::AsRawFd;
 use std::os::unix::net::UnixListener;
 use std::path::{Path, PathBuf};
+use std::time::{Duration, Instant};
 use tokio::net::UnixStream;
+use tokio::time::sleep;
 
-/// The most connections that wait until they are taken.
-const BACKLOG: libc::c_int = 1024;
+/// How long it waits before it looks again whether another program listens.
+const PAUSE: Duration = Duration::from_millis(50);
 
 /// Which file is at a path.
 type Place = (u64, u64);
@@ -52,7 +55,7 @@ fn bound(path: &Path) -> io::Result<UnixListener> {
     unsafe { libc::umask(mask) };
     let listener = listener?;
     // SAFETY: the descriptor is that of the listener, which is open.
-    if unsafe { libc::listen(listener.as_raw_fd(), BACKLOG) } != 0 {
+    if unsafe { libc::listen(listener.as_raw_fd(), BACKLOG as libc::c_int) } != 0 {
         return Err(io::Error::last_os_error());
     }
     listener.set_nonblocking(true)?;
@@ -63,8 +66,22 @@ fn no_socket(path: &Path, error: &io::Error) -> Error {
     Error::new(format!("no socket can be made at {}: {}", path.display(), system_words(error)))
 }
 
+/// Waits for so long until no other program listens at the path, and tells an error if no socket can be made there then. A
+/// server that was killed may have a child that hasn't let go of its socket yet.
+pub async fn until_free(path: &Path, wait: Duration) -> Result<(), Error> {
+    let until = Instant::now() + wait;
+    while has_listener(path).await && Instant::now() < until {
+        sleep(PAUSE).await;
+    }
+    check_free(path).await.map(drop)
+}
+
+async fn has_listener(path: &Path) -> bool {
+    UnixStream::connect(path).await.map_or_else(|error| error.kind() == io::ErrorKind::WouldBlock, |_| true)
+}
+
 /// An error if no socket can be made at the path; else the stale socket that is there, if there is one.
-pub async fn check_free(path: &Path) -> Result<Option<Place>, Error> {
+async fn check_free(path: &Path) -> Result<Option<Place>, Error> {
     let shown = path.display();
     let found = match fs::symlink_metadata(path) {
         Ok(found) => found,

@@ -6,16 +6,10 @@ mod watch;
 
 use crate::doors::{let_in, Places};
 use crate::ending::Ending;
+use crate::limits::{GRACE, SOCKET_EXPORTS, SOCKET_LINES, SOCKET_REPLIES};
 use crate::program::room::Room;
 use crate::program::Handle;
 use tokio::net::UnixListener;
-
-/// The most bytes of replies that clients haven't taken, and of long lines that aren't answered.
-const MOST_REPLIES: usize = 1 << 28;
-const MOST_LINES: usize = 1 << 28;
-
-/// The most exports that clients haven't read: each may have a file of all documents.
-const MOST_EXPORTS: usize = 32;
 
 /// What all clients share: bytes, and exports.
 struct Rooms {
@@ -26,9 +20,10 @@ struct Rooms {
 
 /// Takes clients, each of which is attended beside the others, until the end.
 pub async fn serve(listener: UnixListener, store: Handle, places: Places, ending: Ending) {
-    let (replies, lines, exports) = (Room::new(MOST_REPLIES), Room::new(MOST_LINES), Room::new(MOST_EXPORTS));
-    let (listener, rooms) = (&listener, Rooms { replies, lines, exports });
+    let (replies, lines) = (Room::of_bytes(SOCKET_REPLIES), Room::of_bytes(SOCKET_LINES));
+    let rooms = Rooms { replies, lines, exports: Room::of_places(SOCKET_EXPORTS, GRACE) };
+    let listener = &listener;
     let accept = || async move { Ok(listener.accept().await?.0) };
-    let attend = |stream| client::attend(stream, store.clone(), &rooms, ending.clone());
+    let attend = |stream, _| client::attend(stream, store.clone(), &rooms, ending.clone());
     let_in(places, ending.clone(), accept, attend).await;
 }

@@ -1,6 +1,7 @@
 //! The kinds of lines, which decide in which part of a round a line is done.
 
 use crate::json::{compact, members_in};
+use crate::protocol::{CHANGES, OWN_COMMANDS, SNAPSHOTS};
 use memchr::memmem;
 use serde_json::value::RawValue;
 use std::collections::BTreeMap;
@@ -12,7 +13,7 @@ pub enum Kind {
     Change,
     /// It changes nothing. What is no command at all counts as a question: it is only refused.
     Question,
-    /// It makes a snapshot, or a step of one.
+    /// It makes a snapshot or a step of one, or seals the store.
     Snapshot,
     /// The server answers it itself.
     Own,
@@ -39,9 +40,9 @@ const END_OF_TRANSACTION: &[u8] = b"],\"cmd\":\"transaction\"}";
 
 fn kind_of_word(word: &[u8]) -> Kind {
     match word {
-        b"create" | b"patch" | b"schema" | b"delete" | b"transaction" => Kind::Change,
-        b"snapshot" | b"pump" => Kind::Snapshot,
-        b"watch" | b"export" | b"grow" => Kind::Own,
+        word if CHANGES.contains(&word) => Kind::Change,
+        word if SNAPSHOTS.contains(&word) => Kind::Snapshot,
+        word if OWN_COMMANDS.contains(&word) => Kind::Own,
         _ => Kind::Question,
     }
 }
@@ -115,7 +116,7 @@ mod tests {
 
     #[test]
     fn the_word_decides() {
-        let rows: [(&str, Kind); 18] = [
+        let rows: [(&str, Kind); 19] = [
             (r#"{"cmd":"create","doc":1,"name":"d","schema":true}"#, Kind::Change),
             (r#"{ "cmd" : "patch" }"#, Kind::Change),
             (r#"{"c\u006dd":"delete","name":"d"}"#, Kind::Change),
@@ -126,6 +127,7 @@ mod tests {
             (r#"{"cmd":"create","doc":{"cmd":"snapshot"}}"#, Kind::Change),
             (r#"{"doc":"cmd","cmd":"get"}"#, Kind::Question),
             (r#"{"cmd":"pump","max":1}"#, Kind::Snapshot),
+            (r#"{"cmd":"seal"}"#, Kind::Snapshot),
             (r#"{"cmd":"watch"}"#, Kind::Own),
             (r#"[{"cmd":"transaction"}]"#, Kind::Change),
             (r#"{"cmd":"mark","key":"create"}"#, Kind::Question),

@@ -6,12 +6,9 @@ pub mod replies;
 pub mod transactions;
 
 use bytes::Bytes;
+use std::collections::VecDeque;
 
-/// The most bytes of a line without its LF.
-pub const MOST_LINE: usize = 1 << 20;
-
-/// The most changes of a transaction, and of a group.
-pub const MOST_CHANGES: usize = 1024;
+pub use crate::protocol::{MOST_CHANGES, MOST_LINE_BYTES as MOST_LINE};
 
 /// A line with its LF. One without any byte stands for a line that is too long.
 pub type Line = Bytes;
@@ -29,22 +26,17 @@ pub const SEAL: &[u8] = b"{\"cmd\":\"seal\"}\n";
 #[derive(Debug, Default)]
 pub struct Lines {
     /// Those that change documents.
-    pub changes: Vec<Line>,
+    pub changes: VecDeque<Line>,
     /// Those that only ask, or are refused.
-    pub questions: Vec<Line>,
+    pub questions: VecDeque<Line>,
     /// Those that make a snapshot or a step of one.
-    pub snapshots: Vec<Line>,
+    pub snapshots: VecDeque<Line>,
 }
 
 impl Lines {
     /// How many they are.
     pub fn count(&self) -> usize {
         self.changes.len() + self.questions.len() + self.snapshots.len()
-    }
-
-    /// How many bytes they have.
-    pub fn size(&self) -> usize {
-        [&self.changes, &self.questions, &self.snapshots].iter().flat_map(|part| part.iter()).map(Bytes::len).sum()
     }
 
     /// Whether there are none.

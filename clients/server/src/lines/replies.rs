@@ -1,7 +1,7 @@
 //! What a reply says, by its head, so that a long one need not be read; and the lines of requests and refusals.
 
 use crate::json::{quoted, write::list};
-use crate::refusals::{self, NOT_GROWN};
+use crate::refusals::{self, GONE, NOT_GROWN};
 
 /// How a reply begins that tells of success and has one result.
 pub const OK: &[u8] = b"{\"ok\":true";
@@ -79,7 +79,8 @@ pub fn refusal(number: u64) -> Vec<u8> {
 
 /// The line that says from which number on changes are kept.
 pub fn gone(from: u64) -> Vec<u8> {
-    format!("{{\"error\":\"gone\",\"from\":{from},\"number\":80,\"ok\":false}}\n").into_bytes()
+    let name = refusals::name_of(GONE);
+    format!("{{\"error\":\"{name}\",\"from\":{from},\"number\":{GONE},\"ok\":false}}\n").into_bytes()
 }
 
 /// The line that says why the store has not grown.

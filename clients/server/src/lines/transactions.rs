@@ -1,14 +1,12 @@
 //! The transactions after a change, each whole, as the program's line `changes` tells them.
 
 use crate::json::members_in;
+use crate::protocol::MOST_TOLD_BYTES;
 use serde_json::value::RawValue;
 
-/// How many bytes of transactions are asked for at once, as the program counts them: as many as it allows.
-const MOST: usize = 1 << 22;
-
-/// The line that asks for the transactions after a number.
+/// The line that asks for the transactions after a number: as many bytes of them as the program allows.
 pub fn changes_after(seq: u64) -> String {
-    format!("{{\"cmd\":\"changes\",\"from\":{seq},\"max\":{MOST}}}\n")
+    format!("{{\"cmd\":\"changes\",\"from\":{seq},\"max\":{MOST_TOLD_BYTES}}}\n")
 }
 
 /// A transaction as it is told.

@@ -4,6 +4,7 @@
 //! that round is sent. So who reads a copy sees no less than was answered, and no more than is stored. Only the engine
 //! writes here.
 
+use crate::limits::ROUND_REPLIES;
 use bytes::Bytes;
 use std::collections::HashMap;
 use std::sync::atomic::{AtomicBool, Ordering};
@@ -58,14 +59,14 @@ impl Cache {
         Some(found.clone())
     }
 
-    /// Puts a copy here. If there is no room, others go.
+    /// Puts a copy here, if it isn't longer than all may be. An older one of it goes in any case, and others if there is no room.
     pub fn put(&self, name: &str, document: Arc<Document>) {
         let size = document.text.len() + BESIDE;
+        let mut copies = self.copies.write().unwrap_or_else(std::sync::PoisonError::into_inner);
+        copies.remove(name);
         if size > self.most {
             return;
         }
-        let mut copies = self.copies.write().unwrap_or_else(std::sync::PoisonError::into_inner);
-        copies.remove(name);
         while copies.size + size > self.most {
             let other = copies.by_name.keys().next().cloned();
             other.iter().for_each(|other| copies.remove(other));
@@ -74,10 +75,12 @@ impl Cache {
         copies.by_name.insert(name.to_owned(), document);
     }
 
-    /// The names of those of these documents, which have changed, whose copies were read. Other copies go.
+    /// The names of those of these documents, which have changed, whose copies were read: as many as can be read again while
+    /// others wait. Other copies go.
     pub fn changed<'n>(&self, names: impl Iterator<Item = &'n str>) -> Vec<String> {
         let mut copies = self.copies.write().unwrap_or_else(std::sync::PoisonError::into_inner);
-        names.filter(|name| copies.was_read(name)).map(str::to_owned).collect()
+        let mut left = ROUND_REPLIES;
+        names.filter(|name| copies.goes_on(name, &mut left)).map(str::to_owned).collect()
     }
 
     /// Takes all copies away.
@@ -97,13 +100,18 @@ impl Copies {
         self.size -= found.map_or(0, |document| document.text.len() + BESIDE);
     }
 
-    /// Whether there is a copy that was read; one that wasn't goes.
-    fn was_read(&mut self, name: &str) -> bool {
-        let found = self.by_name.get(name).map(|document| document.read.load(Ordering::Relaxed));
-        if found == Some(false) {
+    /// Whether there is a copy that was read, while some bytes are left for such ones; else it goes.
+    fn goes_on(&mut self, name: &str, left: &mut usize) -> bool {
+        let document = match self.by_name.get(name) {
+            Some(document) => document,
+            None => return false,
+        };
+        if *left == 0 || !document.read.load(Ordering::Relaxed) {
             self.remove(name);
+            return false;
         }
-        found == Some(true)
+        *left = left.saturating_sub(document.text.len());
+        true
     }
 }
 
@@ -134,6 +142,18 @@ mod tests {
     }
 
     #[test]
+    fn long_copies_are_not_all_read_again() {
+        let cache = Cache::new(1 << 26);
+        let names = ["a", "b", "c", "d"];
+        for (number, name) in names.into_iter().enumerate() {
+            cache.put(name, document(1, number << 18));
+            assert!(cache.get(name).is_some());
+        }
+        assert_eq!(cache.changed(names.into_iter()), ["a", "b"]);
+        assert!(cache.get("b").is_some() && cache.get("c").is_none() && cache.get("d").is_none());
+    }
+
+    #[test]
     fn its_size_is_bounded() {
         let cache = Cache::new(3 * (BESIDE + 100));
         (0..50).for_each(|number| cache.put(&number.to_string(), document(number, 100)));
@@ -141,6 +161,8 @@ mod tests {
         assert!(cache.get("49").is_some());
         cache.put("large", document(1, 10_000));
         assert!(cache.get("large").is_none());
+        cache.put("49", document(2, 10_000));
+        assert!(cache.get("49").is_none(), "an older copy is left");
         let none = Cache::new(0);
         none.put("a", document(1, 0));
         assert!(none.get("a").is_none());

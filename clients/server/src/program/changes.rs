@@ -4,18 +4,16 @@
 //! and the copies of the documents are replaced, before any of them is answered.
 
 use super::engine::{Engine, REST};
-use super::job::{document_in, finish, Pending};
+use super::job::document_in;
+use super::waiting::Portion;
 use crate::history::Event;
 use crate::lines::replies::{self, seq_in};
 use crate::lines::transactions::{changes_after, Told};
-use crate::lines::{Line, MOST_CHANGES};
+use crate::lines::Line;
 use bytes::Bytes;
 use std::collections::BTreeSet;
 use std::io;
 use tokio::time::Instant;
-
-/// The most bytes of a group. The program keeps four times as many of its newest transactions, so none of a group is gone.
-const GROUP_BYTES: usize = 1 << 22;
 
 /// How many documents are asked for together.
 const TOGETHER: usize = 32;
@@ -24,25 +22,23 @@ const TOGETHER: usize = 32;
 const TRIES: usize = 5;
 
 impl Engine {
-    /// Makes the changes of a round. Those who asked for nothing else are answered.
-    pub(super) async fn changes(&mut self, round: &mut [Option<Pending>]) -> io::Result<()> {
-        let mut lines = Vec::new();
-        for (index, pending) in round.iter_mut().enumerate() {
-            let changes = pending.as_mut().map(|pending| std::mem::take(&mut pending.job.lines.changes));
-            lines.extend(changes.into_iter().flatten().map(|line| (index, line)));
+    /// Makes the small changes of a round, which are one group. The program keeps four times as much of its newest
+    /// transactions, so none of a group is gone.
+    pub(super) async fn small_changes(&mut self) -> io::Result<()> {
+        let portion = self.waiting.small_changes();
+        self.change(portion).await
+    }
+
+    /// Makes some changes.
+    pub(super) async fn change(&mut self, mut portion: Portion) -> io::Result<()> {
+        if portion.lines.is_empty() {
+            self.hand_on(portion.jobs, false);
+            return Ok(());
         }
-        let mut rest = &lines[..];
-        while !rest.is_empty() {
-            let (group, others) = rest.split_at(group_of(rest));
-            for (reply, (index, _)) in self.group(group).await?.iter().zip(group) {
-                if let Some(pending) = &mut round[*index] {
-                    pending.add_done(reply);
-                }
-            }
-            rest = others;
-        }
-        finish(round);
-        Ok(())
+        let replies = self.group(&portion.lines).await;
+        let done = replies.map(|replies| portion.answer(&replies));
+        self.hand_on(portion.jobs, false);
+        done
     }
 
     /// The replies to a group of changes.
@@ -131,33 +127,6 @@ impl Engine {
     }
 }
 
-/// How many of these lines are sent together.
-fn group_of(lines: &[(usize, Line)]) -> usize {
-    let mut left = GROUP_BYTES;
-    let fits = |(_, line): &&(usize, Line)| match left.checked_sub(line.len()) {
-        Some(less) => {
-            left = less;
-            true
-        }
-        None => false,
-    };
-    lines.iter().take(MOST_CHANGES).take_while(fits).count().max(1)
-}
-
 fn wrong(told: String) -> io::Error {
     io::Error::new(io::ErrorKind::InvalidData, told)
-}
-
-#[cfg(test)]
-mod tests {
-    use super::{group_of, Line, GROUP_BYTES};
-
-    #[test]
-    fn a_group_has_no_more_than_the_program_keeps() {
-        let lines = |size: usize, count: usize| vec![(0, Line::from(vec![b' '; size])); count];
-        assert_eq!(group_of(&lines(10, 2000)), 1024);
-        assert_eq!(group_of(&lines(1 << 20, 7)), 4);
-        assert_eq!(group_of(&lines((1 << 20) + 1, 7)), 3);
-        assert_eq!(group_of(&lines(GROUP_BYTES + 1, 2)), 1);
-    }
 }

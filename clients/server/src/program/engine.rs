@@ -1,15 +1,18 @@
 //! The rounds in which the program does the lines of all clients.
 //!
-//! A round is what has arrived: of each client first the changes that it begins with, then the questions after them, then
-//! the snapshots after these. In this way each client's lines are done and answered in its own order, and changes that
-//! arrive together are one commit. A reply is handed on after the program gave it, so an answered change is on the disk.
+//! A round has the small changes that have arrived, which are one commit, then some small questions, and then one line that is
+//! large or may take long, if it is the turn of one. What is left waits for the next one, after the changes that have come
+//! meanwhile. Each client's lines are done and answered in its own order. A reply is handed on after the program gave it, so an
+//! answered change is on the disk.
 
 use super::cache::Cache;
-use super::export::{self, Wanted};
+use super::export;
 use super::growing::{Growths, Turn};
 use super::handle::{Handle, Message};
-use super::job::{send, Job, Pending};
+use super::job::Pending;
+use super::share::{Begun, Slow};
 use super::start::Program;
+use super::waiting::Waiting;
 use crate::error::Error;
 use crate::history::History;
 use crate::lines::replies::is_failure;
@@ -23,10 +26,6 @@ use tokio::sync::mpsc::{unbounded_channel, UnboundedReceiver};
 use tokio::sync::watch;
 use tokio::time::{sleep_until, Duration, Instant};
 
-/// The most lines of a round, and the most bytes of them.
-const ROUND_LINES: usize = 1024;
-const ROUND_BYTES: usize = 1 << 22;
-
 /// How long no line comes after a change before the store is sealed.
 pub(super) const REST: Duration = Duration::from_secs(1);
 
@@ -36,8 +35,7 @@ pub struct Engine {
     pub(super) history: Arc<History>,
     pub(super) cache: Arc<Cache>,
     queue: UnboundedReceiver<Message>,
-    pub(super) waiting: VecDeque<Job>,
-    exports: VecDeque<Wanted>,
+    pub(super) waiting: Waiting,
     turns: VecDeque<Turn>,
     growths: Growths,
     pub(super) broken: bool,
@@ -58,8 +56,7 @@ impl Engine {
             history,
             cache,
             queue,
-            waiting: VecDeque::new(),
-            exports: VecDeque::new(),
+            waiting: Waiting::default(),
             turns: VecDeque::new(),
             growths,
             broken: false,
@@ -108,7 +105,9 @@ impl Engine {
     async fn rounds(&mut self, stop: &mut watch::Receiver<bool>) -> io::Result<()> {
         while !*stop.borrow() && !self.broken {
             self.gather();
-            if self.waiting.is_empty() && self.exports.is_empty() && self.turns.is_empty() {
+            let now = Instant::now();
+            let next = self.waiting.next(now);
+            if next.map_or(true, |next| next > now) && self.turns.is_empty() {
                 tokio::select! {
                     biased;
                     changed = stop.changed() => if changed.is_err() { return Ok(()) },
@@ -117,17 +116,12 @@ impl Engine {
                         None => return Ok(()),
                     },
                     () = self.program.wait() => return Err(io::ErrorKind::UnexpectedEof.into()),
+                    () = at(next) => (),
                     () = at(self.seal_at) => self.seal().await?,
                 }
                 continue;
             }
-            let jobs = self.next_round();
-            if !jobs.is_empty() {
-                self.round(jobs).await?;
-            }
-            if let Some(wanted) = self.exports.pop_front() {
-                export::export(self, wanted).await?;
-            }
+            self.round().await?;
             if let Some(turn) = self.turns.pop_front() {
                 turn.take(self).await?;
             }
@@ -137,64 +131,72 @@ impl Engine {
 
     fn take(&mut self, message: Message) {
         match message {
-            Message::Job(job) => self.waiting.push_back(job),
-            Message::Export(wanted) => self.exports.push_back(wanted),
+            Message::Job(job) => drop(self.waiting.come(job).and_then(Pending::send)),
+            Message::Export(wanted) => self.waiting.add_export(wanted),
             Message::Grow(wanted) => self.growths.begin(wanted, self.history.clone()),
             Message::Turn(turn) => self.turns.push_back(turn),
         }
     }
 
-    /// Takes what has arrived, as much as a round may have.
+    /// Takes what has arrived.
     pub(super) fn gather(&mut self) {
-        while self.waiting.len() < ROUND_LINES {
-            match self.queue.try_recv() {
-                Ok(message) => self.take(message),
-                Err(_) => return,
+        while let Ok(message) = self.queue.try_recv() {
+            self.take(message);
+        }
+    }
+
+    /// Lets jobs wait for their next lines, or hands on their replies. Documents that were asked for may be kept, unless others
+    /// have changed meanwhile.
+    pub(super) fn hand_on(&mut self, jobs: Vec<Pending>, may_be_kept: bool) {
+        for pending in jobs {
+            let document = self.waiting.add(pending).and_then(Pending::send);
+            if let Some((name, document)) = document.filter(|_| may_be_kept) {
+                self.cache.put(&name, document);
             }
         }
     }
 
-    fn next_round(&mut self) -> Vec<Job> {
-        let (mut lines, mut size, mut jobs) = (0, 0, Vec::new());
-        while lines < ROUND_LINES && size < ROUND_BYTES {
-            let job = match self.waiting.pop_front() {
-                Some(job) => job,
-                None => break,
-            };
-            lines += job.lines.count();
-            size += job.lines.size();
-            jobs.push(job);
-        }
-        jobs
-    }
-
-    pub(super) async fn round(&mut self, jobs: Vec<Job>) -> io::Result<()> {
-        let mut round: Vec<Option<Pending>> = jobs.into_iter().map(|job| Some(Pending::new(job))).collect();
-        let done = self.parts(&mut round).await;
+    async fn round(&mut self) -> io::Result<()> {
+        let done = self.parts().await;
         if done.is_err() {
             // The program ended: what it had answered goes out.
-            round.into_iter().flatten().filter(|pending| !pending.replies.is_empty()).for_each(send);
+            let answered = self.waiting.take_all().filter(|pending| !pending.replies.is_empty());
+            answered.for_each(|pending| drop(pending.send()));
         }
         crate::say::try_again();
         done
     }
 
-    async fn parts(&mut self, round: &mut [Option<Pending>]) -> io::Result<()> {
-        self.changes(round).await?;
-        self.questions(round).await?;
-        for pending in round.iter_mut() {
-            let mut pending = match pending.take() {
-                Some(pending) => pending,
-                None => continue,
-            };
-            let all = if pending.is_full() { Vec::new() } else { std::mem::take(&mut pending.job.lines.snapshots) };
-            for line in all {
-                let replies = self.clients_lines(line.to_vec(), 1).await?;
-                replies.iter().for_each(|reply| pending.add_done(reply));
-            }
-            send(pending);
+    async fn parts(&mut self) -> io::Result<()> {
+        self.small().await?;
+        self.slow_change().await?;
+        self.small().await?;
+        self.slow_question().await?;
+        self.small().await?;
+        self.export().await
+    }
+
+    async fn small(&mut self) -> io::Result<()> {
+        self.gather();
+        self.small_changes().await?;
+        self.small_questions().await
+    }
+
+    /// Exports all documents for one who waits for that, if it is the turn of one.
+    async fn export(&mut self) -> io::Result<()> {
+        let begun = self.waiting.begin();
+        if let Some(wanted) = self.waiting.export(begun.at) {
+            export::export(self, wanted).await?;
+            self.took(Slow::Export, begun);
         }
         Ok(())
+    }
+
+    /// Takes what has arrived while one of this kind was done, and notes how long that took.
+    pub(super) fn took(&mut self, kind: Slow, begun: Begun) {
+        let ended = Instant::now();
+        self.gather();
+        self.waiting.took(kind, begun, ended);
     }
 
     /// The replies to lines; it is noted if one says that the device failed.

@@ -3,6 +3,7 @@
 use super::engine::Engine;
 use super::room::Room;
 use super::spool::Spool;
+use crate::limits::SMALL;
 use crate::lines::replies::{self, names_in, rev_in, text_in, OK};
 use crate::lines::LIST;
 use crate::say;
@@ -10,8 +11,8 @@ use bytes::Bytes;
 use std::io;
 use tokio::sync::oneshot;
 
-/// How many documents are asked for at once.
-const TOGETHER: usize = 16;
+/// The most documents that are asked for at once. It begins with one, and there are more while they are small.
+const TOGETHER: usize = 64;
 
 /// An export that somebody waits for.
 pub struct Wanted {
@@ -45,7 +46,9 @@ async fn read(engine: &mut Engine, wanted: &Wanted, spool: &mut Spool) -> io::Re
     };
     let names: Vec<String> = names.into_iter().filter(|name| name.starts_with(&wanted.prefix)).collect();
     let mut written = spool.write(format!("{{\"documents\":{},\"ok\":true,\"seq\":{seq}}}\n", names.len()).as_bytes());
-    for some in names.chunks(TOGETHER) {
+    let (mut rest, mut together) = (&names[..], 1);
+    while !rest.is_empty() {
+        let (some, others) = rest.split_at(together.min(rest.len()));
         let lines: String =
             some.iter().map(|name| replies::get(name, "") + &replies::get_schema(name) + &replies::rev(name)).collect();
         let told = engine.exchange(lines.as_bytes(), 3 * some.len()).await?;
@@ -60,6 +63,8 @@ async fn read(engine: &mut Engine, wanted: &Wanted, spool: &mut Spool) -> io::Re
         if written.is_err() {
             return Ok(written);
         }
+        let is_small = told.iter().map(Bytes::len).sum::<usize>() < SMALL;
+        (rest, together) = (others, if is_small { TOGETHER.min(2 * together) } else { 1.max(together / 2) });
         engine.answer_questions().await?;
     }
     Ok(written.and_then(|()| spool.write(format!("{{\"end\":true,\"ok\":true,\"seq\":{seq}}}\n").as_bytes())))

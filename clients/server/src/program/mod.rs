@@ -12,8 +12,11 @@ mod larger;
 mod pipes;
 mod questions;
 pub mod room;
+mod share;
+mod sizes;
 mod spool;
 mod start;
+mod waiting;
 
 pub use handle::Handle;
 pub use job::{Job, Reply};

@@ -1,99 +1,87 @@
-//! The part of a round that only asks.
+//! The parts of a round that ask, or may take long.
 
 use super::engine::Engine;
-use super::job::{document_in, finish, next_question, two_in, Job, Pending, Reply};
+use super::job::{Pending, State};
+use super::share::Slow;
+use super::waiting::{Portion, Turn};
 use crate::lines::replies::refusal;
 use crate::lines::Line;
+use bytes::Bytes;
 use std::io;
 
-/// How much is asked before the replies are looked at: a question whose reply may be long weighs more than others.
-const WINDOW: usize = 64;
-const WEIGHT_OF_LONG: usize = 32;
-
 impl Engine {
-    /// Asks the questions of a round, some at a time.
-    pub(super) async fn questions(&mut self, round: &mut [Option<Pending>]) -> io::Result<()> {
-        let mut window: Vec<(usize, Line)> = Vec::new();
-        let mut weight = 0;
-        for index in 0..round.len() {
-            while let Some(line) = next_question(&mut round[index]) {
-                weight += if may_be_long(&line) { WEIGHT_OF_LONG } else { 1 };
-                window.push((index, line));
-                if weight >= WINDOW {
-                    self.ask(&mut window, round).await?;
-                    weight = 0;
-                }
+    /// Asks the questions that are answered by little, until it is the turn of others.
+    pub(super) async fn small_questions(&mut self) -> io::Result<()> {
+        let mut turn = Turn::new();
+        while let Some(most) = turn.left() {
+            let portion = self.waiting.small_questions(most);
+            if portion.jobs.is_empty() {
+                break;
             }
+            turn.used(&self.ask(portion).await?);
         }
-        self.ask(&mut window, round).await
-    }
-
-    /// Asks some questions; those whose questions are all answered, and who asked for nothing else, are answered.
-    async fn ask(&mut self, window: &mut Vec<(usize, Line)>, round: &mut [Option<Pending>]) -> io::Result<()> {
-        if window.is_empty() {
-            return Ok(());
-        }
-        let input: Vec<u8> = window.iter().flat_map(|(_, line)| line.iter().copied()).collect();
-        let count = window.iter().filter(|(_, line)| !line.is_empty()).count();
-        let before = self.history.last();
-        let mut told = self.clients_lines(input, count).await?.into_iter();
-        // If one was a change after all, others may have read what was there before it.
-        let may_be_kept = self.history.last() == before;
-        for (index, line) in window.drain(..) {
-            let reply = if line.is_empty() { refusal(10).into() } else { told.next().unwrap_or_default() };
-            if let Some(pending) = &mut round[index] {
-                pending.add(&reply);
-                match &pending.job.reply {
-                    Reply::Document(name, _) if may_be_kept => self.keep(name, &pending.replies),
-                    _ => (),
-                }
-            }
-        }
-        finish(round);
         Ok(())
     }
 
-    /// Keeps the copy of a document that is asked for, when both replies are there.
-    fn keep(&self, name: &str, replies: &[u8]) {
-        if let Some((rev, value)) = two_in(replies) {
-            if let Ok(document) = document_in(rev, value) {
-                self.cache.put(name, document);
+    /// Makes one large change, or a snapshot, if it is the turn of one.
+    pub(super) async fn slow_change(&mut self) -> io::Result<()> {
+        let begun = self.waiting.begin();
+        if let Some(portion) = self.waiting.slow_change(begun.at) {
+            match portion.jobs.first().map(Pending::state) {
+                Some(State::Changes) => self.change(portion).await?,
+                _ => drop(self.ask(portion).await?),
             }
+            self.took(Slow::Change, begun);
         }
+        Ok(())
     }
 
-    /// Answers the questions that have arrived; changes wait.
+    /// Asks one question that may take long, if it is the turn of one.
+    pub(super) async fn slow_question(&mut self) -> io::Result<()> {
+        let begun = self.waiting.begin();
+        if let Some(portion) = self.waiting.slow_question(begun.at) {
+            self.ask(portion).await?;
+            self.took(Slow::Question, begun);
+        }
+        Ok(())
+    }
+
+    /// Answers questions that have arrived; changes wait.
     pub(super) async fn answer_questions(&mut self) -> io::Result<()> {
         self.gather();
-        let (some, others): (Vec<Job>, Vec<Job>) =
-            self.waiting.drain(..).partition(|job| job.lines.changes.is_empty() && job.lines.snapshots.is_empty());
-        self.waiting.extend(others);
-        if some.is_empty() {
-            return Ok(());
-        }
-        self.round(some).await
+        self.small_questions().await?;
+        self.slow_question().await
     }
-}
 
-/// Whether the reply to a line may be longer than a document. A word with an escape may be any.
-fn may_be_long(line: &[u8]) -> bool {
-    let has = |word: &[u8]| memchr::memmem::find(line, word).is_some();
-    has(b"\"query\"") || has(b"\"changes\"") || has(b"\\")
-}
+    /// Asks some questions, or makes a snapshot; the replies, which the jobs have.
+    async fn ask(&mut self, mut portion: Portion) -> io::Result<Vec<Bytes>> {
+        let before = self.history.last();
+        let replies = match self.replies(&portion.lines).await {
+            Ok(replies) => replies,
+            Err(error) => {
+                self.hand_on(portion.jobs, false);
+                return Err(error);
+            }
+        };
+        self.waiting.learn(&portion.lines, &replies);
+        portion.answer(&replies);
+        // If one was a change after all, others may have read what was there before it.
+        self.hand_on(portion.jobs, self.history.last() == before);
+        Ok(replies)
+    }
 
-#[cfg(test)]
-mod tests {
-    use super::may_be_long;
-
-    #[test]
-    fn only_a_document_is_short() {
-        assert!(!may_be_long(br#"{"cmd":"get","name":"d","path":""}"#));
-        for line in [
-            r#"{"cmd":"query","name":"d","path":"$"}"#,
-            r#"{"cmd":"changes","from":0,"max":4194304}"#,
-            r#"{"cmd":"ch\u0061nges","from":0,"max":4194304}"#,
-        ] {
-            assert!(may_be_long(line.as_bytes()), "{line}");
+    async fn replies(&mut self, lines: &[(usize, Line)]) -> io::Result<Vec<Bytes>> {
+        if lines.is_empty() {
+            return Ok(Vec::new());
         }
+        let input: Vec<u8> = lines.iter().flat_map(|(_, line)| line.iter().copied()).collect();
+        let count = lines.iter().filter(|(_, line)| !line.is_empty()).count();
+        let mut told = self.clients_lines(input, count).await?.into_iter();
+        // A line without any byte stands for one that is too long.
+        let mut of_line = |line: &Line| match line.is_empty() {
+            true => refusal(10).into(),
+            false => told.next().unwrap_or_default(),
+        };
+        Ok(lines.iter().map(|(_, line)| of_line(line)).collect())
     }
 }

@@ -83,11 +83,15 @@ fn nameless() -> io::Result<File> {
 #[cfg(test)]
 mod tests {
     use super::{Room, Spool, MOST};
+    use crate::limits::SMALL;
 
     #[test]
     fn what_was_written_is_read() {
-        for (size, most) in [(0, 0), (10, MOST), (10, 9), (MOST, MOST), (MOST + 1, 2 * MOST), (MOST, MOST / 2)] {
-            let room = Room::new(most);
+        // The size, the room beside what is small, and whether it is all in memory, and takes room.
+        let rows =
+            [(0, 0, false), (SMALL, 0, false), (SMALL + 10, 10, true), (SMALL + 10, 9, false), (MOST + 1, MOST, false)];
+        for (size, most, takes_room) in rows {
+            let room = Room::of_bytes(most);
             let mut spool = Spool::new(&room);
             let text: Vec<u8> = (0..size).map(|number| number as u8).collect();
             text.chunks(100_000).for_each(|piece| spool.write(piece).unwrap());
@@ -100,7 +104,7 @@ mod tests {
                 }
             }
             assert!(found == text, "{size}");
-            assert_eq!(room.take(most).is_some(), size == 0 || size > most.min(MOST));
+            assert_eq!(room.take(SMALL + most).is_none(), takes_room, "{size}");
         }
     }
 }
