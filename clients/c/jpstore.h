@@ -10,9 +10,9 @@
  *         jpstore_free(store);
  *     }
  *
- * docs/use/PROTOCOL.md says what documents, schemas, patches, places and queries are, and what each refusal means. What
- * follows holds for all calls. Each call then says what else it answers, whose memory it takes and gives, and by which of
- * these two rules threads and children may make it:
+ * docs/use/PROTOCOL.md says what documents, schemas, patches, places and queries are, and jpstore-refusals(7) what each
+ * refusal means. What follows holds for all calls. Each call then says what else it answers, whose memory it takes and
+ * gives, and by which of these two rules threads and children may make it:
  *
  * FREE: any thread, at any time, also in a child made by fork.
  *
@@ -105,54 +105,61 @@ enum jpstore_fault {
     JPSTORE_IDENTITY = 15   /* the system gave no random bytes for the identity of a store in format 3 */
 };
 
-/* Why the store refuses something; docs/use/PROTOCOL.md has the whole table. */
+/* Why the store refuses something; jpstore-refusals(7) has the whole table.
+ * (refusals: written by tools/protocol.py from docs/protocol.toml) */
 enum jpstore_refusal {
     JPSTORE_REFUSAL_LINE_TOO_LONG = 10,     /* the change or question has over 1,048,576 bytes as a line */
     JPSTORE_REFUSAL_NOT_JSON = 11,          /* a document, schema or patch isn't one JSON text, or a text isn't UTF-8 */
     JPSTORE_REFUSAL_NUMBER = 12,            /* a number is not a 64-bit whole number */
     JPSTORE_REFUSAL_DEPTH = 13,             /* the document would nest deeper than 64 levels */
-    JPSTORE_REFUSAL_COMMAND = 14,           /* no command has this form */
-    JPSTORE_REFUSAL_NAME = 15,              /* a name has not 1 to 64 of the letters, digits, '-', '_' and '.' */
+    JPSTORE_REFUSAL_COMMAND = 14,           /* no command has this form: as a transaction of no changes, or of over 1,024 */
+    JPSTORE_REFUSAL_NAME = 15,              /* a name has not 1 to 64 of the letters, digits, `-`, `_` and `.` */
     JPSTORE_REFUSAL_EXISTS = 20,            /* a document of that name exists already */
     JPSTORE_REFUSAL_NO_DOCUMENT = 21,       /* no document has that name */
     JPSTORE_REFUSAL_TOO_MANY = 22,          /* there are 1,024 documents already, or 65,536 in format 3 */
     JPSTORE_REFUSAL_TOO_LARGE = 23,         /* the document would have over 1,048,576 bytes */
     JPSTORE_REFUSAL_REVISION = 24,          /* the document has another revision, cause->rev */
-    JPSTORE_REFUSAL_MARK = 25,              /* the changes ask for another mark than the present one */
-    JPSTORE_REFUSAL_PATCH_SHAPE = 30,       /* the patch is no list of operations */
+    JPSTORE_REFUSAL_MARK = 25,              /* the changes ask for another mark than the present one, cause->mark */
+    JPSTORE_REFUSAL_PATCH_SHAPE = 30,       /* the patch is no list of operations of RFC 6902 */
     JPSTORE_REFUSAL_PATCH_POINTER = 31,     /* a place in an operation is no JSON Pointer */
     JPSTORE_REFUSAL_PATCH_MISSING = 32,     /* a place that an operation needs isn't there */
     JPSTORE_REFUSAL_PATCH_INTO_ITSELF = 33, /* a value is moved into itself */
-    JPSTORE_REFUSAL_PATCH_TEST = 34,        /* a test found another value */
-    JPSTORE_REFUSAL_PATCH_ROOT = 35,        /* the whole document is removed */
+    JPSTORE_REFUSAL_PATCH_TEST = 34,        /* a `test` found another value */
+    JPSTORE_REFUSAL_PATCH_ROOT = 35,        /* the patch removes the whole document */
     JPSTORE_REFUSAL_PATCH_LONG = 36,        /* the patch has over 4,096 operations or 2,097,152 bytes, or nests too deep */
     JPSTORE_REFUSAL_NO_VALUE = 37,          /* the document has no value at this place */
     JPSTORE_REFUSAL_POINTER = 38,           /* the place is no JSON Pointer */
-    JPSTORE_REFUSAL_SCHEMA_FORM = 40,       /* a schema is no boolean or object, a keyword has a wrong form, a pattern is none */
+    JPSTORE_REFUSAL_SCHEMA_FORM = 40,       /* a schema is neither a boolean nor an object, a keyword has a wrong form, or a
+                                             * pattern is none */
     JPSTORE_REFUSAL_SCHEMA_KEYWORD = 41,    /* a keyword of the schema isn't supported */
-    JPSTORE_REFUSAL_SCHEMA_REF = 42,        /* a $ref leads nowhere */
+    JPSTORE_REFUSAL_SCHEMA_REF = 42,        /* a `$ref` leads nowhere */
     JPSTORE_REFUSAL_SCHEMA_LOOP = 43,       /* the schema leads back to itself at the same value */
-    JPSTORE_REFUSAL_SCHEMA_SIZE = 44,       /* the schema has over 262,144 bytes or 64 patterns, nests too deep */
+    JPSTORE_REFUSAL_SCHEMA_SIZE = 44,       /* the schema has over 262,144 bytes or 64 patterns, a pattern over 4,096 bytes,
+                                             * or it nests too deep, or its patterns take too much memory */
     JPSTORE_REFUSAL_INVALID = 45,           /* the document would not be valid under its schema */
     JPSTORE_REFUSAL_PATH = 50,              /* the query is no JSONPath */
-    JPSTORE_REFUSAL_PATH_LEFT_OUT = 51,     /* the query has match, search, or another number than a 64-bit whole one */
+    JPSTORE_REFUSAL_PATH_LEFT_OUT = 51,     /* the query has `match`, `search`, or another number than a 64-bit whole one */
     JPSTORE_REFUSAL_PATH_LONG = 52,         /* the query has over 1,024 bytes */
     JPSTORE_REFUSAL_PATH_NODES = 53,        /* the query selects over 100,000 nodes */
     JPSTORE_REFUSAL_REPLY_LONG = 54,        /* the reply would have over 16,777,216 bytes */
     JPSTORE_REFUSAL_FULL = 60,              /* the store has no room for the change */
-    JPSTORE_REFUSAL_DEVICE = 61,            /* the disk failed during the change */
-    JPSTORE_REFUSAL_BROKEN = 62,            /* the disk has failed before */
-    JPSTORE_REFUSAL_MEMORY = 63,            /* out of memory for this, or for the schema's patterns */
+    JPSTORE_REFUSAL_DEVICE = 61,            /* the disk failed during the change: the next opening shows whether it is there */
+    JPSTORE_REFUSAL_BROKEN = 62,            /* the disk has failed before: questions are answered, and changes once the store
+                                             * is opened again */
+    JPSTORE_REFUSAL_MEMORY = 63,            /* out of memory for this; it may be tried again */
     JPSTORE_REFUSAL_SEQ_END = 64,           /* the count of changes is at its end */
-    JPSTORE_REFUSAL_TRANSACTION_LARGE = 65, /* a transaction copies over 33,554,432 bytes */
-    JPSTORE_REFUSAL_ALREADY_A_STORE = 70,   /* (only programs in Rattle are told this) */
-    JPSTORE_REFUSAL_SMALL = 71,             /* (only programs in Rattle are told this) */
+    JPSTORE_REFUSAL_TRANSACTION_LARGE = 65, /* what a transaction copies, and the documents that it puts under other schemas,
+                                             * have over 33,554,432 bytes of text */
+    JPSTORE_REFUSAL_ALREADY_A_STORE = 70,   /* only programs in Rattle are told this */
+    JPSTORE_REFUSAL_SMALL = 71,             /* only programs in Rattle are told this */
     JPSTORE_REFUSAL_NOT_A_STORE = 72,       /* the file is no store */
     JPSTORE_REFUSAL_DAMAGED = 73,           /* the file is a damaged store */
-    JPSTORE_REFUSAL_NO_ROOM = 74,           /* the documents don't fit in the new file, or in format 2 */
-    JPSTORE_REFUSAL_CUT_OFF = 75,           /* (only `jpstore serve` and `check` with --strict say this) */
-    JPSTORE_REFUSAL_NEWER_SCHEMA = 76       /* a document's schema is none of format 2 */
+    JPSTORE_REFUSAL_NO_ROOM = 74,           /* the documents don't fit in the new file of a copy, or in format 2 */
+    JPSTORE_REFUSAL_CUT_OFF = 75,           /* only the program says this, with `--strict`: a commit was cut off in the store */
+    JPSTORE_REFUSAL_NEWER_SCHEMA = 76       /* a document's schema has a keyword that only format 3 reads, and format 2 was
+                                             * asked for */
 };
+/* end of refusals */
 
 /* Why a call wasn't done. A call sets all of it. */
 typedef struct jpstore_cause {
@@ -304,7 +311,8 @@ int jpstore_set_schema(jpstore *store, const char *name, const char *schema, uin
 /* Removes a document. The others keep their order. */
 int jpstore_delete(jpstore *store, const char *name, uint64_t *seq, jpstore_cause *cause);
 
-/* The kinds of a change, and the members that each has. */
+/* The kinds of a change, and the members that each has.
+ * (kinds of changes: written by tools/protocol.py from docs/protocol.toml) */
 enum jpstore_change_kind {
     JPSTORE_CREATE = 1,     /* name, doc, schema */
     JPSTORE_PATCH = 2,      /* name, ops, and perhaps if_rev with rev */
@@ -312,6 +320,7 @@ enum jpstore_change_kind {
     JPSTORE_DELETE = 4,     /* name */
     JPSTORE_TRANSACTION = 5 /* changes, changes_count */
 };
+/* end of kinds of changes */
 
 /* A mark that is set with a change or a transaction, in format 3. Set all of it to 0 and then what you want. */
 typedef struct jpstore_marking {

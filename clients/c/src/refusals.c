@@ -4,6 +4,7 @@
 #include <stddef.h>
 
 static const char *const NAMES[] = {
+    /* names: written by tools/protocol.py from docs/protocol.toml */
     [JPSTORE_REFUSAL_LINE_TOO_LONG] = "line-too-long",
     [JPSTORE_REFUSAL_NOT_JSON] = "not-json",
     [JPSTORE_REFUSAL_NUMBER] = "number",
@@ -49,6 +50,7 @@ static const char *const NAMES[] = {
     [JPSTORE_REFUSAL_NO_ROOM] = "no-room",
     [JPSTORE_REFUSAL_CUT_OFF] = "cut-off",
     [JPSTORE_REFUSAL_NEWER_SCHEMA] = "newer-schema",
+    /* end of names */
 };
 
 const char *jpstore_refusal_name(int refusal)

@@ -143,7 +143,7 @@ static void profiles(const char *file)
     CHECK(refusal_in(file, 2, "{\"pattern\":\"^a\"}") == JPSTORE_REFUSAL_SCHEMA_KEYWORD);
     CHECK(refusal_in(file, 3, "{\"pattern\":\"(\"}") == JPSTORE_REFUSAL_SCHEMA_FORM);
     CHECK(refusal_in(file, 3, long_pattern) == JPSTORE_REFUSAL_SCHEMA_SIZE);
-    CHECK(refusal_in(file, 3, "{\"pattern\":\"((a{100}){100}){100}\"}") == JPSTORE_REFUSAL_MEMORY);
+    CHECK(refusal_in(file, 3, "{\"pattern\":\"((a{100}){100}){100}\"}") == JPSTORE_REFUSAL_SCHEMA_SIZE);
     CHECK(refusal_in(file, 3, "{\"pattern\":\"b\"}") == JPSTORE_REFUSAL_INVALID);
     CHECK(refusal_in(file, 2, "{\"patternProperties\":{}}") == JPSTORE_REFUSAL_SCHEMA_KEYWORD);
     CHECK(refusal_in(file, 3, "{\"patternProperties\":{\"(\":{}}}") == JPSTORE_REFUSAL_SCHEMA_FORM);

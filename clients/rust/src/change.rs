@@ -1,3 +1,4 @@
+use crate::protocol::{CREATE, DELETE, PATCH, SET_SCHEMA, TRANSACTION};
 use crate::sys;
 use crate::text::c_text;
 use std::ffi::{CStr, CString};
@@ -272,13 +273,6 @@ const NOTHING: sys::Change = sys::Change {
     mark: ptr::null(),
     reserved: [0; 4],
 };
-
-// The numbers of enum jpstore_change_kind.
-const CREATE: i32 = 1;
-const PATCH: i32 = 2;
-const SET_SCHEMA: i32 = 3;
-const DELETE: i32 = 4;
-const TRANSACTION: i32 = 5;
 
 // One of this kind, without what it has beside a name.
 fn named(kind: i32, name: &CStr) -> sys::Change {

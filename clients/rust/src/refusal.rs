@@ -1,4 +1,5 @@
-use crate::meanings::ROWS;
+pub use crate::protocol::Reason;
+use crate::protocol::ROWS;
 use crate::sys::{self, Cause};
 use crate::Mark;
 use std::ffi::CStr;
@@ -69,155 +70,10 @@ impl fmt::Display for Refusal {
 
 impl std::error::Error for Refusal {}
 
-/// Why the store refuses something; [`Reason::advice`] says what to do about it.
-#[derive(Clone, Copy, Debug, PartialEq, Eq, Hash)]
-#[non_exhaustive]
-#[repr(u16)]
-pub enum Reason {
-    /// The change or question has over 1,048,576 bytes as a line.
-    LineTooLong = 10,
-    /// A document, schema or patch isn't one JSON text.
-    NotJson = 11,
-    /// A number is not a 64-bit whole number.
-    Number = 12,
-    /// The document would nest deeper than 64 levels.
-    Depth = 13,
-    /// No command has this form: as a transaction of no changes, or of over 1,024.
-    Command = 14,
-    /// A name has not 1 to 64 of the letters, digits, `-`, `_` and `.`.
-    Name = 15,
-    /// A document of that name exists already.
-    Exists = 20,
-    /// No document has that name.
-    NoDocument = 21,
-    /// There are 1,024 documents already, or 65,536 in format 3.
-    TooMany = 22,
-    /// The document would have over 1,048,576 bytes.
-    TooLarge = 23,
-    /// The document has another revision; [`Refusal::rev`] tells which.
-    Revision = 24,
-    /// Changes ask for another mark than the present one; [`Refusal::mark`] has it.
-    Mark = 25,
-    /// The patch is no list of operations of RFC 6902.
-    PatchShape = 30,
-    /// A place in an operation is no JSON Pointer.
-    PatchPointer = 31,
-    /// A place that an operation needs isn't there.
-    PatchMissing = 32,
-    /// A value is moved into itself.
-    PatchIntoItself = 33,
-    /// A `test` found another value.
-    PatchTest = 34,
-    /// The patch removes the whole document.
-    PatchRoot = 35,
-    /// The patch has over 4,096 operations or 2,097,152 bytes, or nests too deep.
-    PatchLong = 36,
-    /// The document has no value at this place.
-    NoValue = 37,
-    /// The place is no JSON Pointer.
-    Pointer = 38,
-    /// A schema is neither a boolean nor an object, a keyword has a wrong form, or a pattern is none.
-    SchemaForm = 40,
-    /// A keyword of the schema isn't supported.
-    SchemaKeyword = 41,
-    /// A `$ref` leads nowhere.
-    SchemaRef = 42,
-    /// The schema leads back to itself at the same value.
-    SchemaLoop = 43,
-    /// The schema has over 262,144 bytes or 64 patterns, a pattern over 4,096 bytes, or it nests too deep.
-    SchemaSize = 44,
-    /// The document would not be valid under its schema.
-    Invalid = 45,
-    /// The query is no JSONPath.
-    Path = 50,
-    /// The query has `match`, `search`, or another number than a 64-bit whole one.
-    PathLeftOut = 51,
-    /// The query has over 1,024 bytes.
-    PathLong = 52,
-    /// The query selects over 100,000 nodes.
-    PathNodes = 53,
-    /// The reply would have over 16,777,216 bytes.
-    ReplyLong = 54,
-    /// The store has no room for the change.
-    Full = 60,
-    /// The disk failed during the change: the next opening shows whether it is there. Later changes are [`Reason::Broken`].
-    Device = 61,
-    /// The disk has failed before. Questions are answered; open the store again for changes.
-    Broken = 62,
-    /// Out of memory for this, or the schema's patterns take too much of it; it may be tried again.
-    Memory = 63,
-    /// The count of changes is at its end.
-    SeqEnd = 64,
-    /// What a transaction copies, and the documents that it puts under other schemas, have over 33,554,432 bytes.
-    TransactionLarge = 65,
-    /// Only programs in Rattle are told this.
-    AlreadyAStore = 70,
-    /// Only programs in Rattle are told this.
-    Small = 71,
-    /// The file is no store.
-    NotAStore = 72,
-    /// The file is a damaged store.
-    Damaged = 73,
-    /// The documents don't fit in the new file of a copy, or of a store of format 1 in format 2.
-    NoRoom = 74,
-    /// Only the program says this, with `--strict`: a commit was cut off in the store.
-    CutOff = 75,
-    /// A document's schema has a keyword that only stores of format 3 read, and format 2 was asked for.
-    NewerSchema = 76,
-}
-
-const ALL: [Reason; 45] = [
-    Reason::LineTooLong,
-    Reason::NotJson,
-    Reason::Number,
-    Reason::Depth,
-    Reason::Command,
-    Reason::Name,
-    Reason::Exists,
-    Reason::NoDocument,
-    Reason::TooMany,
-    Reason::TooLarge,
-    Reason::Revision,
-    Reason::Mark,
-    Reason::PatchShape,
-    Reason::PatchPointer,
-    Reason::PatchMissing,
-    Reason::PatchIntoItself,
-    Reason::PatchTest,
-    Reason::PatchRoot,
-    Reason::PatchLong,
-    Reason::NoValue,
-    Reason::Pointer,
-    Reason::SchemaForm,
-    Reason::SchemaKeyword,
-    Reason::SchemaRef,
-    Reason::SchemaLoop,
-    Reason::SchemaSize,
-    Reason::Invalid,
-    Reason::Path,
-    Reason::PathLeftOut,
-    Reason::PathLong,
-    Reason::PathNodes,
-    Reason::ReplyLong,
-    Reason::Full,
-    Reason::Device,
-    Reason::Broken,
-    Reason::Memory,
-    Reason::SeqEnd,
-    Reason::TransactionLarge,
-    Reason::AlreadyAStore,
-    Reason::Small,
-    Reason::NotAStore,
-    Reason::Damaged,
-    Reason::NoRoom,
-    Reason::CutOff,
-    Reason::NewerSchema,
-];
-
 impl Reason {
     fn of(number: c_int) -> Option<Reason> {
-        ALL.into_iter()
-            .find(|reason| c_int::from(reason.number()) == number)
+        let mut reasons = ROWS.iter().map(|row| row.0);
+        reasons.find(|reason| c_int::from(reason.number()) == number)
     }
 
     /// Its number, as `docs/use/PROTOCOL.md` has them.
@@ -235,9 +91,9 @@ impl Reason {
         self.row().2
     }
 
-    fn row(self) -> (u16, &'static str, &'static str) {
-        let row = ROWS.into_iter().find(|row| row.0 == self.number());
-        row.unwrap_or((self.number(), "", ""))
+    fn row(self) -> (Reason, &'static str, &'static str) {
+        let row = ROWS.iter().find(|row| row.0 == self);
+        *row.unwrap_or(&(self, "", ""))
     }
 
     /// Its name, as `no-document`.
@@ -256,11 +112,11 @@ impl fmt::Display for Reason {
 
 #[cfg(test)]
 mod tests {
-    use super::{sys, CStr, Reason, ALL};
+    use super::{sys, CStr, Reason, ROWS};
 
     #[test]
     fn each_reason_has_a_meaning_and_an_advice() {
-        for reason in ALL {
+        for reason in ROWS.iter().map(|row| row.0) {
             assert!(
                 !reason.meaning().is_empty() && !reason.advice().is_empty(),
                 "{reason}"
