@@ -9,9 +9,9 @@
 `docs/use/GUIDE.md` shows how to use it; `python3 -m jpstore FILE` is a shell for people, `jpstore-cli` does one thing
 at a time. It needs a POSIX system and Python 3.8 or later.
 """
+import importlib
 from typing import TYPE_CHECKING, Any
 
-from .adapt import Adapted, Schema
 from .client import Mark, Node, Pumped, Status, Store
 from .dump import LoadStopped, dump, load
 from .errors import (
@@ -24,14 +24,15 @@ from .larger import grow, grow_file
 from .moment import Document, Moment
 from .refusals import REFUSALS, Refusal
 from .results import Changes, Transaction
-from .scaled import Scaled
 from .version import __version__
 from .watch import Change, Watch
 from .wire.commands import create, delete, patch, set_schema, transaction
 from .wire.program import check_file, copy_file, format_file, upgrade_file
 
 if TYPE_CHECKING:
+    from .adapt import Adapted, Schema
     from .aio.client import AsyncStore
+    from .scaled import Scaled
 
 __all__ = [
     "AccessError", "Adapted", "AsyncStore", "Broken", "Change", "Changes", "Conflict", "Document", "Ended", "Fault",
@@ -43,9 +44,12 @@ __all__ = [
 ]
 
 
+# These take as long as all the rest, and most programs use none of them.
+_MODULES = {"Adapted": "adapt", "AsyncStore": "aio.client", "Scaled": "scaled", "Schema": "adapt"}
+
+
 def __getattr__(name: str) -> Any:
-    """What needs asyncio is loaded when it is first used, since that takes as long as all the rest (PEP 562)."""
-    if name == "AsyncStore":
-        from .aio.client import AsyncStore
-        return AsyncStore
-    raise AttributeError(f"module {__name__!r} has no attribute {name!r}")
+    """What takes long is loaded when it is first used (PEP 562)."""
+    if name not in _MODULES:
+        raise AttributeError(f"module {__name__!r} has no attribute {name!r}")
+    return getattr(importlib.import_module(f".{_MODULES[name]}", __name__), name)

@@ -34,6 +34,8 @@ typedef struct {
     jpstore *store;
     /* A call is under way, in this thread or in another: the replies are the store's until they are copied. */
     bool busy;
+    /* A change waits for others, unless another line comes after it. */
+    bool gathers;
     /* The process that opened it. */
     pid_t owner;
     /* The line of a change; its memory is kept for the next. */
@@ -82,6 +84,7 @@ static PyObject *open_session(PyObject *module, PyObject *arguments, PyObject *n
     Py_INCREF(module);
     session->module = module;
     session->owner = getpid();
+    session->gathers = path && batch > 1;
     session->store = open_store(path, batch, pump, sectors, &fault, &cause);
     if (session->store)
         return (PyObject *)session;
@@ -398,14 +401,22 @@ static bool put_value(struct line *line, PyObject *value, int deepest)
     return value == Py_False && put(line, "false", 5);
 }
 
-/* The number in the reply to a change, or the whole reply as bytes without its LF. */
+/* The number in the first reply, which is that to a change, or the whole reply as bytes without its LF. */
 static PyObject *number_in(struct replies replies)
 {
     static const char before[] = "{\"ok\":true,\"seq\":";
     const size_t begin = sizeof before - 1;
     if (replies.length >= begin + 3 && memcmp(replies.bytes, before, begin) == 0)
         return PyLong_FromUnsignedLongLong(strtoull(replies.bytes + begin, NULL, 10));
-    return PyBytes_FromStringAndSize(replies.bytes, replies.length > 0 ? (Py_ssize_t)replies.length - 1 : 0);
+    const char *stop = replies.length > 0 ? memchr(replies.bytes, '\n', replies.length) : NULL;
+    return PyBytes_FromStringAndSize(replies.bytes, stop ? stop - replies.bytes : 0);
+}
+
+/* Ends the line of a change, and the batch that it would else wait for. */
+static bool put_end(struct line *line, bool gathers)
+{
+    static const char end[] = "\n{\"cmd\":\"status\"}\n";
+    return put(line, end, gathers ? sizeof end - 1 : 1);
 }
 
 /* A text that nests deeper is refused as a whole, and a list that holds itself never ends. */
@@ -418,7 +429,7 @@ static PyObject *session_change(Session *session, PyObject *command)
         return NULL;
     struct line *line = &session->line;
     line->length = 0;
-    if (!put_value(line, command, DEEPEST) || !put(line, "\n", 1)) {
+    if (!put_value(line, command, DEEPEST) || !put_end(line, session->gathers)) {
         session->busy = false;
         Py_RETURN_NOTIMPLEMENTED;
     }

@@ -2,11 +2,15 @@
 
 The steps of a `Store` are done when they return, so its coroutines never wait, and `finished` runs them to their end.
 """
+import warnings
 from typing import Any, Callable, Dict, List, Optional, Sequence, TypeVar
 
-from .errors import Conflict, Ended, Invalid, JpstoreError, NotFound, Outdated, Overtaken, Refused
+from .errors import (
+    Conflict, Ended, Invalid, JpstoreError, JpstoreWarning, NotFound, Outdated, Overtaken, Refused,
+)
 from .faults.words import shown
 from .merge import operations_of_merge
+from .notices import notice_of_filter, steps_of_filter
 from .once import Once, mark_of_key
 from .results import Node
 from .wire import requests
@@ -16,7 +20,7 @@ from .wire.session import Trying
 
 __all__ = [
     "ATTEMPTS", "NO_ATTEMPT", "Steps", "group_lines", "judged", "leave", "merge_patch", "once", "put",
-    "query_all", "update",
+    "query", "query_all", "update",
 ]
 
 T = TypeVar("T")
@@ -33,6 +37,9 @@ NO_ATTEMPT = "`attempts` must be 1 or more"
 
 class Steps:
     """The steps that a store does, of which each kind of store has its own."""
+
+    #: How many calls are between a coroutine of this module and the line that calls the store.
+    calls_between = 1
 
     def __init__(self, store: Any) -> None:
         self._store = store
@@ -92,9 +99,10 @@ async def update(steps: Steps, name: str, change: Callable[[Any], List[Command]]
 
 
 def _operations(returned: Any) -> List[Command]:
-    if not isinstance(returned, (list, tuple)):
-        raise JpstoreError("what `update` is given returns a list of the operations of a JSON Patch for the value, and "
-                           f"this is {shown(returned)}")
+    if not isinstance(returned, (list, tuple)) or not all(isinstance(each, dict) and "op" in each for each in returned):
+        raise JpstoreError("what `update` is given returns a list of the operations of a JSON Patch for the value, as "
+                           '`[{"op": "replace", "path": "", "value": NEW}]`, and this is '
+                           f"{shown(returned)}; `put` takes a new document")
     return list(returned)
 
 
@@ -149,13 +157,34 @@ async def noted(steps: Steps, key: str, by: Optional[str]) -> Optional[int]:
     return None if found is None or (by is not None and found.value != key) else found.seq
 
 
+async def query(steps: Steps, name: str, path: str) -> List[Node]:
+    """As `Store.query`."""
+    found = await steps.ask(requests.query(name, path))
+    notice = None if found else await _notice_of_filter(steps, path, [name])
+    if notice:
+        warnings.warn(notice, JpstoreWarning, stacklevel=2 + steps.calls_between)
+    return found
+
+
 async def query_all(steps: Steps, path: str, prefix: str) -> Dict[str, List[Node]]:
     """As `Store.query_all`."""
     found: Dict[str, List[Node]] = {}
     names = await steps.ask(requests.names(prefix))
     for begin in range(0, len(names), _TOGETHER):
         found.update(await steps.ask(requests.query_all(names[begin:begin + _TOGETHER], path)))
+    notice = None if found else await _notice_of_filter(steps, path, names[:_TOGETHER])
+    if notice:
+        warnings.warn(notice, JpstoreWarning, stacklevel=2 + steps.calls_between)
     return found
+
+
+async def _notice_of_filter(steps: Steps, path: str, names: Sequence[str]) -> Optional[str]:
+    """What may be a mistake in a query that finds nothing: its filter asks the members of documents for their own."""
+    for step in steps_of_filter(path):
+        own = await steps.ask(requests.query_all(names, f"${step}"))
+        if own and not await steps.ask(requests.query_all(list(own), f"$[*]{step}")):
+            return notice_of_filter(path, step)
+    return None
 
 
 async def group_lines(steps: Steps, lines: List[bytes]) -> List[Outcome]:

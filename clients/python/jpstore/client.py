@@ -20,7 +20,7 @@ from .wire.commands import AskedMark, Command
 from .wire.connection import Connection
 from .wire.finished import each_finished, finished
 from .wire.limits import MOST_TOLD_BYTES
-from .wire.program import Path, Program, find_program, serve_words
+from .wire.program import BATCH, Path, Program, find_program, serve_words
 from .wire.requests import Outcome, Request
 from .wire.session import Channel, Session, give_back_if_dropped
 
@@ -38,12 +38,13 @@ class Store:
     calls come one after another.
     """
 
-    def __init__(self, file: Path, *, program: Optional[Path] = None, batch: int = 1, pump: int = 0, wait: float = 0,
-                 timeout: Optional[float] = None, hub: bool = False, reconnect: bool = True,
+    def __init__(self, file: Path, *, program: Optional[Path] = None, batch: int = BATCH, pump: int = 0,
+                 wait: float = 0, timeout: Optional[float] = None, hub: bool = False, reconnect: bool = True,
                  embedded: bool = False) -> None:
         """Opens the store in `file`, or with `hub=True` that of the hub whose socket `file` is (see `connect`).
 
-        `program` is the program `jpstore`, if it is not on PATH; `batch` and `pump` are its options. `wait` is how
+        `program` is the program `jpstore`, if it is not on PATH; `batch`, how many changes of a `group` share a sync
+        of the disk at most, and `pump` are its options. `wait` is how
         long it tries to get a file that another process uses, in seconds. `timeout` is the longest time without a
         byte of the store: then `TimedOut` is raised, and the program is killed. With `embedded=True` the store is in
         this process, by `libjpstore`, without a program and without a timeout (`docs/use/EMBEDDING.md`).
@@ -254,7 +255,7 @@ class Store:
 
     def query(self, name: str, path: str) -> List[Node]:
         """The nodes that a JSONPath query (RFC 9535) selects in a document, in the order of the nodelist."""
-        return self._do(requests.query(name, path))
+        return finished(calls.query(_Steps(self), name, path))
 
     def query_all(self, path: str, prefix: str = "") -> Dict[str, List[Node]]:
         """The nodes that a JSONPath query selects in each document, or each whose name begins with `prefix`.
@@ -356,6 +357,9 @@ class _Steps(calls.Steps):
     """The steps of a store, each of which is done when it returns."""
 
     _store: Store
+
+    # That of the store, and `finished`.
+    calls_between = 2
 
     async def ask(self, request: Request[T]) -> T:
         return self._store._do(request)

@@ -9,9 +9,11 @@ from .errors import JpstoreError, Refused, Unsendable
 from .larger import grow, grow_file, open_store
 from .moment import moment_of
 from .progress import Progress
-from .wire.commands import Command, changes_in, is_changing, line_of, line_of_creation, line_of_schema, patch
+from .wire.commands import (
+    Command, changes_in, create, is_changing, line_of, line_of_creation, line_of_schema, patch,
+)
 from .wire.limits import MOST_LINE_BYTES, MOST_OPERATIONS
-from .wire.values import escaped
+from .wire.values import escaped, text_of
 
 __all__ = ["GROUP_LINES", "LoadStopped", "document_lines", "dump", "grow", "grow_file", "load", "open_store"]
 
@@ -127,8 +129,9 @@ def _patches(name: str, additions: Iterable[Tuple[Command, int]]) -> Iterator[by
 def load(store: Store, lines: Iterable[bytes], partial: bool = False) -> int:
     """Sends lines of changes, as `dump` writes them, or of transactions, in groups; returns how many changes were made.
 
-    Nothing is sent before the last line of a dump was read, and was found to count the others. With `partial` there may
-    be no such line, and lines may be missing. It stops after the first group of which something was refused, and at a
+    The lines of documents that a server sends for `GET /documents` are taken too, with `partial`. Without it nothing is
+    sent before the last line of a dump was read, and was found to count the others; with it there may be no such line,
+    and lines may be missing. It stops after the first group of which something was refused, and at a
     line that is no change: `LoadStopped`.
     """
     if partial:
@@ -142,9 +145,9 @@ def _load(store: Store, lines: Iterable[bytes]) -> int:
     with Progress("load", "changes") as progress:
         for group in _groups(lines):
             sent = [each for each in group if each.error is None]
-            outcomes = zip(sent, store.group_lines([each.line for each in sent]))
+            outcomes = list(zip(sent, store.group_lines([each.line for each in sent])))
             refused = {each.number: outcome for each, outcome in outcomes if isinstance(outcome, Refused)}
-            step = sum(each.changes for each in sent if each.number not in refused)
+            step = sum(each.changes for each, outcome in outcomes if not isinstance(outcome, Refused))
             made += step
             if refused:
                 raise LoadStopped(made, sent[-1].number, refused)
@@ -162,32 +165,60 @@ def _groups(lines: Iterable[bytes]) -> Iterator[List[_Line]]:
     for number, line in enumerate(lines, 1):
         if not line.strip() or _end_in(line):
             continue
-        group.append(_numbered(number, line))
+        group += _numbered(number, line)
         size += len(line)
-        if group[-1].error is not None or len(group) == GROUP_LINES or size > _GROUP_BYTES:
+        if group[-1].error is not None or len(group) >= GROUP_LINES or size > _GROUP_BYTES:
             yield group
             group, size = [], 0
     if group:
         yield group
 
 
-def _numbered(number: int, line: bytes) -> _Line:
+def _numbered(number: int, line: bytes) -> List[_Line]:
+    """The lines that are sent for a line: one, or several for a document that no line can carry."""
     try:
-        return _Line(number, line if line.endswith(b"\n") else line + b"\n", len(_changes_of(line)))
+        return [_Line(number, each, changes) for each, changes in _sent(line)]
     except JpstoreError as error:
-        return _Line(number, line, 0, error)
+        return [_Line(number, line, 0, error)]
 
 
-def _changes_of(line: bytes) -> List[Command]:
+def _sent(line: bytes) -> List[Tuple[bytes, int]]:
+    """The lines that are sent for a line, each with the number of its changes."""
+    value = _value_of(line)
+    if _is_document(value):
+        return [(made, 1) for made in _lines_that_make(value)]
+    if not is_changing(value):
+        raise Unsendable("it is none of create, patch, schema, delete and transaction")
+    return [(line if line.endswith(b"\n") else line + b"\n", len(changes_in(value)))]
+
+
+def _is_document(value: Any) -> bool:
+    """Whether it is what the server sends of a document for `GET /documents`."""
+    return (isinstance(value, dict) and value.keys() == {"doc", "name", "rev", "schema"}
+            and isinstance(value["name"], str))
+
+
+def _lines_that_make(document: Dict[str, Any]) -> List[bytes]:
+    """The lines that make a document anew, without its revision."""
+    line = line_of(create(document["name"], document["doc"], document["schema"]))
+    if len(line) <= MOST_LINE_BYTES + 1:
+        return [line]
+    return list(document_lines(document["name"], text_of(document["doc"]), text_of(document["schema"])))
+
+
+def _is_document_line(line: bytes) -> bool:
+    with contextlib.suppress(JpstoreError):
+        return _is_document(_value_of(line))
+    return False
+
+
+def _value_of(line: bytes) -> Any:
     try:
-        command = json.loads(line)
+        return json.loads(line)
     except json.JSONDecodeError as error:
         raise Unsendable(f"not JSON: column {min(error.pos, len(error.doc.rstrip())) + 1}: {error.msg}") from None
     except (ValueError, RecursionError) as error:
         raise Unsendable(f"not JSON: {error}") from None
-    if not is_changing(command):
-        raise Unsendable("it is none of create, patch, schema, delete and transaction")
-    return changes_in(command)
 
 
 def _end_in(line: bytes) -> Optional[Dict[str, Any]]:
@@ -214,15 +245,17 @@ def _whole_dump(lines: Iterable[bytes]) -> Iterator[Iterable[bytes]]:
 
 def _kept(lines: Iterable[bytes], kept: IO[bytes]) -> str:
     """Writes the lines, and returns what shows that they are not a whole dump, if anything does."""
-    count, end = 0, None
+    count, end, last = 0, None, None
     for line in lines:
         kept.write(line if line.endswith(b"\n") else line + b"\n")
         if not line.strip():
             continue
         if end is not None:
             return "lines follow its last line"
-        end = _end_in(line)
+        end, last = _end_in(line), line
         count += end is None
+    if end is None and last is not None and _is_document_line(last):
+        return "lines of `GET /documents` have no last one that counts them: see that the request ended well"
     if end is None:
         return "its last line, which counts the others, is missing"
     return "" if end.get("lines") == count else f"its last line counts {end.get('lines')} lines, and {count} are there"

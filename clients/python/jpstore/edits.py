@@ -1,12 +1,14 @@
-"""Small edits of one place of a document, as the shell and the command line offer them."""
+"""Small edits, of one place of a document or of the schema of several, as the shell and the command line offer them."""
 import contextlib
-from typing import Any, Optional
+from typing import Any, Optional, Sequence
 
 from .client import ATTEMPTS, Store
 from .errors import Conflict, JpstoreError, NotFound, Outdated, Refused
 from .faults.words import shown
+from .wire.commands import line_of, set_schema, transaction
+from .wire.limits import MOST_CHANGES, MOST_LINE_BYTES
 
-__all__ = ["patched", "put", "remove"]
+__all__ = ["patched", "put", "remove", "set_schemas"]
 
 # A `test` found another value.
 _TEST = 34
@@ -65,3 +67,20 @@ def _exists(store: Store, name: str, pointer: str) -> bool:
     except NotFound:
         return False
     return True
+
+
+def set_schemas(store: Store, names: Sequence[str], schema: Any) -> int:
+    """Puts documents under another schema, all or none; returns the number of the last change."""
+    changes = [set_schema(name, schema) for name in names]
+    if len(names) > MOST_CHANGES:
+        raise JpstoreError(_too_many(names, f"{MOST_CHANGES:,}, the most of one transaction"))
+    size = len(line_of(transaction(changes)))
+    if size > MOST_LINE_BYTES + 1:
+        fitting = len(names) * MOST_LINE_BYTES // size
+        raise JpstoreError(_too_many(names, f"some {fitting:,}, of which one line has room with this schema"))
+    return store.transaction(changes)
+
+
+def _too_many(names: Sequence[str], most: str) -> str:
+    return (f"{len(names):,} documents are more than {most}. Nothing was changed: name fewer at once, as by a longer "
+            "prefix. Between two transactions both schemas hold, each for its documents")

@@ -109,8 +109,6 @@ class Embedded:
         """The store in `file`; with None a new one in memory, of this many sectors."""
         self._extension = _extension()
         self._words = (file, batch, pump, sectors)
-        # A change by itself waits for others.
-        self._gathers = batch > 1
         self._session: Any = None
         self._conversation = Conversation()
 
@@ -147,7 +145,7 @@ class Embedded:
 
     def change(self, command: commands.Command) -> Any:
         """The number of a change, or its refusal as a reply, without a general line; NotImplemented if it needs one."""
-        if self._session is None or self._gathers or self._conversation.under_way:
+        if self._session is None or self._conversation.under_way:
             return NotImplemented
         try:
             return self._session.change(command)

@@ -9,6 +9,7 @@ from typing import (
     TYPE_CHECKING, Any, Callable, ContextManager, Dict, Iterator, List, Mapping, Optional, Sequence, Tuple, Type, Union,
 )
 
+from . import protocol
 from .called import as_called
 from .refusals import ADVICE, COMPLAINTS, REFUSALS, advice_for
 
@@ -238,19 +239,9 @@ class NoMemory(Refused):
     """The program ran out of memory for this line; it may be sent again."""
 
 
-_FAMILIES: Dict[Type[Refused], Sequence[int]] = {
-    Malformed: (11, 12, 14, 15, 30, 31, 33, 35, 38, 40, 41, 42, 43, 50, 51),
-    NotFound: (21, 32, 37),
-    Conflict: (20, 34),
-    Outdated: (24,),
-    Overtaken: (25,),
-    Invalid: (45,),
-    TooLarge: (10, 13, 22, 23, 36, 44, 52, 53, 54, 65),
-    Full: (60, 64),
-    Broken: (61, 62),
-    NoMemory: (63,),
-}
-_FAMILY_OF = {number: family for family, numbers in _FAMILIES.items() for number in numbers}
+_FAMILIES: Dict[str, Type[Refused]] = {family.__name__: family for family in (
+    Malformed, NotFound, Conflict, Outdated, Overtaken, Invalid, TooLarge, Full, Broken, NoMemory)}
+_FAMILY_OF = {number: _FAMILIES[name] for number, _, name, _, _ in protocol.REFUSALS if name}
 
 
 def refusal_of(reply: Dict[str, Any], command: Optional[Dict[str, Any]] = None,

@@ -6,9 +6,7 @@ from typing import Any, Callable, Dict, Iterable, Iterator, List, Optional, Sequ
 
 from .errors import Invalid, JpstoreError
 from .faults.depths import values_in
-from .faults.references import References
 from .faults.words import pointer_of
-from .patterns import finds
 from .wire.values import escaped
 
 __all__ = ["Fault", "explain", "faults_of", "first_reason"]
@@ -53,12 +51,19 @@ def explain(doc: Any, schema: Any, most: Optional[int] = None) -> List[Fault]:
         raise JpstoreError(f"jsonschema cannot judge the document: {error}") from error
 
 
+def _finds(pattern: str, text: str) -> Optional[bool]:
+    """As `patterns.finds`, which is loaded when a reason is first asked for."""
+    from .patterns import finds
+    return finds(pattern, text)
+
+
 def _validator(schema: Any) -> Any:
     """The library's validator of a schema, to which references and patterns mean what they mean in the store."""
     try:
         from jsonschema import Draft202012Validator, validators
     except ImportError:
         raise JpstoreError(_HOW_TO_GET) from None
+    from .faults.references import References
     references = References(schema, 3)
 
     def reference(validator: Any, word: Any, doc: Any, part: Any) -> Iterator[Any]:
@@ -76,14 +81,14 @@ def _validator(schema: Any) -> Any:
 def _pattern(validator: Any, pattern: Any, doc: Any, _schema: Any) -> Iterator[Any]:
     from jsonschema import ValidationError
     # What can't be said here is left to the store.
-    if isinstance(doc, str) and finds(pattern, doc) is False:
+    if isinstance(doc, str) and _finds(pattern, doc) is False:
         yield ValidationError(f"{doc!r} does not match {pattern!r}")
 
 
 def _by_pattern(validator: Any, patterns: Any, doc: Any, _schema: Any) -> Iterator[Any]:
     for pattern, schema in patterns.items() if isinstance(doc, dict) else ():
         for name, value in doc.items():
-            if finds(pattern, name):
+            if _finds(pattern, name):
                 yield from validator.descend(value, schema, path=name, schema_path=pattern)
 
 
@@ -94,7 +99,7 @@ def _others(validator: Any, others: Any, doc: Any, schema: Any) -> Iterator[Any]
         yield from Draft202012Validator.VALIDATORS["additionalProperties"](validator, others, doc, schema)
         return
     names = [name for name in (doc if isinstance(doc, dict) else ())
-             if name not in known and all(finds(pattern, name) is False for pattern in patterns)]
+             if name not in known and all(_finds(pattern, name) is False for pattern in patterns)]
     if others is False and names:
         told = ", ".join(map(repr, names)), "does" if len(names) == 1 else "do", ", ".join(map(repr, patterns))
         yield ValidationError(f"{told[0]} {told[1]} not match any of the patterns {told[2]}")

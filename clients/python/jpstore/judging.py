@@ -14,6 +14,7 @@ import resource
 import sys
 import time
 from typing import Any, Dict, List, Optional
+from urllib.parse import quote
 
 from .errors import JpstoreError
 from .explain import faults_of
@@ -65,7 +66,13 @@ def _faults(asked: Dict[str, Any]) -> Optional[List[Dict[str, str]]]:
         found = faults_of(asked["command"], lambda: pair, _MOST, asked["before"])
     except (JpstoreError, RecursionError, MemoryError):
         return None
-    return [{"place": fault.place, "keyword": fault.keyword, "detail": fault.message} for fault in found]
+    return [{"place": fault.place, "pointer": _fragment(fault.place), "keyword": fault.keyword, "detail": fault.message}
+            for fault in found]
+
+
+def _fragment(place: str) -> str:
+    """A JSON Pointer as a fragment of a URI (RFC 6901, section 6), as the example of RFC 9457 has it."""
+    return "#" + quote(place, safe="/~!$&'()*+,;=:@?")
 
 
 def _limit(what: int, most: int) -> None:

@@ -4,6 +4,7 @@ A larger file gets its name when it has been compared with the store. So at each
 with every change that was answered.
 """
 import contextlib
+import errno
 import glob
 import os
 import shlex
@@ -12,7 +13,7 @@ import tempfile
 from typing import IO, Callable, Optional
 
 from .client import Status, Store
-from .errors import JpstoreError, accessing_store
+from .errors import AccessError, JpstoreError, accessing_store
 from .progress import Progress
 from .wire.program import Path, copy_file
 from .wire.store_file import SECTOR
@@ -88,7 +89,7 @@ def _copied(file: Path, part: str, sectors: int, program: Optional[Path], take_n
 
 def _check_absent(new: str, part: str) -> None:
     if os.path.lexists(new):
-        raise JpstoreError(f"{new} exists already, and is left as it is: choose another name")
+        raise AccessError(errno.EEXIST, "it exists already, and is left as it is: choose another name", new)
     if os.path.lexists(part):
         raise JpstoreError(f"{part} exists already: another `grow` is at work there, or one was killed. If none is at "
                            f"work, remove it (`rm {shlex.quote(part)}`) and try again; the old store is whole")

@@ -3,7 +3,6 @@
 A mark of the store is set with them, all or none, and only if it isn't there yet. So the same changes are not made
 twice, even if two calls with one key are under way at once, or an earlier line still waits somewhere.
 """
-import hashlib
 from typing import List, Optional
 
 from .errors import AccessError, Ended, JpstoreError, Malformed, Overtaken, TimedOut
@@ -17,11 +16,14 @@ from .wire.session import Trying
 
 __all__ = ["Once", "mark_of_key"]
 
-_NO_MARKS = ("this store has no marks, and nothing was changed: `jpstore upgrade FILE` brings one in format 2 to "
-             "format 3, which has them; one in memory and the nodes of a replicated store have none")
+_NO_MARKS = ("this store has no marks, and nothing was changed. At a node of a replicated store: a transaction has one "
+             "mark, and that is the node's place in the log. In format 2: `jpstore upgrade FILE` brings a store to "
+             "format 3, which has marks. In memory there are none")
 
 
 def _digest(text: bytes) -> str:
+    # It takes a while, and few programs use it.
+    import hashlib
     return hashlib.sha256(text).hexdigest()[:40]
 
 

@@ -16,7 +16,7 @@ from ..watch import watched
 from ..wire import requests
 from ..wire.commands import AskedMark, Command
 from ..wire.limits import MOST_TOLD_BYTES
-from ..wire.program import Path, find_program, serve_words
+from ..wire.program import BATCH, Path, find_program, serve_words
 from ..wire.requests import Outcome, Request
 from ..wire.session import give_back_if_dropped
 from .channel import AsyncChannel, AsyncConnection, AsyncProgram, connect
@@ -37,13 +37,13 @@ class AsyncStore:
             print(await store.get("shelf-1"))
 
     Each call is that of `Store` with the same name, and is awaited. Several tasks may call at once: what they call at
-    the same time goes out together, and with `batch` shares a sync of the disk. The store does it in the order of the
+    the same time goes out together, and its changes share a sync of the disk. The store does it in the order of the
     calls. If a call is cancelled, the others and the store go on: what it had sent is done, and its answer is dropped;
     what it had not sent is not done.
     """
 
-    def __init__(self, file: Path, *, program: Optional[Path] = None, batch: int = 1, pump: int = 0, wait: float = 0,
-                 timeout: Optional[float] = None, hub: bool = False, reconnect: bool = True) -> None:
+    def __init__(self, file: Path, *, program: Optional[Path] = None, batch: int = BATCH, pump: int = 0,
+                 wait: float = 0, timeout: Optional[float] = None, hub: bool = False, reconnect: bool = True) -> None:
         """As `Store`; the store is opened by `async with` or `open`."""
         #: The file, or the socket.
         self.path = path = os.fspath(file)
@@ -172,7 +172,7 @@ class AsyncStore:
 
     async def query(self, name: str, path: str) -> List[Node]:
         """As `Store.query`."""
-        return await self._do(requests.query(name, path))
+        return await calls.query(_Steps(self), name, path)
 
     async def query_all(self, path: str, prefix: str = "") -> Dict[str, List[Node]]:
         """As `Store.query_all`."""

@@ -127,7 +127,7 @@ class AsyncSession(Held[AsyncChannel]):
             elif self._opening is None:
                 self._opening = asyncio.ensure_future(self._open_again())
             return
-        if self._gathers and self._channel.busy:
+        if self._gathers and self._channel.busy and any(call.gathered for call in self._waiting):
             return
         calls, self._waiting = list(self._waiting), deque()
         self._channel.send(calls)

@@ -3,15 +3,16 @@ import argparse
 import json
 import os
 import sys
-from typing import Any, Optional
+from typing import TYPE_CHECKING, Any, Optional
 from urllib.parse import unquote, urlsplit
 
-from ..adapt import Adapted, Schema
 from ..errors import JpstoreError, accessing
-from ..faults.schema import FORMAT_3_ONLY
 from ..wire.texts import value_of_text
 from .display import printable
 from .opening import Row, value_in
+
+if TYPE_CHECKING:
+    from ..adapt import Adapted
 
 __all__ = ["ADAPT"]
 
@@ -20,6 +21,9 @@ _NOT_READ = 6
 
 
 def _adapt(words: argparse.Namespace) -> Optional[int]:
+    # They take longer than all that the other commands need.
+    from ..adapt import Schema
+    from ..faults.schema import FORMAT_3_ONLY
     schema, folder = value_in(words.store), os.path.dirname(os.path.abspath(words.store))
     adapted = Schema.adapt(schema, drop=words.drop, read=lambda uri: _beside(folder, uri), profile=words.profile)
     if getattr(words, "json", False):
@@ -35,7 +39,7 @@ def _adapt(words: argparse.Namespace) -> Optional[int]:
     return 0 if adapted.is_read else _NOT_READ
 
 
-def _told(adapted: Adapted) -> Any:
+def _told(adapted: "Adapted") -> Any:
     return {"schema": adapted.schema, "changes": [change._asdict() for change in adapted.changes],
             "left": [fault._asdict() for fault in adapted.left]}
 

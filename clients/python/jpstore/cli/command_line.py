@@ -1,6 +1,7 @@
 """The command line: a sub-command for each thing that one does with a store, and a shell."""
 import argparse
 import contextlib
+import errno
 import json
 import os
 import sys
@@ -38,7 +39,7 @@ A store whose name is that of a command is given as ./NAME to the shell."""
 _STATUSES = """\
 exit status:
   0   done
-  1   anything else, such as a store that cannot be opened, or a line of the shell that was refused
+  1   anything else, such as a file that is no store, or a line of the shell that was refused
   2   wrong usage
   3   not found: no such document, or no value at this place
   4   conflict: the name is taken, a test failed, or the document has another revision
@@ -50,6 +51,9 @@ exit status:
   10  out of memory
   11  the answer was lost: the change may or may not be stored
   12  the store of a node can't go on with its log, and must be made anew
+  13  busy: another program has the file of the store open
+  14  missing: no such file, or no hub at the socket
+  15  the file exists already
   130 interrupted"""
 
 # What STORE may be; most commands take either.
@@ -71,6 +75,12 @@ _EXIT: List[Tuple[Type[JpstoreError], int]] = [
 ]
 
 
+_BUSY = 13
+
+# Those of the system's numbers. Nobody listens at the socket that an ended hub left.
+_EXIT_OF_SYSTEM = {errno.ENOENT: 14, errno.ECONNREFUSED: 14, errno.EEXIST: 15}
+
+
 class _Parser(argparse.ArgumentParser):
     """A parser whose complaints are JSON too if that is asked for."""
 
@@ -78,12 +88,17 @@ class _Parser(argparse.ArgumentParser):
     as_json = False
 
     def error(self, message: str) -> NoReturn:
+        if message == _NO_QUERY:
+            message += f".{_hint_of(self)}"
         if _Parser.as_json:
             print(json.dumps({"error": "Usage", "message": f"{self.prog}: {message}"}, ensure_ascii=False),
                   file=sys.stderr)
             sys.exit(2)
         super().error(message)
 
+
+# What argparse says of `find STORE QUERY`, whose query is taken for NAME.
+_NO_QUERY = "the following arguments are required: QUERY"
 
 # What is perhaps meant by words that a command does not take.
 _HINTS = {
@@ -98,8 +113,13 @@ _HINTS = {
 def _refuse_words(options: argparse.Namespace, words: Sequence[str]) -> None:
     """Ends with the usage of the command whose words these are not."""
     parser: argparse.ArgumentParser = options.parser
+    parser.error(f"what is `{' '.join(words)}` for?{_hint_of(parser)}")
+
+
+def _hint_of(parser: argparse.ArgumentParser) -> str:
+    """What is perhaps meant by words that this command does not take, as a sentence."""
     hint = _HINTS.get(parser.prog.split()[-1])
-    parser.error(f"what is `{' '.join(words)}` for?{f' {hint[0].upper()}{hint[1:]}.' if hint else ''}")
+    return f" {hint[0].upper()}{hint[1:]}." if hint else ""
 
 
 def _parser() -> argparse.ArgumentParser:
@@ -273,6 +293,11 @@ def exit_status(error: Exception) -> int:
         error = error.first[1]
     if isinstance(error, Ended) and error.change is not None:
         return 11
+    if isinstance(error, Ended) and error.name == "in-use":
+        return _BUSY
+    number: Optional[int] = error.system_error if isinstance(error, Ended) else getattr(error, "errno", None)
+    if number is not None and number in _EXIT_OF_SYSTEM:
+        return _EXIT_OF_SYSTEM[number]
     return next((status for family, status in _EXIT if isinstance(error, family)), 1)
 
 

@@ -6,11 +6,10 @@ from typing import Any, Dict, List, Optional, Sequence, Tuple
 
 from ..client import Store
 from ..dump import GROUP_LINES, dump, load
-from ..edits import patched, put, remove
+from ..edits import patched, put, remove, set_schemas
 from ..errors import JpstoreError
 from ..server import run_server
 from ..watch import Watch
-from ..wire.commands import set_schema
 from .display import members_of, shown, shown_node, shown_status
 from .file_commands import FILE_COMMANDS
 from .opening import Row, Word, opened, program_of, value_in, value_of_word, wait_for
@@ -126,8 +125,7 @@ def _schemas(words: argparse.Namespace) -> None:
 
 
 def _set_schemas(words: argparse.Namespace, store: Store, names: Sequence[str], schema: Any) -> None:
-    seq = store.transaction([set_schema(name, schema) for name in names])
-    accepted(words, seq, len(names))
+    accepted(words, set_schemas(store, names, schema), len(names))
 
 
 def _rev(words: argparse.Namespace) -> None:

@@ -1,5 +1,4 @@
 """The command that was perhaps meant by a word that is none."""
-import difflib
 from typing import Iterable, Optional
 
 __all__ = ["nearest", "no_command"]
@@ -23,6 +22,7 @@ def nearest(word: str, known: Iterable[str]) -> Optional[str]:
     lower = word.lower()
     if _ELSEWHERE.get(lower) in names:
         return _ELSEWHERE[lower]
+    import difflib
     found = difflib.get_close_matches(lower, names, 1, 0.6)
     return found[0] if found else None
 

@@ -7,8 +7,9 @@ import time
 from typing import Any, Callable, Dict, List, Optional, Tuple
 
 from ..client import Store
-from ..errors import accessing
+from ..errors import Unsendable, accessing
 from ..progress import Progress
+from ..wire.program import BATCH
 from ..wire.session import PAUSE
 from ..wire.texts import value_of_text
 
@@ -44,7 +45,7 @@ def wait_for(words: argparse.Namespace) -> float:
     return max(until - time.monotonic(), 0.0)
 
 
-def opened(words: argparse.Namespace, batch: int = 1) -> Store:
+def opened(words: argparse.Namespace, batch: int = BATCH) -> Store:
     """The store in a file, or that of the hub whose socket is named."""
     wait, timeout = wait_for(words), getattr(words, "timeout", None)
     if is_socket(words.store):
@@ -57,8 +58,13 @@ def value_of_word(text: str) -> Any:
     """A JSON value, or with `-` that on standard input."""
     if text == "-":
         return value_of_text(sys.stdin.buffer.read(), "standard input")
-    # A shell takes the quotes away that are not in others.
-    return value_of_text(text.encode("utf-8", "surrogateescape"), f"`{text}`", "'\"{}\"'")
+    try:
+        # A shell takes the quotes away that are not in others.
+        return value_of_text(text.encode("utf-8", "surrogateescape"), f"`{text}`", "'\"{}\"'")
+    except Unsendable as error:
+        if not os.path.isfile(text):
+            raise
+        raise Unsendable(f"{error}; the value of the file of this name is read by `- < {text}`") from None
 
 
 def value_in(file: str) -> Any:

@@ -9,10 +9,9 @@ from typing import Any, Callable, Iterator, List, Optional, Sequence, Union
 
 from ..called import called
 from ..client import Store
-from ..edits import patched, put, remove
+from ..edits import patched, put, remove, set_schemas
 from ..errors import Ended, JpstoreError, Refused
 from ..progress import Progress
-from ..wire.commands import set_schema
 from .completion import completions
 from .display import shown, shown_error, shown_node, shown_status
 from .nearest import no_command
@@ -190,7 +189,7 @@ class Shell(cmd.Cmd):
     def _set_schemas(self, names: Sequence[str], schema: Any) -> str:
         if len(names) == 1:
             return done(self.store.set_schema(names[0], schema))
-        return done(self.store.transaction([set_schema(name, schema) for name in names]), len(names))
+        return done(set_schemas(self.store, names, schema), len(names))
 
     def do_changes(self, line: str) -> None:
         """changes [SINCE]: the transactions after a change that the store still knows."""

@@ -3,55 +3,22 @@
 The store answers a number; these find the place by the same rules. What they don't find is left out: what the store
 says counts.
 """
-from typing import Any, Dict, Optional
+import importlib
+from typing import TYPE_CHECKING, Any
 
-from .command import fault_of_depth, fault_of_form, fault_of_name
-from .patch import fault_of_patch, fault_of_pointer
-from .query import QueryFault, fault_of_query
-from .schema import SchemaFault, faults_of_schema, unsure_of_schema
-from .words import place_in, text_at
+if TYPE_CHECKING:
+    from .detail import detail_of
+    from .query import QueryFault, fault_of_query
+    from .schema import SchemaFault, faults_of_schema
 
 __all__ = ["QueryFault", "SchemaFault", "detail_of", "fault_of_query", "faults_of_schema"]
 
-
-def detail_of(number: int, command: Optional[Dict[str, Any]], operation: Optional[int] = None) -> str:
-    """Where a command that was refused by this number is at fault; empty if it isn't found, or needs no finding.
-
-    Of a patch the operation that was refused is given, if it is known.
-    """
-    if number == 14:
-        return fault_of_form(command)
-    if not isinstance(command, dict):
-        return ""
-    if number == 13:
-        return fault_of_depth(command)
-    if number == 15:
-        return fault_of_name(command)
-    if 30 <= number <= 34:
-        return fault_of_patch(number, command, operation)
-    if number in (37, 38):
-        return _of_pointer(number, command.get("path"))
-    if 40 <= number <= 44:
-        return _of_schema(number, command.get("schema"))
-    return _of_query(number, command.get("path")) if number in (50, 51) else ""
+_MODULES = {"detail_of": "detail", "QueryFault": "query", "fault_of_query": "query", "SchemaFault": "schema",
+            "faults_of_schema": "schema"}
 
 
-def _of_schema(number: int, schema: Any) -> str:
-    # Which profile the store has isn't known: what both refuse is told first.
-    profiles = (3, 2) if number in (41, 42) else (2, 3)
-    found = (str(fault) for profile in profiles for fault in faults_of_schema(schema, profile)
-             if fault.number == number)
-    return next(found, "") or (unsure_of_schema(schema) if number == 40 else "")
-
-
-def _of_pointer(number: int, pointer: Any) -> str:
-    if not isinstance(pointer, str):
-        return ""
-    return f"there is no {place_in(pointer)}" if number == 37 else fault_of_pointer(pointer)
-
-
-def _of_query(number: int, query: Any) -> str:
-    fault = fault_of_query(query) if isinstance(query, str) else None
-    if fault is None or fault.number != number:
-        return ""
-    return f"at character {fault.place + 1}{text_at(query, fault.place)}: {fault.message}"
+def __getattr__(name: str) -> Any:
+    """What finds faults is loaded when it is first used, since most programs meet none (PEP 562)."""
+    if name not in _MODULES:
+        raise AttributeError(f"module {__name__!r} has no attribute {name!r}")
+    return getattr(importlib.import_module(f".{_MODULES[name]}", __name__), name)

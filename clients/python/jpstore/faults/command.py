@@ -2,8 +2,9 @@
 import re
 from typing import Any, Dict, Iterator, Tuple
 
+from ..protocol import COMMANDS
 from ..wire.forms import CHANGES, FORMS, MARKING, TRANSACTION, Kind, Members
-from ..wire.limits import MOST_CHANGES, MOST_TOLD_BYTES
+from ..wire.limits import MOST_CHANGES, MOST_LEVELS, MOST_MARK_BYTES
 from .depths import deeper_than
 from .words import nearest, perhaps, place_in, shown
 
@@ -12,18 +13,14 @@ __all__ = ["NO_MARKS", "fault_of_depth", "fault_of_form", "fault_of_name"]
 #: What is wrong with a command that has its form and a mark.
 NO_MARKS = "this store has no marks"
 
-# What the values of members are.
-_VALUES = {
-    "changes": f"a list of 1 to {MOST_CHANGES:,} changes", "cmd": "a text", "from": "a whole number from 0",
-    "history": "a text", "if_mark": "a text or null", "if_rev": "a whole number from 0", "key": "a text",
-    "mark": "an object of a `key` and a `value`, texts, the value of at most 128 bytes",
-    "max": "a whole number from 1 to 1,000,000", "name": "a text", "path": "a text", "sectors": "a whole number from 0",
+# What the values of members are, by their kinds.
+_VALUES = {"changes": f"a list of 1 to {MOST_CHANGES:,} changes", "count": "a whole number from 0", "text": "a text"}
+
+# Of the members that speak of a mark.
+_OF_MARKING = {
+    "if_mark": "a text or null",
+    "mark": f"an object of a `key` and a `value`, texts, the value of at most {MOST_MARK_BYTES} bytes",
 }
-
-# Of a member that has another limit in this command.
-_VALUES_OF = {("changes", "max"): f"a whole number from 1 to {MOST_TOLD_BYTES:,}"}
-
-_DEEPEST = 64
 
 
 def fault_of_form(command: Any, words: Tuple[str, ...] = tuple(FORMS)) -> str:
@@ -52,8 +49,15 @@ def _fault_of_values(word: str, members: Members, command: Dict[str, Any]) -> st
     wrong = next((name for name, has_kind in members.items() if name in command and not has_kind(command[name])), None)
     if wrong is None:
         return ""
-    wanted = _VALUES_OF.get((word, wrong), _VALUES[wrong])
-    return f"`{wrong}` of `{word}` is {shown(command[wrong])}, and must be {wanted}"
+    return f"`{wrong}` of `{word}` is {shown(command[wrong])}, and must be {_wanted(word, wrong)}"
+
+
+def _wanted(word: str, name: str) -> str:
+    """What the value of a member must be."""
+    if name in _OF_MARKING:
+        return _OF_MARKING[name]
+    member = COMMANDS[word].members[name]
+    return _VALUES[member.kind] if member.most is None else f"a whole number from 1 to {member.most:,}"
 
 
 def _fault_of_members(word: str, command: Dict[str, Any]) -> str:
@@ -99,9 +103,9 @@ def fault_of_name(command: Dict[str, Any]) -> str:
 def fault_of_depth(command: Dict[str, Any]) -> str:
     """The place at which a document, or what an operation puts into it, is deeper than a document may be."""
     for place, value, above in _values_of(command):
-        deep = deeper_than(value, _DEEPEST - above)
+        deep = deeper_than(value, MOST_LEVELS - above)
         if deep is not None:
-            return f"level {_DEEPEST + 1} begins at {place_in(place + deep)}"
+            return f"level {MOST_LEVELS + 1} begins at {place_in(place + deep)}"
     return ""
 
 

@@ -2,19 +2,24 @@
 import re
 from typing import Any, Iterator, List, Tuple
 
+from ..protocol import KEYWORDS
 from .words import Trail
 
 __all__ = ["IN_PLACE", "below", "step", "subschemas"]
 
-_ONE = ("additionalProperties", "propertyNames", "items", "contains", "not", "if", "then", "else")
-_SEVERAL = ("prefixItems", "allOf", "anyOf", "oneOf")
-_NAMED = ("properties", "$defs")
+
+def _holding(shape: str, *formats: int) -> Tuple[str, ...]:
+    """The keywords that these formats read first, and whose values hold schemas in this shape."""
+    return tuple(word for word, row in KEYWORDS.items() if row.holds == shape and row.format in formats)
+
+
+_ONE, _SEVERAL, _NAMED = _holding("one", 2, 3), _holding("several", 2, 3), _holding("named", 2)
 
 # What profile 3 has beside them.
-_NAMED_IN_3 = ("patternProperties", "dependentSchemas")
+_NAMED_IN_3 = _holding("named", 3)
 
 #: The keywords by which a schema leads to another for the same value.
-IN_PLACE = ("allOf", "anyOf", "oneOf", "not", "if", "then", "else", "dependentSchemas")
+IN_PLACE = tuple(word for word, row in KEYWORDS.items() if row.in_place)
 
 
 def _is_named(word: Any, profile: int) -> bool:

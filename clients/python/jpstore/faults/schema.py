@@ -6,7 +6,9 @@ from typing import Any, Callable, Dict, Iterator, List, NamedTuple, Optional, Tu
 
 from ..called import called
 from ..patterns import NoPattern, read_dialect, script_in
+from ..protocol import KEYWORDS
 from ..refusals import DIALECT
+from ..wire.limits import MOST_PATTERN_BYTES, MOST_PATTERNS, MOST_SCHEMA_BYTES, MOST_SCHEMA_LEVELS
 from ..wire.values import canonical
 from .depths import deeper_than
 from .positions import subschemas
@@ -17,25 +19,10 @@ __all__ = ["DIALECT", "FORMAT_3_ONLY", "NOT_SUPPORTED", "SchemaFault", "faults_o
            "unsure_of_schema"]
 
 #: The keywords of 2020-12 that are refused (41) in each format, each with what is nearest to it.
-NOT_SUPPORTED = {
-    "unevaluatedProperties": "`additionalProperties` beside all `properties` says the same for one schema",
-    "unevaluatedItems": "`items` after `prefixItems` says the same for one schema",
-    "$dynamicAnchor": "`$defs` of the root has a schema by name, for `#/$defs/NAME`",
-    "$dynamicRef": "`$ref` leads to one schema",
-    "$vocabulary": "it is for schemas of schemas, and can be left out",
-}
+NOT_SUPPORTED = {word: row.instead for word, row in KEYWORDS.items() if row.refused}
 
 #: Those that are refused (41) in a store of format 2, and read in one of format 3, each with what is nearest to it.
-FORMAT_3_ONLY = {
-    "pattern": "`enum` or `const` list the texts, and `minLength` and `maxLength` bound their lengths",
-    "patternProperties": "`properties` has the members whose names are known, `additionalProperties` all others, and "
-                         "`propertyNames` bounds the names",
-    "dependentSchemas": "`allOf` with `if`: {\"required\": [NAME]} and `then` says the same",
-    "$anchor": "`$defs` of the root has a schema by name, for `#/$defs/NAME`",
-}
-
-# The most bytes of a schema, levels in it, patterns of it, and bytes of each (44).
-_MOST_BYTES, _MOST_LEVELS, _MOST_PATTERNS, _MOST_PATTERN_BYTES = 262_144, 64, 64, 4_096
+FORMAT_3_ONLY = {word: row.instead for word, row in KEYWORDS.items() if row.format == 3}
 
 # The most steps of a loop that are shown.
 _MOST_STEPS = 4
@@ -130,18 +117,18 @@ def faults_of_schema(schema: Any, profile: int = 2) -> Iterator[SchemaFault]:
 
 
 def _of_size(schema: Any) -> Iterator[SchemaFault]:
-    deep = deeper_than(schema, _MOST_LEVELS)
+    deep = deeper_than(schema, MOST_SCHEMA_LEVELS)
     if deep is not None:
-        yield SchemaFault(44, deep, f"here begins level {_MOST_LEVELS + 1}, and a schema may have {_MOST_LEVELS}: "
-                                    "put what is deep under `$defs` of the root, and `$ref` to it")
+        told = f"here begins level {MOST_SCHEMA_LEVELS + 1}, and a schema may have {MOST_SCHEMA_LEVELS}"
+        yield SchemaFault(44, deep, f"{told}: put what is deep under `$defs` of the root, and `$ref` to it")
     elif _is_long(schema):
-        yield SchemaFault(44, "", f"its compact text has over {_MOST_BYTES:,} bytes: leave out what is not used, and "
-                                  "let `$ref` lead to what is there twice")
+        yield SchemaFault(44, "", f"its compact text has over {MOST_SCHEMA_BYTES:,} bytes: leave out what is not used, "
+                                  "and let `$ref` lead to what is there twice")
 
 
 def _is_long(schema: Any) -> bool:
     try:
-        return len(canonical(schema)) > _MOST_BYTES
+        return len(canonical(schema)) > MOST_SCHEMA_BYTES
     except (TypeError, ValueError):
         # A value that no line can have is told elsewhere.
         return False
@@ -169,12 +156,12 @@ def _patterns_in(trail: Trail, part: Dict[Any, Any]) -> Iterator[Tuple[Trail, st
 def _of_pattern(trail: Trail, pattern: str, count: int) -> Iterator[SchemaFault]:
     """What is wrong with a pattern, with which the schema has so many."""
     place = pointer_of(trail)
-    if count == _MOST_PATTERNS + 1:
-        yield SchemaFault(44, place, f"a schema has at most {_MOST_PATTERNS} patterns, and this is one more: let "
+    if count == MOST_PATTERNS + 1:
+        yield SchemaFault(44, place, f"a schema has at most {MOST_PATTERNS} patterns, and this is one more: let "
                                      "`$ref` lead to one schema under `$defs` where they are the same")
     size = len(pattern.encode("utf-8", "surrogatepass"))
-    if size > _MOST_PATTERN_BYTES:
-        yield SchemaFault(44, place, f"the pattern has {size:,} bytes, and may have {_MOST_PATTERN_BYTES:,}")
+    if size > MOST_PATTERN_BYTES:
+        yield SchemaFault(44, place, f"the pattern has {size:,} bytes, and may have {MOST_PATTERN_BYTES:,}")
         return
     try:
         read_dialect(pattern)

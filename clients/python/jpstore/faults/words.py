@@ -1,5 +1,4 @@
 """Words for values and places, and the known name that a wrong one is nearest to."""
-import difflib
 import json
 from itertools import islice
 from typing import Any, Iterable, List, Optional, Sequence, Tuple
@@ -39,6 +38,8 @@ def nearest(word: str, known: Iterable[str]) -> Optional[str]:
     if len(word) > _MOST_LETTERS:
         return None
     short = (name for name in islice(known, _MOST_NAMES) if len(name) <= _MOST_LETTERS)
+    # It takes long to load, and most words are known.
+    import difflib
     found = difflib.get_close_matches(word, short, 1, 0.6)
     return found[0] if found else None
 

@@ -2,7 +2,7 @@
 import asyncio
 import time
 from collections import deque
-from typing import Deque, Dict, List, NamedTuple, Optional, Sequence
+from typing import Deque, Dict, Iterable, List, NamedTuple, Optional, Sequence
 
 from ..errors import JpstoreError
 from ..refusals import NO_MAJORITY
@@ -14,7 +14,8 @@ from .capacity import FULL
 from .changes import LINES_OF_ENTRY, length_of_frames
 from .engine import NoSpace, Rejected
 from .line_reader import MOST_TEXT
-from .log import EntryKind, Log
+from .log import EntryKind, Log, Unknown
+from .tasks import started
 
 __all__ = ["Appending", "Lost"]
 
@@ -53,7 +54,7 @@ class Appending:
 
     async def change(self, text: bytes, changes: int) -> "asyncio.Future[bytes]":
         """Lets a change wait to be appended; its reply comes when it is made here."""
-        answer: "asyncio.Future[bytes]" = asyncio.get_running_loop().create_future()
+        answer: "asyncio.Future[bytes]" = started(asyncio.get_running_loop().create_future())
         cost = length_of_frames(len(text), changes)
         if cost > self._room.changes:
             answer.set_result(refusal(FULL))
@@ -77,9 +78,7 @@ class Appending:
         while self._waiting and self._waiting[0].since < before:
             self._answer([self._taken()], refusal(NO_MAJORITY))
         for some in self._flying.values():
-            for waiting in some:
-                if waiting.since < before and not waiting.answer.done():
-                    waiting.answer.set_exception(Lost())
+            self._lose(waiting for waiting in some if waiting.since < before)
 
     async def run(self, log: Log) -> None:
         """Appends what waits, as long as it comes."""
@@ -98,6 +97,8 @@ class Appending:
             try:
                 await log.append(id, [waiting.text for waiting in some])
                 self._refusing = False
+            except Unknown:
+                self._lose(self._flying.pop(id, []))
             except Rejected as error:
                 self._refuse(self._flying.pop(id), error)
 
@@ -112,12 +113,19 @@ class Appending:
 
     async def _append_version(self, log: Log, name: str) -> None:
         """Tells the log of this version of the program. The store must have done all that is for the one before."""
-        for _ in range(_TRIES):
+        tries = 0
+        while tries < _TRIES:
             n = self._applier.place.n
             if self._applier.place.version == self._applier.version:
                 return
-            if await log.append(f"{self._node}.{name}.v{n}", [], EntryKind.VERSION, self._applier.version, n):
-                return
+            try:
+                if await log.append(f"{self._node}.{name}.v{n}", [], EntryKind.VERSION, self._applier.version, n):
+                    return
+                tries += 1
+            except NoSpace as error:
+                self._refuse(self._next(), error)
+            except Unknown:
+                pass
             await asyncio.sleep(_PAUSE)
         raise JpstoreError("the log goes on all the time for another version of the program: stop its nodes first")
 
@@ -146,6 +154,12 @@ class Appending:
             complain(f"changes are refused: {error}")
         self._refusing = True
         self._answer(some, refusal(FULL if isinstance(error, NoSpace) else NO_MAJORITY))
+
+    def _lose(self, some: Iterable[_Waiting]) -> None:
+        """Breaks off the connections of changes of which nothing is known."""
+        for waiting in some:
+            if not waiting.answer.done():
+                waiting.answer.set_exception(Lost())
 
     def _answer(self, some: List[_Waiting], reply: bytes) -> None:
         for waiting in some:

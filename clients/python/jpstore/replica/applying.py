@@ -6,7 +6,7 @@ way an entry takes follows from the documents before it and from its lines alone
 that begins anew after the last accepted line tries those after it again, and they are refused again.
 """
 import json
-from typing import Any, Deque, Dict, List, NamedTuple, Optional, Sequence, Tuple
+from typing import Any, Awaitable, Callable, Deque, Dict, Iterable, List, NamedTuple, Optional, Sequence, Tuple
 
 from ..errors import JpstoreError
 from ..wire.replies import done, line_of_reply, refusal, seq_in
@@ -15,7 +15,7 @@ from .changes import Line, line_in
 from .errors import Astray, Changed
 from .log import Agreed, Entry, EntryKind
 from .place import Place, as_told, key_of, marked
-from .store import ReplicaStore
+from .store import MEMORY, Faulty, ReplicaStore
 from .watching import History
 
 __all__ = ["Applier", "Done", "OtherVersion"]
@@ -78,6 +78,8 @@ class Applier:
         self._stored = stored
         #: The changes since this start. Every node numbers them in the same way, so a watcher may go on at another one.
         self.history = History(self.seq, name=agreed.log)
+        #: Called with the names of documents that are changed next.
+        self.before: Callable[[Iterable[str]], Awaitable[None]] = _nothing
         self._window = _MOST_TOGETHER
 
     def told(self) -> Dict[str, Any]:
@@ -147,7 +149,8 @@ class Applier:
                                "install that version here")
         if entry.kind is EntryKind.LINES and self.place.version != self.version:
             raise OtherVersion(f"entry {entry.n} of the log is for {self.place.version}, and this is {self.version}: "
-                               "run that version here until they are done, or make the store anew by `replica join`")
+                               "run that version here until they are done, or move the file aside and make it anew by "
+                               "`replica join`")
         return [line_in(line) for line in entry.lines]
 
     def _ended(self, task: _Task) -> Done:
@@ -166,6 +169,7 @@ class Applier:
             sent.append(self._line(task, task.left, before, place))
             places.append(place)
             before = place
+        await self.before(change.name for task in group for at in task.left for change in task.lines[at].changes)
         replies = await self._store.change(sent)
         done = 0
         while done < len(group) and seq_in(replies[done]) is not None:
@@ -190,11 +194,16 @@ class Applier:
 
     async def _settle(self, task: _Task, reply: bytes) -> Done:
         """Goes on with an entry that was refused as a whole by this reply."""
+        if json.loads(reply)["number"] == MEMORY:
+            # Perhaps for the sake of another entry that was sent with it.
+            done, reply = await self._together([task])
+            if done:
+                return Done(task.entry, task.answers)
         while True:
             told = _refusal_in(reply)
             if "change" not in told:
                 if told["number"] not in _OF_FORM:
-                    raise Astray(f"the store answered {reply.decode().strip()} to entry {task.entry.n}")
+                    raise Astray(f"the store answered {json.dumps(told)} to entry {task.entry.n}")
                 return await self._rest(task, 0)
             index, begin = _line_of_change(task, told["change"])
             at = task.left[index]
@@ -225,6 +234,7 @@ class Applier:
     async def _attempt(self, task: _Task, left: Sequence[int], next: int) -> Optional[Dict[str, Any]]:
         """Does some lines of an entry, after which it goes on at `next`; returns the refusal if there is one."""
         after = self.place._replace(next=next)
+        await self.before(change.name for at in left for change in task.lines[at].changes)
         reply, = await self._store.change([self._line(task, left, self._stored, after)])
         if seq_in(reply) is None:
             return _refusal_in(reply)
@@ -233,9 +243,15 @@ class Applier:
         return None
 
 
+async def _nothing(_: Iterable[str]) -> None:
+    pass
+
+
 def _refusal_in(reply: bytes) -> Dict[str, Any]:
-    """A refusal of the store; `Changed` if its mark was not the one before."""
+    """A refusal of the store; `Changed` if its mark was not the one before, and `Faulty` if it has no memory."""
     told: Dict[str, Any] = json.loads(reply)
+    if told["number"] == MEMORY:
+        raise Faulty(f"the store of this node had a fault: {reply.decode().strip()}")
     if told["number"] == _MARK:
         raise Changed(f"the file of this node was changed by somebody else: {reply.decode().strip()}")
     return told

@@ -60,11 +60,14 @@ def _init(words: argparse.Namespace) -> None:
 
 def _serve(words: argparse.Namespace) -> int:
     from .node import Settings
+    from .reach import Reach
     from .running import run_node
     _check_node(words.node)
+    members = _members(words)
     return run_node(Settings(
-        words.node, words.file, _members(words), words.log, words.socket, words.local, getattr(words, "program", None),
-        words.pump, getattr(words, "wait", 20.0), words.first, words.patience, words.compare))
+        words.node, words.file, members, words.log, words.socket, words.local, getattr(words, "program", None),
+        words.pump, getattr(words, "wait", 20.0), words.first, words.patience, words.compare,
+        Reach([member.name for member in members], True)))
 
 
 def _join(words: argparse.Namespace) -> None:
@@ -76,11 +79,16 @@ def _join(words: argparse.Namespace) -> None:
 
 
 def _status(words: argparse.Namespace) -> None:
-    from .log import PLACES
+    from .certificates import warning_of
+    from .comparing import unlike
+    from .engine import end_of_certificates
+    from .log import DIGESTS, PLACES
 
     async def read(log: "Log") -> Dict[str, Any]:
         agreed, head, nodes = await log.agreed(), await log.head(), await log.told(PLACES)
-        return {"capacity": agreed.capacity, "head": head.n, "log": agreed.log, "nodes": nodes}
+        entry, groups = unlike(await log.told(DIGESTS))
+        return {"capacity": agreed.capacity, "certificate": end_of_certificates(_members(words)), "compared": entry,
+                "head": head.n, "log": agreed.log, "nodes": nodes, "unlike": groups}
     told = _with_log(words, read)
     rows = [f"log {told['log']}, {told['head']:,} entries, capacity {told['capacity']:,}"]
     for node, place in sorted(told["nodes"].items()):
@@ -90,6 +98,12 @@ def _status(words: argparse.Namespace) -> None:
         rows.append(f"{node}: entry {place['n']:,} ({told['head'] - place['n']:,} to do), change {place['seq']:,}, "
                     f"{place['documents']:,} documents, {place['used']:,} of {place['capacity']:,} bytes, "
                     f"told {max(0, int(time.time()) - place['time'])} s ago, {place['version']}")
+        rows += warning_of(node, place.get("certificate"))
+    rows += warning_of("here", told["certificate"])
+    if told["unlike"]:
+        groups = " differ from those of ".join(" and ".join(group) for group in told["unlike"])
+        rows.append(f"at entry {told['compared']:,} the documents of {groups}: docs/use/REPLICATED.md tells which are "
+                    "right")
     _said(words, told, "\n".join(rows))
 
 

@@ -13,7 +13,8 @@ from .appending import Lost
 from .line_reader import Asked, read_line
 from .export import send
 from .node import Node
-from .tasks import end_tasks
+from .store import MEMORY
+from .tasks import end_tasks, started
 from .watching import serve_watch
 
 __all__ = ["Clients"]
@@ -97,14 +98,14 @@ class _Client:
 
     async def _asked(self, asked: Asked) -> "asyncio.Future[bytes]":
         if asked.kind is Kind.CHANGE:
+            if await self._node.lacks_memory(asked.text):
+                return _settled(refusal(MEMORY))
             return await self._node.appending.change(asked.text, len(changes_in(asked.command)))
         if asked.kind is Kind.QUESTION:
             return self._node.asking.question(asked.text, self._linear)
         if asked.kind is Kind.SNAPSHOT:
-            return asyncio.ensure_future(self._node.local(asked.text))
-        answer: "asyncio.Future[bytes]" = asyncio.get_running_loop().create_future()
-        answer.set_result(asked.text)
-        return answer
+            return started(self._node.local(asked.text))
+        return _settled(asked.text)
 
     async def _own(self, command: Dict[str, Any], lines: AsyncIterator[bytes]) -> bool:
         """Answers a line that is for the node itself; returns whether further lines may come."""
@@ -141,3 +142,10 @@ class _Client:
             return
         self._writer.write(copy.line)
         await send(copy.spool, self._writer)
+
+
+def _settled(reply: bytes) -> "asyncio.Future[bytes]":
+    """A reply that is known."""
+    answer: "asyncio.Future[bytes]" = asyncio.get_running_loop().create_future()
+    answer.set_result(reply)
+    return answer

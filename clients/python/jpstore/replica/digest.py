@@ -1,81 +1,114 @@
-"""The nodes compare what they have: whether it is the same documents, in the same order, with the same revisions, and
-whether it was made by the same entries."""
-import asyncio
-import contextlib
+"""A digest of all that a store has: its documents with their schemas and revisions, and the order of their creation.
+
+It is a sum over the documents, kept by changes: what was changed since the last digest is read anew, in small pieces
+between all else, so that nobody waits for more than a piece. A document that is changed before it is read is read right
+before that. So the digest is that of one place in the log, though changes go on.
+"""
 import hashlib
-import os
-import time
-from collections import Counter
-from typing import Any, Callable, Dict, Iterable, Optional, Set, Tuple
+import json
+from typing import Awaitable, Callable, Dict, Iterable, List, NamedTuple, Optional, Set
 
-from .engine import NoAnswer, Rejected
-from .errors import Astray
-from .log import DIGESTS, EntryKind, Log
+from ..wire.commands import LIST, get, get_schema, line_of, rev
+from ..wire.replies import REFUSED
+from .store import ReplicaStore
 
-__all__ = ["Comparing", "digest_of", "is_outvoted"]
+__all__ = ["Digest", "Digesting", "MOST_TOGETHER"]
 
-# How long the others have to write what they have, in seconds.
-_VOTES = 5.0
+#: How many documents are read at once at most.
+MOST_TOGETHER = 16
 
-_LEAST_PAUSE = 0.05
+# Fewer are read at once if they have more bytes than these.
+_MOST_BYTES = 1 << 18
 
+# How many changed documents are noted at most before all are read anew.
+_MOST_CHANGED = 1 << 17
 
-def digest_of(seq: int, chain: str, revisions: Iterable[Tuple[str, int]]) -> str:
-    """A digest of the number of changes, of the names of all entries by their chain, and of each document's name and
-    revision in the order of creation."""
-    made = hashlib.sha256(f"{seq} {chain}\n".encode())
-    for name, rev in revisions:
-        made.update(b"%b %d\n" % (name.encode(), rev))
-    return made.hexdigest()
+# Refusals of questions for what can't be or isn't a document.
+_NO_DOCUMENT = (15, 21)
+
+_SUMS = 1 << 128
 
 
-def is_outvoted(node: str, n: int, told: Dict[str, Dict[str, Any]]) -> bool:
-    """Whether of the nodes that have written a digest of entry n, as many have another digest as have this node's."""
-    if told.get(node, {}).get("n") != n:
-        return False
-    votes = Counter(each["digest"] for each in told.values() if each["n"] == n)
-    mine = votes.pop(told[node]["digest"])
-    return max(votes.values(), default=0) >= mine
+class Digest(NamedTuple):
+    """What a store has after entry n."""
+
+    n: int
+    text: str
 
 
-class Comparing:
-    """Has all nodes compare what they have, now and then, and votes for this one."""
+class Digesting:
+    """The digest of a store at an entry, as soon as it is read. One call at a time."""
 
-    def __init__(self, node: str, every: float, logs: Callable[[], Log]) -> None:
-        self._node, self._every, self._logs = node, every, logs
-        self._last = time.monotonic()
-        self._votes: "Set[asyncio.Future[None]]" = set()
-        self._astray: Optional[Astray] = None
+    def __init__(self, store: ReplicaStore) -> None:
+        self._store = store
+        self._hashes: Dict[str, int] = {}
+        self._sum, self._together = 0, 1
+        # The documents that were changed since they were read; None if all must be read.
+        self._changed: Optional[Set[str]] = None
+        # Those that are still to be read, for the digest of which entry, and what else that has.
+        self._left: Set[str] = set()
+        self._n, self._head = -1, ""
 
-    async def run(self) -> None:
-        """Appends an entry at which all compare, if no other node has done that in time."""
-        log = self._logs()
-        while True:
-            # Not all nodes at once.
-            pause = self._every * (1 + os.urandom(1)[0] / 512)
-            await asyncio.sleep(max(_LEAST_PAUSE, self._last + pause - time.monotonic()))
-            if time.monotonic() - self._last >= self._every:
-                self._last = time.monotonic()
-                with contextlib.suppress(Rejected):
-                    name = await log.register(self._node + "/compare")
-                    await log.append(f"{self._node}.{name}.compare", [], EntryKind.COMPARE)
+    @property
+    def is_reading(self) -> bool:
+        """Whether documents are still to be read for a digest."""
+        return self._n >= 0
 
-    def compare(self, n: int, digest: str, judged: Callable[[], None]) -> None:
-        """Compares what this node has after entry n with the others, beside all else. `judged` is called at the end."""
-        self._last = time.monotonic()
-        vote = asyncio.ensure_future(self._vote(n, digest))
-        self._votes.add(vote)
-        vote.add_done_callback(self._votes.discard)
-        vote.add_done_callback(lambda _: judged())
+    async def begin(self, n: int, seq: int, chain: str) -> None:
+        """Begins the digest of the store as it is after entry n. One that isn't read by then is not made any more."""
+        listed, = await self._store.exchange([LIST])
+        if listed.startswith(REFUSED):
+            self._forget()
+            return
+        if self._changed is None:
+            self._hashes, self._sum, self._left = {}, 0, set(json.loads(listed)["names"])
+        else:
+            self._left |= self._changed
+        self._changed = set()
+        self._n, self._head = n, f"{seq} {chain} {hashlib.sha256(listed).hexdigest()}"
 
-    def check(self) -> None:
-        """Raises `Astray` if this node was outvoted."""
-        if self._astray is not None:
-            raise self._astray
+    async def read(self) -> Optional[Digest]:
+        """Reads some documents; returns the digest after the last ones."""
+        await self._read([self._left.pop() for _ in range(min(self._together, len(self._left)))])
+        if self._left or self._n < 0:
+            return None
+        n, self._n = self._n, -1
+        return Digest(n, hashlib.sha256(f"{self._head} {self._sum:x}".encode()).hexdigest())
 
-    async def _vote(self, n: int, digest: str) -> None:
-        with contextlib.closing(self._logs()) as log, contextlib.suppress(Rejected, NoAnswer):
-            await log.tell(DIGESTS, self._node, {"n": n, "digest": digest})
-            await asyncio.sleep(min(_VOTES, self._every / 2))
-            if is_outvoted(self._node, n, await log.told(DIGESTS)):
-                self._astray = Astray(f"as many nodes have other documents at entry {n} as have those of this one")
+    async def before(self, names: Iterable[str], between: Callable[[], Awaitable[None]]) -> None:
+        """Notes that these documents are changed next, and reads those that were to be read; calls `between` then."""
+        if self._changed is None:
+            return
+        changed = set(names)
+        left = sorted(changed & self._left)
+        while left and self._n >= 0:
+            some, left = left[:self._together], left[self._together:]
+            self._left.difference_update(some)
+            await self._read(some)
+            await between()
+        if self._changed is not None:
+            self._changed |= changed
+            if len(self._changed) > _MOST_CHANGED:
+                self._forget()
+
+    async def _read(self, names: List[str]) -> None:
+        """Reads documents, whose hashes in the sum take the places of those before."""
+        asked = [line_of(line) for name in names for line in (rev(name), get(name), get_schema(name))]
+        replies = await self._store.exchange(asked)
+        for name, *told in zip(names, replies[::3], replies[1::3], replies[2::3]):
+            self._sum = (self._sum - self._hashes.pop(name, 0)) % _SUMS
+            refused = [reply for reply in told if reply.startswith(REFUSED)]
+            if not refused:
+                value = hashlib.blake2b(b"%b\n" % name.encode() + b"".join(told), digest_size=16).digest()
+                self._hashes[name] = int.from_bytes(value, "big")
+                self._sum = (self._sum + self._hashes[name]) % _SUMS
+            elif any(json.loads(reply)["number"] not in _NO_DOCUMENT for reply in refused):
+                # Such as out of memory.
+                self._forget()
+                return
+        few = sum(map(len, replies)) > _MOST_BYTES
+        self._together = max(1, self._together // 2) if few else min(2 * self._together, MOST_TOGETHER)
+
+    def _forget(self) -> None:
+        """Makes no digest now, and reads all documents for the next one."""
+        self._changed, self._left, self._n = None, set(), -1

@@ -5,21 +5,28 @@ import contextlib
 import json
 import re
 import socket
-import ssl
 import time
 from typing import Any, AsyncGenerator, AsyncIterator, Dict, List, NamedTuple, Optional, Sequence, Tuple, Type
 
 from ..errors import JpstoreError
+from .certificates import Secure
 from .errors import MustBeMadeAnew
-from .tasks import apart, within
+from .reach import Reach
+from .tasks import apart, started, within
 
-__all__ = ["Engine", "Member", "NoAnswer", "NoSpace", "Rejected", "Trimmed", "members_in", "packed", "unpacked"]
+__all__ = [
+    "Engine", "Member", "NoAnswer", "NoSpace", "Rejected", "Trimmed", "end_of_certificates", "members_in", "packed",
+    "unpacked",
+]
 
 Answer = Dict[str, Any]
 
 # How long one member may take for an answer, in seconds, and the pauses between tries.
 _TRY = 2.0
 _FIRST_PAUSE, _LONGEST_PAUSE = 0.01, 0.2
+
+# How long an alert may take, in seconds.
+_ALERT = 1.0
 
 # Longer than the head of any answer.
 _MOST_HEAD = 1 << 16
@@ -54,7 +61,12 @@ class Member(NamedTuple):
 
     host: str
     port: int
-    secure: Optional[ssl.SSLContext] = None
+    secure: Optional[Secure] = None
+
+    @property
+    def name(self) -> str:
+        """Its address."""
+        return f"[{self.host}]:{self.port}" if ":" in self.host else f"{self.host}:{self.port}"
 
 
 def members_in(text: str, ca: Optional[str] = None, cert: Optional[str] = None,
@@ -64,16 +76,14 @@ def members_in(text: str, ca: Optional[str] = None, cert: Optional[str] = None,
              for word in text.split(",")]
     if None in found:
         raise JpstoreError(f"`{text}` is not a list of members, such as https://a:2379,https://b:2379")
-    secure = None
-    if any(each and each.group(1) == "https" for each in found):
-        try:
-            secure = ssl.create_default_context(cafile=ca)
-            if cert is not None:
-                secure.load_cert_chain(cert, key)
-        except OSError as error:
-            raise JpstoreError(f"the files for TLS cannot be used: {error}") from None
+    secure = Secure(ca, cert, key) if any(each and each.group(1) == "https" for each in found) else None
     return [Member(each.group(2) or each.group(3), int(each.group(4)), secure if each.group(1) == "https" else None)
             for each in found if each]
+
+
+def end_of_certificates(members: Sequence[Member]) -> Optional[int]:
+    """When the first certificate ends by which these members are asked, in seconds since 1970."""
+    return next((member.secure.end for member in members if member.secure), None)
 
 
 def packed(data: bytes) -> str:
@@ -91,6 +101,8 @@ class _Connection:
 
     def __init__(self, reader: asyncio.StreamReader, writer: asyncio.StreamWriter) -> None:
         self._reader, self._writer = reader, writer
+        # Somebody takes the fault by which it is lost, or Python tells it when it lets the connection go.
+        self._lost = started(writer.wait_closed())
 
     @classmethod
     async def open(cls, member: Member) -> "_Connection":
@@ -98,7 +110,7 @@ class _Connection:
         for address in await _addresses_of(member.host):
             try:
                 return cls(*await asyncio.open_connection(
-                    address, member.port, ssl=member.secure, limit=_MOST_HEAD,
+                    address, member.port, ssl=member.secure and member.secure.context(), limit=_MOST_HEAD,
                     server_hostname=member.host if member.secure else None))
             except OSError as error:
                 failed.append(error)
@@ -125,8 +137,26 @@ class _Connection:
                 return
             yield piece[:-2]
 
+    async def hear(self) -> None:
+        """Waits for what a member sends that wasn't asked: an alert is raised."""
+        await self._reader.read(1)
+
     def close(self) -> None:
         self._writer.close()
+
+
+async def _check_taken(member: Member) -> None:
+    """Raises the alert of a member that doesn't take the certificate of this side.
+
+    By TLS 1.3 it judges that after the handshake, and its alert is lost if it has been sent something by then.
+    """
+    connection = await _Connection.open(member)
+    try:
+        await within(_ALERT, connection.hear())
+    except asyncio.TimeoutError:
+        pass
+    finally:
+        connection.close()
 
 
 async def _addresses_of(host: str) -> List[str]:
@@ -143,29 +173,41 @@ async def _addresses_of(host: str) -> List[str]:
 class Engine:
     """A cluster of etcd, for one call at a time. It keeps to a member that answers, and goes to the next one else."""
 
-    def __init__(self, members: Sequence[Member], first: int = 0) -> None:
+    def __init__(self, members: Sequence[Member], first: int = 0, reach: Optional[Reach] = None) -> None:
         self._members, self._at = list(members), first
+        self._reach = reach or Reach([member.name for member in members], False)
         self._connection: Optional[_Connection] = None
 
     async def call(self, path: str, body: Answer, patience: Optional[float] = None) -> Answer:
         """What a member answers; tried for this many seconds, or until one answers. `Rejected` if that is a refusal."""
         sent = json.dumps(body).encode("ascii")
-        until = None if patience is None else time.monotonic() + patience
-        pause = _FIRST_PAUSE
+        asked, pause = time.monotonic(), _FIRST_PAUSE
         while True:
             try:
-                return await within(_TRY, self._once(path, sent))
+                answer = await within(_TRY, self._once(path, sent))
+                self._reach.answered()
+                return answer
+            except Rejected:
+                self._reach.answered()
+                raise
             except _FAILURES as error:
+                self._reach.failed(self._at % len(self._members), error, asked)
                 self.leave()
-                if until is not None and time.monotonic() + pause > until:
-                    raise NoAnswer(f"no majority of etcd's members answers: {error or type(error).__name__}") from None
+                if patience is not None and time.monotonic() + pause > asked + patience:
+                    raise NoAnswer(self._reach.told()) from None
             await asyncio.sleep(pause)
             pause = min(_LONGEST_PAUSE, 2 * pause)
 
     async def _once(self, path: str, sent: bytes) -> Answer:
+        is_new = self._connection is None
         if self._connection is None:
             self._connection = await _Connection.open(self._member())
-        status, fields = await self._connection.ask(path, sent)
+        try:
+            status, fields = await self._connection.ask(path, sent)
+        except (ConnectionError, EOFError):
+            if is_new and self._member().secure:
+                await _check_taken(self._member())
+            raise
         answer = _read(b"".join([piece async for piece in self._connection.pieces(fields)]))
         if status != 200:
             raise _refusal_in(answer)

@@ -1,7 +1,11 @@
 """The errors that end a node for good: what it has isn't what the log makes."""
 from ..errors import JpstoreError
 
-__all__ = ["Astray", "Changed", "MustBeMadeAnew", "OLDER", "WrongLog"]
+__all__ = ["ANEW", "Astray", "Changed", "Damaged", "MustBeMadeAnew", "OLDER", "WrongLog"]
+
+#: What to do with the file of a node that can't go on. It may be the last copy of what was answered.
+ANEW = ("move the file aside, and make it anew by `replica join`; if no other node runs, make a new log of the file "
+        "that is furthest by `replica init` with another --log")
 
 #: What to do with the stores of nodes that kept their place in a document.
 OLDER = ("stop all nodes, bring the file of the one that is furthest to format 3 by `jpstore upgrade`, delete the "
@@ -19,6 +23,10 @@ class Astray(MustBeMadeAnew):
 
 class Changed(MustBeMadeAnew):
     """The store was changed by somebody else."""
+
+
+class Damaged(MustBeMadeAnew):
+    """The file of this node is damaged."""
 
 
 class WrongLog(MustBeMadeAnew):

@@ -10,6 +10,7 @@ from ..errors import JpstoreError
 from ..larger import give_name, sync_folder
 from ..wire.commands import get, line_of
 from ..wire.program import check_file, copy_file
+from ..wire.standard_streams import complain
 from .capacity import LEAST_CAPACITY, room_of
 from .copying import receive_copy
 from .engine import Member
@@ -59,12 +60,16 @@ async def _check_capacity(store: ReplicaStore, capacity: int) -> None:
 
 async def _agree(log: Log, wanted: Agreed) -> Agreed:
     with contextlib.closing(log):
-        agreed = await log.agree(wanted)
+        agreed, others = await log.agree(wanted), await log.others()
         head = await log.head()
     if head.n:
         raise JpstoreError(f"the log exists already, and has {head.n} entries: make a further node by `replica join`")
     if (agreed.digest, agreed.capacity) != (wanted.digest, wanted.capacity):
         raise JpstoreError("the log exists already, and was made from another file: choose another name by --log")
+    if agreed.log != wanted.log:
+        complain("the log exists already, without an entry. It was made from this file, or from one of the same state")
+    if others:
+        complain(f"this etcd has other logs too: {', '.join(others)}. A trim of one drops what the nodes of all have")
     return agreed
 
 
@@ -77,15 +82,19 @@ def join(new: str, node: str, source: str, members: Sequence[Member], name: str,
     part, whole = new + ".copied", new + ".joining"
     for path in (new, part, whole):
         if os.path.lexists(path):
-            raise JpstoreError(f"{path} exists already, and is left as it is: remove it, or choose another name")
-    asyncio.run(_hold(members, name, node))
+            raise JpstoreError(f"{path} exists already, and is left as it is: move it aside, or choose another name")
+    before = asyncio.run(_kept(members, name, node))
     try:
+        asyncio.run(_hold(members, name, node))
         size, place = receive_copy(source, part)
         copy_file(part, whole, sectors or size, program)
         status = check_file(whole, program)
         asyncio.run(_begin(whole, program, members, name, node, place))
         give_name(whole, new)
         sync_folder(new)
+    except BaseException:
+        _let_go(members, name, node, before)
+        raise
     finally:
         for path in (part, whole):
             with contextlib.suppress(FileNotFoundError):
@@ -93,11 +102,32 @@ def join(new: str, node: str, source: str, members: Sequence[Member], name: str,
     return {"entry": place_in(place).n, "sectors": status.sectors, "seq": status.seq}
 
 
-async def _hold(members: Sequence[Member], name: str, node: str) -> None:
-    """Keeps the log from its beginning on, until it is known from which place the node needs it."""
+async def _kept(members: Sequence[Member], name: str, node: str) -> Optional[Dict[str, Any]]:
+    """For which place of a node of this name the log is kept, if there is one."""
     with contextlib.closing(Log(members, name)) as log:
         await log.agreed()
+        return (await log.told(PLACES)).get(node)
+
+
+async def _hold(members: Sequence[Member], name: str, node: str) -> None:
+    """Keeps the log from its beginning on, until it is known from which place the node needs it.
+
+    An error doesn't tell that it isn't kept: the answer may be lost, and etcd refuses what crosses its quota when it
+    has made it.
+    """
+    with contextlib.closing(Log(members, name)) as log:
         await log.tell(PLACES, node, {"n": 0, "r": 0})
+
+
+def _let_go(members: Sequence[Member], name: str, node: str, before: Optional[Dict[str, Any]]) -> None:
+    """Keeps the log as it was before a join that has failed; says so if that can't be done."""
+    async def let_go() -> None:
+        with contextlib.closing(Log(members, name)) as log:
+            await (log.forget(node) if before is None else log.tell(PLACES, node, before))
+    try:
+        asyncio.run(let_go())
+    except JpstoreError as error:
+        complain(f"the log is kept for {node} until it is joined, or `replica forget {node}`: {error}")
 
 
 async def _begin(file: str, program: Optional[str], members: Sequence[Member], name: str, node: str,

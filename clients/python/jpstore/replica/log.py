@@ -6,22 +6,27 @@ and its modification revision r is the place from which a watch finds the entry 
 import asyncio
 import hashlib
 import json
+import time
 import uuid
 from enum import Enum
-from typing import Any, AsyncGenerator, Dict, List, NamedTuple, Optional, Sequence
+from typing import Any, AsyncGenerator, Dict, List, NamedTuple, Optional, Sequence, Tuple
 
 from ..errors import JpstoreError
-from .engine import Engine, Member, NoAnswer, Rejected, Trimmed, packed, unpacked
-from .errors import OLDER, WrongLog
+from .engine import Engine, Member, NoAnswer, NoSpace, Rejected, Trimmed, packed, unpacked
+from .errors import ANEW, OLDER, WrongLog
+from .reach import Reach
 from .tasks import end_tasks, started
 
-__all__ = ["Agreed", "DIGESTS", "Entry", "EntryKind", "Head", "Log", "PATIENCE", "PLACES", "TakenOver"]
+__all__ = ["Agreed", "DIGESTS", "Entry", "EntryKind", "Head", "Log", "PATIENCE", "PLACES", "TakenOver", "Unknown"]
 
 #: How long the calls of an operator may take, in seconds.
 PATIENCE = 10.0
 
 #: What nodes tell of themselves.
-PLACES, DIGESTS = "nodes", "digests"
+PLACES, DIGESTS = "nodes", "compared"
+
+# What the key ends with that makes a log.
+_AGREED = b"/agreed"
 
 # How long it waits before it watches at another member.
 _PAUSE = 0.05
@@ -35,6 +40,10 @@ _DIGEST = 10
 
 class TakenOver(JpstoreError):
     """Another process has registered under this node's name since."""
+
+
+class Unknown(Rejected):
+    """Etcd has no space, and it can't be told whether the entry is in the log."""
 
 
 class EntryKind(Enum):
@@ -95,9 +104,9 @@ class Head(NamedTuple):
 class Log:
     """The log of this name. One call at a time; each task that calls has a log of its own."""
 
-    def __init__(self, members: Sequence[Member], name: str, first: int = 0) -> None:
-        self._engine = Engine(members, first)
-        self._members, self._first, self._name = members, first, name
+    def __init__(self, members: Sequence[Member], name: str, first: int = 0, reach: Optional[Reach] = None) -> None:
+        self._engine = Engine(members, first, reach)
+        self._members, self._first, self._reach, self._name = members, first, reach, name
         self._node, self._last = "", 0
 
     def _key(self, word: str) -> str:
@@ -132,56 +141,87 @@ class Log:
 
     async def register(self, node: str) -> str:
         """Begins to append for this node, and shuts out what an earlier process left on its way; returns its name."""
-        self._node, name = node, uuid.uuid4().hex[:12]
-        await self._engine.call("/kv/put", {"key": self._key("writers/" + node), "value": packed(name.encode())})
-        # Read again, since the put may have been sent twice, and the second counts.
-        found = await self._read("writers/" + node, None)
-        if found is None or unpacked(found["value"]).decode() != name:
-            raise TakenOver(f"another process runs as node {node}")
-        self._last = int(found["mod_revision"])
-        return name
+        self._node, name, seen = node, uuid.uuid4().hex[:12], 0
+        key = self._key("writers/" + node)
+        while True:
+            body = {"compare": [_has_revision(key, seen)], "success": [_put(key, name.encode())],
+                    "failure": [{"request_range": {"key": key}}]}
+            answer = await self._engine.call("/kv/txn", body)
+            if answer.get("succeeded"):
+                self._last = int(answer["header"]["revision"])
+                return name
+            seen, value = _found_in(answer)
+            if value == name:
+                # An earlier try was committed, and its answer was lost.
+                self._last = seen
+                return name
 
     async def append(self, id: str, lines: Sequence[bytes], kind: EntryKind = EntryKind.LINES, version: str = "",
                      after: Optional[int] = None) -> bool:
         """Appends an entry, once, however often it must be sent; with `after` only right after that entry.
 
-        `NoSpace` is raised only if it is sure that the entry isn't in the log.
+        `NoSpace` is raised only if it is sure that the entry isn't in the log, and never will be.
         """
+        if not self._last:
+            # What it had sent was shut out.
+            await self.register(self._node)
         key = self._key("writers/" + self._node)
         head = {"id": id, "kind": kind.value, **({"version": version} if version else {})}
         value = json.dumps(head).encode() + b"\n" + b"".join(lines)
-        compare = [{"key": key, "target": "MOD", "result": "EQUAL", "mod_revision": str(self._last)}]
+        compare = [_has_revision(key, self._last)]
         if after is not None:
             compare.append({"key": self._key("log"), "target": "VERSION", "result": "EQUAL", "version": str(after)})
         body = {"compare": compare, "success": [_put(key, id.encode()), _put(self._key("log"), value)],
                 "failure": [{"request_range": {"key": key}}]}
-        answer = await self._sent(body)
+        answer = await self._sent(key, body)
         if answer.get("succeeded"):
             self._last = int(answer["header"]["revision"])
             return True
-        found, = answer["responses"][0]["response_range"].get("kvs") or [{}]
-        revision = int(found.get("mod_revision", 0))
+        revision, found = _found_in(answer)
         if revision == self._last and after is not None:
             # Nothing of this node's came between: the log has another head.
             return False
-        if revision in (0, self._last) or unpacked(found["value"]).decode() != id:
+        if revision in (0, self._last) or found != id:
             raise TakenOver(f"another process runs as node {self._node}")
-        # An earlier try was committed, and its answer was lost.
+        # A try was committed, and its answer was lost, or told of no space.
         self._last = revision
         return True
 
-    async def _sent(self, body: Dict[str, Any]) -> Dict[str, Any]:
-        """The answer to an append. A refusal for space is final only if no earlier try may have been committed."""
+    async def _sent(self, key: str, body: Dict[str, Any]) -> Dict[str, Any]:
+        """The answer to an append. A refusal is final only if no earlier try may have been committed."""
         tried = False
         while True:
             try:
                 return await self._engine.call("/kv/txn", body, 0)
             except NoAnswer:
                 tried = True
+            except NoSpace as refused:
+                return await self._settled(key, body, refused)
             except Rejected:
                 if not tried:
                     raise
             await asyncio.sleep(_PAUSE)
+
+    async def _settled(self, key: str, body: Dict[str, Any], refused: NoSpace) -> Dict[str, Any]:
+        """The answer to an append that was refused for want of space, if a try of it was committed all the same.
+
+        That refusal tells nothing: etcd commits what crosses its quota, and refuses it then. To delete the key that
+        has not changed takes no space. It shuts out all tries, so the refusal is raised.
+        """
+        shut = {"compare": body["compare"][:1], "success": [{"request_delete_range": {"key": key}}],
+                "failure": body["failure"]}
+        last, self._last = self._last, 0
+        try:
+            answer = await self._engine.call("/kv/txn", shut)
+        except Rejected as error:
+            raise Unknown(str(error)) from None
+        if answer.get("succeeded"):
+            raise refused
+        if not _found_in(answer)[0]:
+            # The key was deleted, and the answer was lost; or another process did that.
+            raise Unknown(str(refused))
+        self._last = last
+        return answer
 
     async def tell(self, what: str, node: str, told: Dict[str, Any], patience: Optional[float] = PATIENCE) -> None:
         """Tells the place of a node, from which the log is kept, or what it has after an entry."""
@@ -190,11 +230,28 @@ class Log:
 
     async def told(self, what: str, patience: Optional[float] = PATIENCE) -> Dict[str, Dict[str, Any]]:
         """What each node has told last."""
-        begin = f"{self._name}/{what}/".encode()
+        return await self._told_in(self._name.encode(), what, patience)
+
+    async def _told_in(self, log: bytes, what: str, patience: Optional[float]) -> Dict[str, Dict[str, Any]]:
+        begin = b"%b/%b/" % (log, what.encode())
         end = begin[:-1] + bytes([begin[-1] + 1])
         answer = await self._engine.call("/kv/range", {"key": packed(begin), "range_end": packed(end)}, patience)
         return {unpacked(each["key"])[len(begin):].decode(): json.loads(unpacked(each["value"]))
                 for each in answer.get("kvs", [])}
+
+    async def others(self) -> List[str]:
+        """The names of the other logs in this etcd."""
+        return [log.decode("utf-8", "replace") for log in (await self._logs())[1] if log != self._name.encode()]
+
+    async def _logs(self) -> Tuple[int, List[bytes]]:
+        """Etcd's revision, and the names of all logs in it: one that is made later begins after that revision.
+
+        Each has the key that makes it, whichever version of nodes made it.
+        """
+        every = packed(b"\0")
+        answer = await self._engine.call("/kv/range", {"key": every, "range_end": every, "keys_only": True}, PATIENCE)
+        keys = [unpacked(each["key"]) for each in answer.get("kvs", [])]
+        return int(answer["header"]["revision"]), [key[:-len(_AGREED)] for key in keys if key.endswith(_AGREED)]
 
     async def forget(self, node: str) -> bool:
         """Keeps the log no longer for a node; returns whether it was known."""
@@ -203,25 +260,47 @@ class Log:
         return bool(int(place.get("deleted", 0)))
 
     async def trim(self) -> Optional[int]:
-        """Drops the entries that all nodes have; returns up to which revision, or None if there are none."""
-        nodes = await self.told(PLACES)
+        """Drops the entries that all nodes have, of all logs in this etcd, since to drop concerns the whole etcd.
+
+        Returns up to which revision, or None if there are none.
+        """
+        now, logs = await self._logs()
+        places = [place for log in logs for place in (await self._told_in(log, PLACES, PATIENCE)).values()]
         # A node that is being made holds the log by 0. The last entry of each stays, since a node looks for it.
-        until = min((int(place["r"]) for place in nodes.values()), default=0) - 1
-        if until < 1:
-            return None
-        try:
-            await self._engine.call("/kv/compaction", {"revision": str(until), "physical": True}, PATIENCE)
-        except Trimmed:
-            return None
-        return until
+        until = min([now, *[int(place["r"]) for place in places]]) - 1 if places else 0
+        return until if until > 0 and await self._dropped(until) else None
+
+    async def _dropped(self, until: int) -> bool:
+        """Drops what is up to a revision, and waits until it is gone; returns whether there was any."""
+        body, end, tried = {"revision": str(until), "physical": True}, time.monotonic() + PATIENCE, False
+        while True:
+            try:
+                await self._engine.call("/kv/compaction", body, 0)
+                return True
+            except NoAnswer:
+                if time.monotonic() > end:
+                    raise
+                tried = True
+            except Trimmed:
+                # Perhaps by an earlier try, which took longer than one may.
+                return tried
+            await asyncio.sleep(_PAUSE)
 
     def watch(self) -> "Watched":
         """A watch of the entries."""
-        return Watched(Engine(self._members, self._first), self._key("log"))
+        return Watched(Engine(self._members, self._first, self._reach), self._key("log"))
 
     def close(self) -> None:
         """Closes the connection."""
         self._engine.close()
+
+
+class _Compacted(Exception):
+    """The log was trimmed up to this revision, which is after the one that is asked for."""
+
+    def __init__(self, revision: int) -> None:
+        super().__init__(revision)
+        self.revision = revision
 
 
 class Watched:
@@ -239,29 +318,52 @@ class Watched:
     async def entries(self, n: int = 0, r: int = 0, digest: str = "") -> AsyncGenerator[Entry, None]:
         """Each entry after number n, which must have this revision and digest; from the first one on if n is 0.
 
-        On every connection the last entry comes first once more, since etcd may have been put back meanwhile.
+        On every connection the last entry comes first once more, since etcd may have been put back meanwhile. If it
+        was trimmed, it is looked up in what is left.
         """
-        last, gaps = (n, r, digest), 0
+        last, gaps, trimmed = (n, r, digest), 0, 0
         while True:
-            told, known = self._told(max(last[1], 1)), last[0] == 0
-            async for entry in told:
-                place = (entry.n, entry.r, entry.digest)
-                if (not known or entry.n == last[0]) and place != last:
-                    raise WrongLog(f"the log has entry {entry.n} ({entry.digest}) at revision {entry.r}, and the store "
-                                   f"has entry {last[0]} ({last[2]}) at {last[1]}: it is another log, or an older copy "
-                                   "of it")
-                known = True
-                if entry.n > last[0] + 1:
-                    gaps += 1
-                    break
-                if entry.n == last[0] + 1:
-                    last, gaps = place, 0
-                    yield entry
-            await told.aclose()
+            told, known = self._told(max(last[1], trimmed, 1)), last[0] == 0 or trimmed > last[1]
+            trimmed = 0
+            try:
+                async for entry in told:
+                    place = (entry.n, entry.r, entry.digest)
+                    if (not known or entry.n == last[0]) and place != last:
+                        raise _other_log(entry, last)
+                    known = True
+                    if entry.n > last[0] + 1:
+                        gaps += 1
+                        break
+                    if entry.n == last[0] + 1:
+                        last, gaps = place, 0
+                        yield entry
+            except _Compacted as compacted:
+                trimmed = compacted.revision if await self._is_last(last, compacted.revision) else 0
+                continue
+            finally:
+                await told.aclose()
             if gaps > _MOST_GAPS:
-                raise WrongLog(f"the log has no entry {last[0] + 1}, and later ones")
+                raise WrongLog(f"the log has no entry {last[0] + 1}, and later ones: {ANEW}")
             self._engine.leave()
             await asyncio.sleep(_PAUSE)
+
+    async def _is_last(self, last: Tuple[int, int, str], revision: int) -> bool:
+        """Whether this was the last entry at a revision up to which the log was trimmed; no if it was trimmed further.
+
+        `Trimmed` if there were later ones, which are gone.
+        """
+        try:
+            answer = await self._engine.call("/kv/range", {"key": self._key, "revision": str(revision)})
+        except Trimmed:
+            await asyncio.sleep(_PAUSE)
+            return False
+        entry = _entry_in({"kv": answer["kvs"][0]}) if "kvs" in answer else Entry(0, 0, "", EntryKind.LINES, "", [])
+        if entry.n > last[0]:
+            raise Trimmed(f"the log is trimmed up to revision {revision}, and the store has no entry {last[0] + 1}, "
+                          f"which was before that: {ANEW}")
+        if last[0] and (entry.n, entry.r, entry.digest) != last:
+            raise _other_log(entry, last)
+        return True
 
     async def _told(self, revision: int) -> AsyncGenerator[Entry, None]:
         """The entries from a revision on, as one member sends them, until the connection ends."""
@@ -275,8 +377,7 @@ class Watched:
                     return
                 message = self._reading.result()
                 if int(message.get("compact_revision", 0)):
-                    raise Trimmed(f"the log is trimmed up to revision {message['compact_revision']}, and the store "
-                                  f"needs it from {revision} on: make the store anew by `replica join`")
+                    raise _Compacted(int(message["compact_revision"]))
                 if message.get("canceled"):
                     return
                 for event in message.get("events", ()):
@@ -288,6 +389,11 @@ class Watched:
             if self._reading is not None:
                 await end_tasks([self._reading])
             await messages.aclose()
+
+
+def _other_log(entry: Entry, last: Tuple[int, int, str]) -> WrongLog:
+    return WrongLog(f"the log has entry {entry.n} ({entry.digest}) at revision {entry.r}, and the store has entry "
+                    f"{last[0]} ({last[2]}) at {last[1]}: it is another log, or an older copy of it: {ANEW}")
 
 
 def _entry_in(event: Dict[str, Any]) -> Entry:
@@ -303,3 +409,13 @@ def _put(key: str, value: bytes) -> Dict[str, Any]:
 
 def _is_absent(key: str) -> Dict[str, Any]:
     return {"key": key, "target": "CREATE", "result": "EQUAL", "create_revision": "0"}
+
+
+def _has_revision(key: str, revision: int) -> Dict[str, Any]:
+    return {"key": key, "target": "MOD", "result": "EQUAL", "mod_revision": str(revision)}
+
+
+def _found_in(answer: Dict[str, Any]) -> Tuple[int, str]:
+    """The revision and the value of the key that a transaction has read when it failed; 0 and nothing without it."""
+    found, = answer["responses"][0]["response_range"].get("kvs") or [{}]
+    return int(found.get("mod_revision", 0)), unpacked(found.get("value", "")).decode()

@@ -7,16 +7,20 @@ from functools import partial
 from typing import IO, Any, Awaitable, Callable, Deque, Dict, List, NamedTuple, Optional, Sequence, TypeVar
 
 from ..errors import JpstoreError
+from .answers import as_asked, as_told
 from .appending import Appending
 from .applying import Applier, Done, OtherVersion
+from .comparing import VOTES, Comparing
 from .copying import Copy, copy_of
-from .digest import Comparing, digest_of
-from .engine import Member, NoAnswer, NoSpace, Rejected, Trimmed
+from .digest import Digesting
+from .engine import Member, NoAnswer, NoSpace, Rejected, Trimmed, end_of_certificates
 from .export import export
 from .log import PATIENCE, PLACES, Entry, EntryKind, Head, Log
 from .questions import Asking
+from .reach import Reach
 from .store import Faulty, ReplicaStore
-from .tasks import apart, end_tasks
+from .tasks import apart, end_tasks, started
+from .trial import is_tried, lacks_memory
 
 __all__ = ["Node", "Settings"]
 
@@ -33,8 +37,8 @@ _SILENCE = 0.7
 
 
 class Settings(NamedTuple):
-    """What a node serves: a file, a log, and the sockets of its clients; its name, how long clients wait, and how often
-    nodes are compared."""
+    """What a node serves: a file, a log, and the sockets of its clients; its name, how long clients wait, how often
+    nodes are compared, and who says whether etcd can be reached."""
 
     node: str
     file: str
@@ -48,10 +52,11 @@ class Settings(NamedTuple):
     first: int = 0
     patience: float = 10.0
     compare: float = 60.0
+    reach: Optional[Reach] = None
 
     def new_log(self) -> Log:
         """The log, for one more task."""
-        return Log(self.members, self.log, self.first)
+        return Log(self.members, self.log, self.first, self.reach)
 
 
 class Node:
@@ -67,7 +72,8 @@ class Node:
         #: Changes and questions on their way.
         self.appending = Appending(settings.node, applier)
         self.asking = Asking(Head(applier.place.n, applier.place.r), self._woken.set)
-        self._comparing = Comparing(settings.node, settings.compare, self._logs)
+        self._comparing, self._digesting = Comparing(settings.node, settings.compare, self._logs), Digesting(store)
+        applier.before = lambda names: self._digesting.before(names, self._answer_due)
         self._watched = self._logs().watch()
         self._received = Head(applier.place.n, applier.place.r)
         self._held = 0
@@ -81,6 +87,10 @@ class Node:
         """The reply to a line that changes the file of this node alone."""
         reply, = await self._between(lambda: self._store.ask([text]))
         return reply
+
+    async def lacks_memory(self, text: bytes) -> bool:
+        """Whether this node has no memory for a change, by its compact text."""
+        return is_tried(text) and await self._between(lambda: lacks_memory(text, self._store))
 
     async def export(self) -> IO[bytes]:
         """All documents of one moment."""
@@ -123,7 +133,7 @@ class Node:
         with contextlib.suppress(NoSpace):
             await self._publish(self._logs())
         asking = self.asking.run(self._logs(), lambda: self._received, self._seen)
-        tasks = [asyncio.ensure_future(task) for task in (
+        tasks = [started(task) for task in (
             self._work(), self._follow(), self._tell(), self._tick(), self.appending.run(self._logs()), asking,
             self._comparing.run())]
         try:
@@ -146,6 +156,8 @@ class Node:
             self._comparing.check()
             if self._jobs:
                 await self._jobs.popleft()()
+            elif self._digesting.is_reading:
+                await self._read()
             elif not self._entries and not self.asking.is_due(self._applier.place.n):
                 await self._woken.wait()
 
@@ -165,17 +177,29 @@ class Node:
         if done.entry.n >= self.asking.head.n:
             self._current = max(self._current or 0.0, self.asking.asked_at)
         if done.entry.kind is EntryKind.COMPARE:
-            revisions = await self._store.revisions()
-            digest = digest_of(self._applier.seq, self._applier.place.chain, revisions)
-            self._comparing.compare(done.entry.n, digest, self._woken.set)
+            self._comparing.seen()
+            if self._is_waited_for():
+                await self._digesting.begin(done.entry.n, self._applier.seq, self._applier.place.chain)
+
+    def _is_waited_for(self) -> bool:
+        """Whether others wait for what this node has now: it had all a moment ago, and no later comparison waits."""
+        is_current = self._current is not None and time.monotonic() - self._current < VOTES
+        return is_current and all(entry.kind is not EntryKind.COMPARE for entry in self._entries)
+
+    async def _read(self) -> None:
+        """Reads a piece of the documents that are compared."""
+        digest = await self._digesting.read()
+        if digest is not None:
+            self._comparing.compare(digest, self._woken.set)
 
     async def _answer_due(self) -> None:
         """Answers the questions whose entries are done."""
         due = self.asking.due(self._applier.place.n)
         if due:
-            for question, reply in zip(due, await self._store.exchange([question.text for question in due])):
+            replies = await self._store.exchange([as_asked(question.text) for question in due])
+            for question, reply in zip(due, replies):
                 if not question.answer.done():
-                    question.answer.set_result(reply)
+                    question.answer.set_result(as_told(question.text, reply, self.history))
 
     async def _follow(self) -> None:
         """Takes the entries of the log as they come."""
@@ -229,4 +253,5 @@ class Node:
         status = self._store.status
         await log.tell(PLACES, self._settings.node, {
             **self._applier.told(), "version": self._applier.version, "time": int(time.time()), "used": status["used"],
-            "capacity": status["capacity"], "documents": status["documents"]}, patience)
+            "capacity": status["capacity"], "documents": status["documents"],
+            "certificate": end_of_certificates(self._settings.members)}, patience)

@@ -8,7 +8,7 @@ from typing import Callable, Deque, List, NamedTuple
 
 from ..refusals import NO_MAJORITY
 from ..wire.replies import refusal
-from .errors import WrongLog
+from .errors import ANEW, WrongLog
 from .log import Head, Log
 from .tasks import within
 
@@ -88,7 +88,7 @@ class Asking:
             # Numbers and revisions rise together.
             if head != before and not (head.n > before.n and head.r > before.r):
                 raise WrongLog(f"the log ends at entry {head.n} of revision {head.r}, and the store has entry "
-                               f"{before.n} of {before.r}: it is another log, or an older copy of it")
+                               f"{before.n} of {before.r}: it is another log, or an older copy of it: {ANEW}")
             self.head, self.asked_at = max(self.head, head), asked
             self._waiting.extend(each._replace(need=head.n) for each in self._asked_for if not each.answer.done())
             self._woken()

@@ -7,16 +7,17 @@ import sys
 from functools import partial
 from typing import Any, Awaitable, Dict, List
 
-from ..errors import JpstoreError
-from ..wire.standard_streams import announce
+from ..errors import Ended, JpstoreError
+from ..refusals import DAMAGED
+from ..wire.standard_streams import announce, complain
 from .applying import Applier
 from .clients import Clients
-from .errors import Astray, Changed
+from .errors import ANEW, Astray, Changed, Damaged
 from .log import PLACES
 from .node import Node, Settings
 from .place import begin_of, furthest
 from .store import ReplicaStore, judge_of
-from .tasks import end_tasks
+from .tasks import end_tasks, started
 from .unix_socket import Listening, check_free
 
 __all__ = ["run_node"]
@@ -79,9 +80,19 @@ async def _run(settings: Settings, store: ReplicaStore) -> None:
         await sockets.close()
 
 
+async def _opened(settings: Settings) -> ReplicaStore:
+    """The store of the node. `Damaged` if the file is: what it has lost is in the log, or in another node's file."""
+    try:
+        return await ReplicaStore.open(settings.file, settings.program, settings.pump, settings.wait)
+    except Ended as ended:
+        if ended.number != DAMAGED:
+            raise
+        raise Damaged(f"{settings.file} is damaged ({DAMAGED}): {ANEW}") from None
+
+
 async def _serve(settings: Settings) -> None:
     check_free(settings.socket)
-    store = await ReplicaStore.open(settings.file, settings.program, settings.pump, settings.wait)
+    store = await _opened(settings)
     try:
         await _until_stopped(_run(settings, store), store)
     finally:
@@ -92,7 +103,7 @@ async def _serve(settings: Settings) -> None:
 
 async def _until_stopped(run: Awaitable[None], store: ReplicaStore) -> None:
     """Runs until a signal comes, something fails, or the program ends."""
-    running = asyncio.ensure_future(run)
+    running = started(run)
     stopped: "asyncio.Future[None]" = asyncio.get_running_loop().create_future()
     ending = asyncio.ensure_future(store.process.wait())
     for number in (signal.SIGINT, signal.SIGTERM):
@@ -111,6 +122,15 @@ def _stop(stopped: "asyncio.Future[None]") -> None:
     faulthandler.dump_traceback_later(_FAREWELL, exit=True)
 
 
+def _mark(astray: str, error: JpstoreError) -> None:
+    """Writes that the store of a node can't go on, so that no start tries it."""
+    try:
+        with open(astray, "w", encoding="utf-8") as opened:
+            opened.write(f"{error}\n")
+    except OSError as failed:
+        complain(f"{astray} cannot be written: {failed.strerror}")
+
+
 def run_node(settings: Settings) -> int:
     """Serves a node until it is ended by SIGTERM or SIGINT; returns 0.
 
@@ -119,13 +139,11 @@ def run_node(settings: Settings) -> int:
     """
     astray = settings.file + ".astray"
     if os.path.lexists(astray):
-        raise Astray(f"the store in {settings.file} has left the log, as {astray} tells: make it anew by `replica "
-                     "join`")
+        raise Astray(f"the store in {settings.file} has left the log, as {astray} tells. Move both aside: {ANEW}")
     try:
         asyncio.run(_serve(settings))
     except (Astray, Changed) as error:
-        with open(astray, "w", encoding="utf-8") as opened:
-            opened.write(f"{error}\n")
+        _mark(astray, error)
         raise
     finally:
         faulthandler.cancel_dump_traceback_later()

@@ -14,21 +14,28 @@ from ..wire.limits import MOST_GROUP
 from ..wire.program import ended_program, find_program, serve_words, version_of
 from ..wire.replies import REFUSED, text_in
 from ..wire.store_file import format_of
-from .errors import Changed, WrongLog
+from .errors import ANEW, Changed, WrongLog
 from .log import Agreed
 from .place import MOST_VERSION, Place, key_of, place_in
 
-__all__ = ["Faulty", "ReplicaStore", "judge_of"]
+__all__ = ["Faulty", "MEMORY", "ReplicaStore", "judge_of"]
 
 # Refusals that are no answers of the log: those of this machine (60 to 64), as another node may have accepted the
-# change, and that of an entry as a whole (65), which the reckoning leaves to none.
-_FAULTS = (60, 61, 62, 63, 64, 65)
+# change, and that of an entry as a whole (65), which the reckoning leaves to none. One for memory may be for entries
+# that were sent together.
+_FAULTS = (60, 61, 62, 64, 65)
+
+#: The refusal for want of memory.
+MEMORY = 63
 
 # Longer than any reply of the program, and the bytes of replies that are dropped at once.
 _MOST_REPLY, _PIECE = (1 << 24) + (1 << 16), 1 << 16
 
 # How long it waits before it looks again whether a file is free, in seconds.
 _PAUSE = 0.05
+
+# How many documents are read at once for the digest of a first state.
+_TOGETHER = 16
 
 # How many letters the digest of a long version has.
 _DIGEST = 16
@@ -134,16 +141,19 @@ class ReplicaStore:
             return None
         if told["seq"] != self.status["seq"]:
             raise Changed(f"{self.status['seq'] - told['seq']} changes were made to the file beside the log, by "
-                          "somebody else: make it anew by `replica join`")
+                          f"somebody else: {ANEW}")
         return place_in(told["mark"])
 
     async def digest(self) -> str:
         """A digest of all documents, their schemas, order and revisions, of the number of changes, and of the room that
         all takes with clients' marks."""
         made = hashlib.sha256(b"%d %d\n" % (await self.snapshot_length(), self.status["seq"]))
-        for name, rev in await self.revisions():
-            doc, schema = await self.exchange([line_of(commands.get(name)), line_of(commands.get_schema(name))])
-            made.update(b"%b %d\n%b%b" % (name.encode(), rev, doc, schema))
+        rows = await self.revisions()
+        for some in (rows[begin:begin + _TOGETHER] for begin in range(0, len(rows), _TOGETHER)):
+            replies = await self.exchange([line_of(line) for name, _ in some
+                                           for line in (commands.get(name), commands.get_schema(name))])
+            for (name, rev), doc, schema in zip(some, replies[::2], replies[1::2]):
+                made.update(b"%b %d\n%b%b" % (name.encode(), rev, doc, schema))
         return made.hexdigest()
 
     async def snapshot_length(self) -> int:

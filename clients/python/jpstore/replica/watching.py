@@ -1,12 +1,14 @@
-"""The newest changes of a store, in memory alone, and the answer of a node to `watch`, which tells them."""
+"""The newest changes of a store, in memory alone, and what a node answers by them to `watch` and to `changes`."""
 import asyncio
 import contextlib
 import select
 from collections import deque
-from typing import Any, AsyncIterator, Deque, Dict, Iterable, List, Optional, Sequence
+from itertools import islice
+from typing import Any, AsyncIterator, Deque, Dict, Iterable, Iterator, List, Optional, Sequence
 
 from ..refusals import GONE, WATCHING
 from ..wire.replies import line_of_reply, refusal
+from .changes import length_of_frames
 
 __all__ = ["History", "serve_watch"]
 
@@ -18,6 +20,9 @@ _PIECE = 1 << 16
 
 # How often it looks whether a client that sends nothing more is still there, in seconds.
 _LOOK = 1.0
+
+# What the line of a change begins with, before the text of it.
+_HEAD = b'{"change":'
 
 
 class History:
@@ -41,21 +46,45 @@ class History:
     def after(self, seq: int, most: int) -> List[bytes]:
         """The lines of the next changes after number `seq`: about `most` bytes, but one line if there is one."""
         lines: List[bytes] = []
-        for index in range(seq - self.base, len(self._lines)):
-            lines.append(self._lines[index])
-            most -= len(lines[-1])
+        for line in islice(self._lines, seq - self.base, None):
+            lines.append(line)
+            most -= len(line)
             if most <= 0:
                 break
         return lines
+
+    def told(self, seq: int, most: int) -> bytes:
+        """The reply to `changes`: the transactions after number `seq`, the first `most` bytes, and one at least.
+
+        They are gone if that is no last number of one that is kept, nor the one before all.
+        """
+        begin, sizes = self.base, iter(self._sizes)
+        while begin < seq and begin < self.last:
+            begin += next(sizes)
+        if begin != seq:
+            return line_of_reply({"from": self.base, "gone": True, "ok": True, "seq": self.last})
+        told = b",".join(self._transactions(seq, list(sizes), most))
+        return b'{"changes":[%b],"identity":"%b","ok":true,"seq":%d}\n' % (told, self.name.encode(), self.last)
+
+    def _transactions(self, seq: int, sizes: Sequence[int], most: int) -> Iterator[bytes]:
+        """The transactions of these sizes after number `seq`: the first `most` bytes of them, and one at least."""
+        lines, last = islice(self._lines, seq - self.base, None), seq
+        for size in sizes:
+            first, before, last = last + 1, last, last + size
+            some = enumerate(islice(lines, size), first)
+            texts = [line[len(_HEAD):-len(_tail(first, last, at))] for at, line in some]
+            most -= length_of_frames(sum(map(len, texts)), size)
+            if before > seq and most < 0:
+                return
+            yield b'{"changes":[%b],"first":%d,"last":%d}' % (b",".join(texts), first, last)
 
     def add(self, transactions: Iterable[Sequence[bytes]]) -> None:
         """Adds changes, or transactions of several, by the texts of their changes. The oldest ones make room."""
         for texts in transactions:
             self._sizes.append(len(texts))
             first, last = self.last + 1, self.last + len(texts)
-            span = b',"first":%d,"last":%d' % (first, last) if len(texts) > 1 else b""
             for seq, text in enumerate(texts, first):
-                self._lines.append(b'{"change":%b%b,"seq":%d}' % (text, span, seq))
+                self._lines.append(_HEAD + text + _tail(first, last, seq))
                 self._bytes += len(self._lines[-1])
         while len(self._lines) > _MOST_CHANGES or self._bytes > _MOST_BYTES:
             for _ in range(self._sizes.popleft()):
@@ -68,6 +97,11 @@ class History:
         """Waits for the next change, but a second at most."""
         with contextlib.suppress(asyncio.TimeoutError):
             await asyncio.wait_for(self._grown.wait(), _LOOK)
+
+
+def _tail(first: int, last: int, seq: int) -> bytes:
+    """What the line of a change has after the text of it; `first` and `last` are the numbers of its transaction."""
+    return b'%b,"seq":%d}' % (b',"first":%d,"last":%d' % (first, last) if first < last else b"", seq)
 
 
 async def serve_watch(watch: Dict[str, Any], lines: AsyncIterator[bytes], writer: asyncio.StreamWriter,

@@ -2,27 +2,26 @@
 from enum import Enum
 from typing import Any, Callable, Dict, FrozenSet, NamedTuple
 
-from .limits import MOST_CHANGES, MOST_MARK_BYTES, MOST_TOLD_BYTES
+from ..protocol import COMMANDS, Command, Member
+from .limits import MOST_CHANGES, MOST_MARK_BYTES
 
 __all__ = ["CHANGES", "FORMS", "MARKING", "TRANSACTION", "Form", "Kind", "Members", "has_form", "is_change"]
 
 #: The word of several changes, all or none.
 TRANSACTION = "transaction"
 
-_MOST_SECTORS = 1_000_000
-
 
 class Kind(Enum):
     """What a command asks for."""
 
-    CHANGE = 1
-    QUESTION = 2
-    #: It may change which half of the file counts, and no document.
-    SNAPSHOT = 3
+    CHANGE = "change"
+    QUESTION = "question"
+    #: It may change which half of the file counts, or writes it anew, and changes no document.
+    SNAPSHOT = "snapshot"
     #: A hub or a node answers it itself.
-    OWN = 4
+    OWN = "own"
     #: A node answers it itself, and nothing else knows it.
-    NODE = 5
+    NODE = "node"
 
 
 def _is_text(value: Any) -> bool:
@@ -31,10 +30,6 @@ def _is_text(value: Any) -> bool:
 
 def _is_count(value: Any) -> bool:
     return isinstance(value, int) and not isinstance(value, bool) and value >= 0
-
-
-def _is_from_1_to(most: int) -> Callable[[Any], bool]:
-    return lambda value: _is_count(value) and 1 <= value <= most
 
 
 def _is_any(_: Any) -> bool:
@@ -67,32 +62,21 @@ class Form(NamedTuple):
     optional: FrozenSet[str] = frozenset()
 
 
-_WORD: Members = {"cmd": _is_text}
-_NAMED: Members = {**_WORD, "name": _is_text}
+_TESTS: Members = {"any": _is_any, "changes": _are_changes, "count": _is_count, "text": _is_text}
+
+
+def _test_of(member: Member) -> Callable[[Any], bool]:
+    most = member.most
+    return _TESTS[member.kind] if most is None else lambda value: _is_count(value) and 1 <= value <= most
+
+
+def _form_of(command: Command) -> Form:
+    members = {name: _test_of(member) for name, member in command.members.items()}
+    return Form(Kind(command.kind), members, frozenset(name for name in members if command.members[name].optional))
+
 
 #: The forms by the word of the command.
-FORMS: Dict[str, Form] = {
-    "create": Form(Kind.CHANGE, {**_NAMED, "doc": _is_any, "schema": _is_any}),
-    "patch": Form(Kind.CHANGE, {**_NAMED, "ops": _is_any, "if_rev": _is_count}, frozenset(["if_rev"])),
-    "schema": Form(Kind.CHANGE, {**_NAMED, "schema": _is_any}),
-    "delete": Form(Kind.CHANGE, _NAMED),
-    TRANSACTION: Form(Kind.CHANGE, {**_WORD, "changes": _are_changes}),
-    "get": Form(Kind.QUESTION, {**_NAMED, "path": _is_text}),
-    "get-schema": Form(Kind.QUESTION, _NAMED),
-    "rev": Form(Kind.QUESTION, _NAMED),
-    "query": Form(Kind.QUESTION, {**_NAMED, "path": _is_text}),
-    "mark": Form(Kind.QUESTION, {**_WORD, "key": _is_text}),
-    "changes": Form(Kind.QUESTION, {**_WORD, "from": _is_count, "max": _is_from_1_to(MOST_TOLD_BYTES)}),
-    "list": Form(Kind.QUESTION, _WORD),
-    "status": Form(Kind.QUESTION, _WORD),
-    "snapshot": Form(Kind.SNAPSHOT, _WORD),
-    "pump": Form(Kind.SNAPSHOT, {**_WORD, "max": _is_from_1_to(_MOST_SECTORS)}),
-    "export": Form(Kind.OWN, _WORD),
-    "grow": Form(Kind.OWN, {**_WORD, "sectors": _is_count}),
-    "watch": Form(Kind.OWN, {**_WORD, "from": _is_count, "history": _is_text}, frozenset(["from", "history"])),
-    "node": Form(Kind.NODE, _WORD),
-    "copy": Form(Kind.NODE, _WORD),
-}
+FORMS: Dict[str, Form] = {word: _form_of(command) for word, command in COMMANDS.items()}
 
 #: What a line of changes may have beside its form: the mark that is set with them, and the one that must be there.
 MARKING: Members = {"mark": _is_mark, "if_mark": _is_asked}

@@ -12,7 +12,7 @@ from .store_file import format_kept
 from .stream import PIECE, Lines, StreamEnded, StreamSilent
 
 __all__ = [
-    "Path", "Program", "Started", "check_file", "copy_file", "ended_program", "find_program", "format_file",
+    "BATCH", "Path", "Program", "Started", "check_file", "copy_file", "ended_program", "find_program", "format_file",
     "path_word", "serve_words", "upgrade_file", "version_of",
 ]
 
@@ -21,6 +21,10 @@ _HOW_TO_GET = ("it is in the Debian package jpstore, and `./build` of a clone pu
 
 #: A path of a file or a socket.
 Path = Union[str, "os.PathLike[str]"]
+
+#: How many changes that are sent together share a sync of the disk at most, unless a caller says another number. More
+#: are hardly faster, and as many of the longest documents take 200 MB until they are stored.
+BATCH = 64
 
 
 def find_program(program: Optional[Path] = None) -> str:

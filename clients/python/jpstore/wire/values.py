@@ -81,7 +81,16 @@ def _check_plain(value: Any, trail: _Trail) -> None:
         if not LEAST <= value <= MOST:
             raise _unsendable(trail, f"a number is beyond 64 bits ({LEAST} to {MOST}): send a text")
     elif value is not None:
-        raise _unsendable(trail, f"{type(value).__name__} is not a JSON value")
+        raise _unsendable(trail, _no_value(value))
+
+
+def _no_value(value: Any) -> str:
+    """Why this has no text, and what to do about it."""
+    # By its name: else each program would import `decimal`.
+    if type(value).__name__ == "Decimal":
+        return (f"{value} is a `Decimal`: name its member in `Scaled(..)`, which makes a whole number of it, or send a "
+                "text")
+    return f"{type(value).__name__} is not a JSON value"
 
 
 def _check_text(text: str, trail: _Trail) -> None:
