@@ -7,13 +7,14 @@ SOCKET is that of a hub; in a store of format 3 there is room for 65,536 documen
 `POST /payments` keeps what a payment provider says, one time for each `id`.
 """
 import asyncio
+import contextlib
 import json
 import re
 import sys
 from decimal import Decimal
 
 from aiohttp import web
-from jpstore import AsyncStore, Conflict, Ended, Invalid, NotFound, Scaled, create, patch
+from jpstore import AsyncStore, Conflict, Ended, Invalid, NotFound, Scaled, Unsendable, create, patch
 
 MONEY = Scaled(price=2, total=2)
 LINE = {
@@ -91,12 +92,14 @@ class Orders:
         return shown([MONEY.read(order) for order in orders])
 
     async def pay(self, request):
-        # All its digits are kept, as texts; what is compared or added up is a whole number beside it.
-        message = json.loads(await request.text(), parse_float=str)
-        name = "payment-" + checked(message["id"], "`id`")
-        cents = MONEY.stored({"price": Decimal(message["amount"])})["price_e2"]
+        # Its text is kept as it came, whatever the amount is; what is compared or added up is a whole number beside it.
+        text = await request.text()
+        message = json.loads(text, parse_float=Decimal)
+        payment = {"raw": text}
+        with contextlib.suppress(Unsendable, KeyError):
+            payment["amount_e2"] = MONEY.stored({"price": message["amount"]})["price_e2"]
         try:
-            await self._store.create(name, {"amount_e2": cents, "message": message})
+            await self._store.create("payment-" + checked(message["id"], "`id`"), payment)
         except Conflict:
             pass  # The provider sends a message until it is answered.
         return shown({})

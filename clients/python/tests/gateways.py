@@ -8,7 +8,7 @@ import signal
 import socket
 import subprocess
 
-from support import PATIENCE
+from support import PATIENCE, until
 
 
 class Answer:
@@ -100,9 +100,41 @@ class Gateway:
         with open(f"/proc/{self.process.pid}/task/{self.process.pid}/children", encoding="ascii") as opened:
             return [int(word) for word in opened.read().split()]
 
+    def program(self):
+        """The process of the program that it serves by."""
+        return next(child for child in self.children() if words_of(child)[1:2] == [b"serve"])
+
     def kill_program(self):
-        for child in self.children():
-            os.kill(child, signal.SIGKILL)
+        os.kill(self.program(), signal.SIGKILL)
+
+    def told(self, holds, method, path, body=None, **headers):
+        """The answer to a refused request, once what it tells holds: a reason is left out if it takes over a second."""
+        def found():
+            answer = self.ask(method, path, body, **headers)
+            return answer if holds(answer.json()) else None
+        return until(found, "the reason of a refusal")
+
+
+class Server(Gateway):
+    """A server that is started by its own name, with options that the gateway doesn't have."""
+
+    def __init__(self, place, *options):
+        words = [os.environ["JPSTORE_SERVER"], place.file, "--listen", "127.0.0.1:0", "--program", place.program,
+                 *options]
+        self.process = subprocess.Popen(words, stdout=subprocess.PIPE, stderr=subprocess.PIPE, env=place.environment())
+        line = self.process.stdout.readline().decode()
+        assert " is served at http://127.0.0.1:" in line, self.process.stderr.read()
+        self.port = int(line.rsplit(":", 1)[1].strip("/\n"))
+        self.host = f"127.0.0.1:{self.port}"
+        self.url = f"http://{self.host}"
+
+
+def words_of(process):
+    """The words by which a process was started."""
+    with contextlib.suppress(OSError):
+        with open(f"/proc/{process}/cmdline", "rb") as opened:
+            return opened.read().split(b"\0")
+    return []
 
 
 def without_history(data):

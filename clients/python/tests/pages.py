@@ -18,8 +18,8 @@ def blocks_of(text):
 
 
 def without_names(text):
-    """What is written, without the names of histories, which no two hubs have in common."""
-    return re.sub(r"\b[0-9a-f]{16}\.\d+\.[0-9a-f]{16}\b", "NAME", text)
+    """What is written, without the names of histories and the identities of stores, which no two have in common."""
+    return re.sub(r"\b([0-9a-f]{16}\.\d+\.[0-9a-f]{16}|[0-9a-f]{32})\b", "NAME", text)
 
 
 def how_to_run(kind, text, store):

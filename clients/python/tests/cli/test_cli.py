@@ -144,7 +144,7 @@ def test_the_exit_status_is_of_the_family(place):
     place.text("schema.json", '{"maximum": 5}')
     told(place, "new", "store", "d", "1", "--schema", "schema.json")
     rows = [
-        (1, ["get", "nowhere", "d"]),
+        (14, ["get", "nowhere", "d"]), (14, ["schema", "store", "d", "--to", "nowhere"]), (15, ["format", "store"]),
         (2, ["get", "store"]), (2, ["patch", "store", "d", "[]", "--if-rev", "x"]),
         (3, ["get", "store", "other"]), (3, ["get", "store", "d", "/a"]), (3, ["rm", "store", "other"]),
         (4, ["new", "store", "d", "1"]), (4, ["patch", "store", "d", "[]", "--if-rev", "9"]),
@@ -173,7 +173,7 @@ def test_errors_are_json_if_asked_for(place):
     error = json.loads(errors(place, "get", "store", "other", "--json", status=3))
     assert {name: error[name] for name in ("error", "number", "name", "command", "document")} == {
         "error": "NotFound", "number": 21, "name": "no-document", "command": "get", "document": "other"}
-    assert json.loads(errors(place, "get", "nowhere", "d", "--json", status=1))["error"] == "Ended"
+    assert json.loads(errors(place, "get", "nowhere", "d", "--json", status=14))["error"] == "Ended"
     changes = json.dumps([create("d", 1), create("d", 2)])
     error = json.loads(errors(place, "transaction", "store", changes, "--json", status=4))
     assert {name: error.get(name) for name in ("number", "command", "document", "change", "op")} == {
@@ -186,7 +186,7 @@ def test_a_text_that_is_not_json_is_told_with_its_place(place):
     place.text("schema.json", '{"type" "integer"}')
     assert "schema.json: not JSON: line 1, column 9" in errors(
         place, "new", "store", "d", "1", "--schema", "schema.json", status=6)
-    assert "nowhere: No such file" in errors(place, "schema", "store", "d", "--to", "nowhere", status=1)
+    assert "nowhere: No such file" in errors(place, "schema", "store", "d", "--to", "nowhere", status=14)
 
 
 def test_what_is_accepted_in_silence_is_warned_of(place):
@@ -275,7 +275,7 @@ def test_sizes_that_are_none_are_told(place):
     assert "is no mode" in errors(place, "format", "store", "--mode", "8", status=2)
     assert "not allowed with" in errors(place, "format", "store", "--size", "1M", "--sectors", "9", status=2)
     assert [sectors_of_size(text) for text in ("1536", "2k", "3KB", "2MiB", "1G")] == [3, 4, 6, 4096, 1 << 21]
-    assert "store: No such file" in errors(place, "grow", "store", "larger", status=1)
+    assert "store: No such file" in errors(place, "grow", "store", "larger", status=14)
     join = ["replica", "join", "new", "--node", "a", "--from", "x", "--etcd", "x", "--log", "x", "--size"]
     assert "is no size" in errors(place, *join, "2X", status=2)
 
@@ -328,6 +328,23 @@ def test_many_documents_are_asked_and_put_under_a_schema_at_once(place):
                                                                    "schema.json", status=1)
 
 
+def test_more_documents_than_a_transaction_changes_are_told_with_the_way(place):
+    place.format(version=3)
+    place.text("short.json", "{}")
+    place.text("long.json", json.dumps({"description": "x" * 2000}))
+    with place.store() as store:
+        store.group([create(f"{kind}-{number}", number) for kind, count in (("a", 600), ("b", 500))
+                     for number in range(count)])
+    for prefix, file, count, most in (("", "short.json", "1,100", "1,024, the most of one transaction"),
+                                      ("a", "long.json", "600", "some 50")):
+        said = errors(place, "schema", "store", "--prefix", prefix, "--to", file, status=1)
+        assert f"{count} documents are more than {most}" in said and "Nothing was changed" in said
+        assert "both schemas hold" in said and "`changes`" not in said and "`create`" not in said
+    shell = place.run("shell", "store", given=b"schema --prefix a --to long.json", status=1)
+    assert b"600 documents are more than some 50" in shell.stderr
+    assert told(place, "schema", "store", "--prefix", "a", "--to", "short.json") == "done, changes 1,101 to 1,700"
+
+
 def test_a_document_is_followed_and_the_changes_of_one_are_shown(place):
     place.format()
     with Hub(place) as hub, hub.connect() as store:
@@ -352,7 +369,7 @@ def test_a_store_may_have_the_name_of_a_command(place):
 
 def test_a_file_that_is_in_use_may_be_waited_for(place):
     with place.made() as store:
-        assert "store is in use" in errors(place, "ls", "store", status=1)
+        assert "store is in use" in errors(place, "ls", "store", status=13)
         with subprocess.Popen(place.words("ls", "store", "--wait", "30"), stdout=subprocess.PIPE, cwd=place.folder,
                               env=place.environment()) as waiting:
             store.create("d", 1)
@@ -440,4 +457,4 @@ def test_a_schema_of_other_people_is_adapted(place):
     place.text("made.json", json.dumps(json.loads(made)["schema"]))
     told(place, "new", "store", "d", '{"a": 1}', "--schema", "made.json")
     assert "`/b`: 0 is less than the minimum" in errors(place, "set", "store", "d", "/b", "0", status=5)
-    assert "no such file" in errors(place, "schema", "adapt", "nowhere", status=1).lower()
+    assert "no such file" in errors(place, "schema", "adapt", "nowhere", status=14).lower()

@@ -34,20 +34,22 @@ def test_a_file_that_cannot_be_made_or_opened(place):
     place.format(16)
     os.mkdir(place.path("folder"))
     rows = [
-        (["format", "store"], "store: File exists", "choose another name"),
-        (["get", "nowhere", "d"], "nowhere: No such file or directory",
+        (["format", "store"], 15, "store: File exists", "choose another name"),
+        (["get", "nowhere", "d"], 14, "nowhere: No such file or directory",
          "`python3 -m jpstore format FILE` makes a store"),
-        (["format", "nowhere/store"], "nowhere/store: No such file or directory", "whose folder must exist"),
-        (["check", "folder"], "folder: Is a directory", "name a file in it"),
-        (["follow", "nowhere", "d"], "nowhere: No such file or directory", "no hub serves here"),
-        (["follow", "store", "d"], "store: this is not the socket of a hub", "name the PATH that the hub"),
-        *((words, "nowhere: No such file or directory", "format FILE` makes a store") for words in (
-            ["copy", "nowhere", "new"], ["grow", "nowhere"], ["grow", "nowhere", "new"], ["upgrade", "nowhere"],
+        (["format", "nowhere/store"], 14, "nowhere/store: No such file or directory", "whose folder must exist"),
+        (["check", "folder"], 1, "folder: Is a directory", "name a file in it"),
+        (["follow", "nowhere", "d"], 14, "nowhere: No such file or directory", "no hub serves here"),
+        (["follow", "store", "d"], 1, "store: this is not the socket of a hub", "name the PATH that the hub"),
+        *((words, 14, "nowhere: No such file or directory", "format FILE` makes a store") for words in (
+            ["copy", "nowhere", "new"], ["grow", "nowhere"], ["grow", "nowhere", "new"], ["upgrade", "nowhere"])),
+        # These go on as the server.
+        *((words, 1, "nowhere: No such file or directory", "format FILE` makes a store") for words in (
             ["hub", "nowhere", "--socket", "socket"], ["http", "nowhere", "--listen", "127.0.0.1:0"])),
-        (["hub", "folder", "--socket", "socket"], "folder: Is a directory", "name a file in it"),
+        (["hub", "folder", "--socket", "socket"], 1, "folder: Is a directory", "name a file in it"),
     ]
-    for words, cause, advice in rows:
-        shown = told(place, *words, status=1)
+    for words, status, cause, advice in rows:
+        shown = told(place, *words, status=status)
         said, _, to_do = shown.partition("\n  what to do: ")
         assert cause in said and advice in to_do, shown
 
@@ -64,7 +66,7 @@ def test_a_file_that_may_not_be_written(place):
 
 def test_a_file_that_is_in_use(place):
     with place.made():
-        shown = told(place, "ls", "store", status=1)
+        shown = told(place, "ls", "store", status=13)
         assert shown.startswith("store is in use: another command uses it, under this name or another; ")
         assert "connect to the socket of the hub that serves it" in shown and "`--wait SECONDS`" in shown
         shown = told(place, "hub", "store", "--socket", "socket", "--wait", "0", status=1)
@@ -74,7 +76,7 @@ def test_a_file_that_is_in_use(place):
 def test_no_hub_serves(place):
     with socket.socket(socket.AF_UNIX) as left:
         left.bind(place.path("socket"))
-    shown = told(place, "ls", "socket", status=1)
+    shown = told(place, "ls", "socket", status=14)
     assert shown == ("socket: Connection refused\n  what to do: no hub serves here: start it by `python3 -m jpstore "
                      "hub FILE --socket PATH`, or wait for it by `--wait SECONDS`\n")
     error = raised(AccessError, Store.connect, place.path("none"))
@@ -199,8 +201,10 @@ def test_advice_that_fits(place):
         for since, shown in (("x", '"x"'), (-1, "-1")):
             assert str(raised(Malformed, store.watch, since)) == \
                 f"watch: 14 command: `from` of `watch` is {shown}, and must be a whole number from 0"
-        wrong = raised(JpstoreError, store.update, "a", lambda doc: doc)
-        assert "returns a list of the operations of a JSON Patch for the value, and this is {}" in str(wrong)
+        for new in ({}, [1], [{"path": ""}]):
+            wrong = str(raised(JpstoreError, store.update, "a", lambda doc: new))  # noqa: B023
+            assert "returns a list of the operations of a JSON Patch for the value, as `[{" in wrong
+            assert wrong.endswith(f"and this is {json.dumps(new)}; `put` takes a new document"), wrong
         assert raised(Ended, Store, hub.path, program=place.program).advice == \
             "this is the socket of a hub: open it by `Store.connect`, or by the command line"
     assert "`--size`: `3` is too small: a store has 1,536 bytes at least" in \
@@ -219,6 +223,8 @@ def test_words_that_a_command_does_not_take(place):
         (["find", "store", "d", "$", "--prefix", "x"], "usage: python3 -m jpstore find ",
          "`--all` in place of NAME asks all documents, and `--prefix PREFIX` goes with it.\n"),
         (["rev", "store", "d", "e"], "usage: python3 -m jpstore rev ", "what is `e` for?\n"),
+        (["find", "store", "$.bolts"], "usage: python3 -m jpstore find ",
+         "QUERY. `--all` in place of NAME asks all documents, and `--prefix PREFIX` goes with it.\n"),
     ]
     for words, usage, said in rows:
         shown = told(place, *words, status=2)
@@ -226,6 +232,15 @@ def test_words_that_a_command_does_not_take(place):
     said = json.loads(told(place, "ls", "store", "x", "--json", status=2))
     assert (said["error"], said["message"].startswith("python3 -m jpstore ls: what is `x` for?")) == ("Usage", True)
     assert json.loads(told(place, "get", "store", "--json", status=2))["error"] == "Usage"
+
+
+def test_the_name_of_a_file_in_place_of_a_value_is_told(place):
+    place.format(16)
+    place.text("doc.json", "{}")
+    for words in (["new", "store", "a", "doc.json"], ["put", "store", "a", "doc.json"]):
+        shown = told(place, *words, status=6)
+        assert "not JSON" in shown and "the value of the file of this name is read by `- < doc.json`" in shown
+    assert "file of this name" not in told(place, "new", "store", "a", "none.json", status=6)
 
 
 def test_an_empty_place_replaces_a_document_only_if_that_is_asked_for(place):

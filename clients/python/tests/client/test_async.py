@@ -282,12 +282,37 @@ def test_calls_at_the_same_time_share_a_sync(place):
                                     f"'{place.program}' \"$@\"")
 
     async def run():
-        async with AsyncStore(place.format(), program=traced, batch=64) as store:
+        async with AsyncStore(place.file, program=traced) as store:
             return await asyncio.gather(*(store.create(f"n{number}", number) for number in range(320)))
-    assert asyncio.run(run()) == list(range(1, 321))
-    with open(place.path("calls"), encoding="utf-8") as calls:
-        syncs = sum("sync(" in line for line in calls)
-    assert 0 < syncs <= 30
+
+    def group():
+        with Store(place.file, program=traced) as store:
+            return store.group([create(f"n{number}", number) for number in range(320)])
+    # Without an option: each of them takes a file of its own.
+    for made in (lambda: asyncio.run(run()), group):
+        place.format()
+        assert made() == list(range(1, 321))
+        os.unlink(place.file)
+        with open(place.path("calls"), encoding="utf-8") as calls:
+            syncs = sum("sync(" in line for line in calls)
+        assert 0 < syncs <= 30
+
+
+def test_a_question_is_sent_beside_changes_and_further_changes_wait(place):
+    async def run():
+        async with AsyncStore(place.format(), program=place.program) as store:
+            os.kill(store.pid, signal.SIGSTOP)
+            calls = [asyncio.ensure_future(store.create("a", 1))]
+            await asyncio.sleep(0.1)
+            calls.append(asyncio.ensure_future(store.names()))
+            await asyncio.sleep(0.1)
+            assert not store._session._waiting
+            calls.append(asyncio.ensure_future(store.create("b", 1)))
+            await asyncio.sleep(0.1)
+            assert len(store._session._waiting) == 1
+            os.kill(store.pid, signal.SIGCONT)
+            assert await asyncio.gather(*calls) == [1, ["a"], 2]
+    asyncio.run(run())
 
 
 def test_calls_at_the_same_time_go_out_together(place):

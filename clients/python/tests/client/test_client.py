@@ -190,10 +190,17 @@ def test_what_is_wrong_in_a_line_is_told_with_its_place(place):
 def test_options_are_handed_to_the_program(place):
     noting = place.script("noting", f"echo \"$@\" >> '{place.path('words')}'; exec '{place.program}' \"$@\"")
     place.format()
-    with Store(place.file, program=noting, batch=64, pump=8) as store:
+    with Store(place.file, program=noting, batch=7, pump=8) as store:
         assert store.create("d", 1) == 1
+    with Store(place.file, program=noting, batch=1):
+        pass
+    with Store(place.file, program=noting):
+        # Else a group would cost a sync of the disk for each of its changes.
+        pass
     with open(place.path("words"), encoding="utf-8") as words:
-        assert words.read() == f"serve {place.file} --batch 64 --pump 8 --why\n"
+        assert words.read().splitlines() == [
+            f"serve {place.file} --batch 7 --pump 8 --why", f"serve {place.file} --why",
+            f"serve {place.file} --batch 64 --why"]
 
 
 def test_an_option_that_the_program_refuses_is_told(place):

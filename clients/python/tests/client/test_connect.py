@@ -266,5 +266,5 @@ def test_the_command_line_waits_for_a_hub_that_has_not_started(place):
         late.join()
         hubs[0].kill()
     begin = time.monotonic()
-    assert b"nowhere: No such file or directory" in place.run("ls", "nowhere", "--wait", "0.5", status=1).stderr
+    assert b"nowhere: No such file or directory" in place.run("ls", "nowhere", "--wait", "0.5", status=14).stderr
     assert time.monotonic() - begin > 0.5

@@ -74,6 +74,23 @@ def test_a_dump_that_was_cut_is_refused(place):
         assert load(store, [b'{"cmd":"delete","name":"shelf"}'], partial=True) == 1
 
 
+def test_documents_that_a_server_sent_are_loaded(place):
+    """As `GET /documents` has them: a backup over HTTP."""
+    lines = [b'{"doc":{"nuts":12},"name":"shelf","rev":7,"schema":{"maxProperties":1}}',
+             b'{"doc":"%b","name":"long","rev":9,"schema":{"$comment":"%b"}}' % (b"x" * 1048000, b"y" * 200000)]
+    given = b"".join(line + b"\n" for line in lines)
+    place.format(16384)
+    said = place.run("load", "store", given=given, status=1).stderr.decode()
+    assert "lines of `GET /documents` have no last one" in said and "--partial" in said
+    # The second is longer than a line, and so it is made by two.
+    place.shows("load", "store", "--partial", given=given, output="3 changes made\n")
+    assert documents_of(place, place.file) == [
+        ("shelf", b'{"nuts":12}', b'{"maxProperties":1}'),
+        ("long", b'"%b"' % (b"x" * 1048000), b'{"$comment":"%b"}' % (b"y" * 200000))]
+    said = place.run("load", "store", "--partial", given=given, status=4).stderr.decode()
+    assert said.startswith("line 1 is refused, and 1 more line up to 2; 1 change was made\n"), said
+
+
 def test_a_load_stops_after_a_group_with_a_refusal(place):
     place.format(16)
     with place.store() as store:
@@ -156,7 +173,8 @@ def test_what_keeps_a_store_from_growing_is_told(place):
     other = place.text("other", "")
     raised(JpstoreError, grow, place.file, other, 4096, place.program)
     with place.store():
-        place.run("grow", "store", "larger", "--sectors", "9000", status=1)
+        place.run("grow", "store", "larger", "--sectors", "9000", status=13)
+    assert "other: it exists already" in place.run("grow", "store", "other", status=15).stderr.decode()
     assert (sorted(os.listdir(place.folder)), documents_of(place, place.file)) == (["other", "store"], documents)
 
 
@@ -284,8 +302,8 @@ def test_an_export_that_has_no_room_is_broken_off(place):
     made_large(place)
     with Hub(place) as hub, hub.connect() as store:
         resource.prlimit(hub.process.pid, resource.RLIMIT_FSIZE, (1 << 20, 1 << 20))
-        ended = place.run("dump", "socket", status=1)
-        assert (ended.stdout, "closed the connection" in ended.stderr.decode()) == (b"", True)
+        ended = place.run("dump", "socket", status=10)
+        assert (ended.stdout, b"63 memory" in ended.stderr) == (b"", True)
         assert (store.delete("n0"), store.names()[0]) == (9, "n1")
         hub.process.send_signal(signal.SIGTERM)
         assert "an export is broken off" in hub.ends(0)

@@ -122,11 +122,15 @@ def test_the_back_end_for_orders(place):
         status, refused = ask(port, "POST", "/orders", order.replace('"count": 3', '"count": 0'), "k2")
         assert status == 422 and "0 is less than the minimum of 1" in refused["detail"]
         assert ask(port, "POST", "/orders", order)[0] == 400
-        payment = '{"id": "p1", "amount": 64.97, "position": [48.20849, 16.37208]}'
-        assert [ask(port, "POST", "/payments", payment)[0] for _ in range(2)] == [200, 200]
+        payment = '{"id": "p1", "amount": 64.90, "position": [48.20849, 16.37208]}'
+        # No whole number of cents, and a number beyond 64 bits.
+        others = ('{"id": "p2", "amount": 19.905}', '{"id": "p3", "amount": 5, "n": 18446744073709551615}')
+        for message in (payment, payment, *others):
+            assert ask(port, "POST", "/payments", message)[0] == 200
         assert many(port, 100) == [[201, 200]] * 100
         assert [len(ask(port, "GET", f"/customers/{name}")[1]) for name in ("ann", "c0", "c4")] == [1, 20, 20]
         with hub.connect() as store:
             assert len(store.names("order-")) == 101
-            assert store.get("payment-p1") == {
-                "amount_e2": 6497, "message": {"id": "p1", "amount": "64.97", "position": ["48.20849", "16.37208"]}}
+            kept = [store.get(f"payment-p{number}") for number in (1, 2, 3)]
+            assert kept == [{"amount_e2": 6490, "raw": payment}, {"raw": others[0]},
+                            {"amount_e2": 500, "raw": others[1]}]

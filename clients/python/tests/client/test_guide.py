@@ -1,9 +1,7 @@
 """What docs/use/GUIDE.md shows is what happens: its blocks are run one after another, as they stand.
 
-A listing of calls or commands is held against the code instead. What the page says of pip is tried in test_package.py.
+A list of calls or commands is held against the code instead. What the page says of pip is tried in test_package.py.
 """
-import ast
-import inspect
 import os
 import re
 import shlex
@@ -88,19 +86,13 @@ def test_the_blocks_of_the_guide_run(place):
         elif not kind:
             assert without_names(said) == without_names(text)
         else:
-            assert kind in ("text", "ini")
-
-
-def _listed():
-    """The entries of the listings, each of the lines that belong to it."""
-    listings = "".join(text for kind, text in _BLOCKS if kind == "text")
-    return re.findall(r"^\S.*\n(?:\s.*\n)*", listings, re.M)
+            assert kind == "text"
 
 
 def test_the_listed_refusals_are_those_of_the_package():
-    listed = [re.match(r"([A-Z]\w+) +(\d+) +([\d ]+): ", entry) for entry in _listed()]
+    listed = re.findall(r"^([A-Z]\w+) +(\d+) +([\d ]+): ", _PAGE, re.M)
     numbers = []
-    for family, status, words in (found.groups() for found in listed if found):
+    for family, status, words in listed:
         for number in map(int, words.split()):
             refused = refusal_of({"number": number, "error": REFUSALS[number].name, "ok": False})
             assert isinstance(refused, getattr(jpstore, family)) and exit_status(refused) == int(status)
@@ -109,41 +101,28 @@ def test_the_listed_refusals_are_those_of_the_package():
     assert sorted(numbers) == [number for number in REFUSALS if number < 70]
 
 
-def test_the_listed_commands_are_those_of_the_command_line(place):
-    listed = [entry for entry in _listed() if re.match(r"[a-z]+ ", entry)]
-    names = [entry.split()[0] for entry in listed]
-    assert {*COMMANDS, "completion"} <= set(names) and len(names) == len(set(names))
-    for name, entry in zip(names, listed):
-        told = place.run(name, "--help").stdout.decode()
-        for option in re.findall(r"--[a-z-]+", entry):
-            assert option in told, entry
-
-
-def _default(text):
-    """The value that a listed default has; None if it is a name for any value."""
-    try:
-        return ast.literal_eval(text)
-    except ValueError:
-        return None
+def test_the_listed_commands_are_those_of_the_command_line():
+    lines = re.findall(r"^- (?:Documents|The store|Services|For people): (.*)\.$", _PAGE, re.M)
+    names = re.findall(r"`([a-z]+)`", "".join(lines))
+    assert len(lines) == 4 and sorted(names) == sorted({*COMMANDS, "completion", "replica"})
 
 
 def test_the_listed_calls_are_those_of_the_package():
-    listed = [re.match(r"(store\.)?(\w+)\((.*?)\)", entry) for entry in _listed()]
-    calls = [found.groups() for found in listed if found]
-    assert len(calls) >= 20
-    for of_store, name, words in calls:
-        signature = inspect.signature(getattr(jpstore.Store if of_store else jpstore, name)).parameters
-        shown = dict(word.partition("=")[::2] for word in words.split(", ") if word)
-        needed = {each for each, how in signature.items() if how.default is how.empty and each != "self"}
-        assert needed <= set(shown) <= set(signature), name
-        for each, default in shown.items():
-            assert not default or _default(default) == signature[each].default, (name, each)
+    rows = re.findall(r"^\| (?:change|read|follow|keep) ?.*? \| (.*) \|$", _PAGE, re.M)
+    calls, functions = ("".join(row.partition("functions")[part] for row in rows) for part in (0, 2))
+    names = re.findall(r"`(\w+)`", calls)
+    public = {name for name in vars(jpstore.Store) if not name.startswith("_")}
+    # Those that begin a store are told apart; one is for lines, and one has another name too.
+    others = {"connect", "in_memory", "list", "group_lines", "texts", "pid", "closed"}
+    assert len(names) == len(set(names)) and set(names) == public - others
+    assert all(callable(getattr(jpstore, name)) for name in re.findall(r"`(\w+)`", functions))
 
 
 def test_the_unit_of_the_guide_starts_a_hub(place):
-    unit, = (text for kind, text in _BLOCKS if kind == "ini")
     with open(os.path.join(PACKAGE, "..", "..", "packaging", "jpstore@.service"), encoding="utf-8") as opened:
-        units = [unit, opened.read().replace("%i", "inventory")]
+        unit = opened.read()
+    before, after = re.search(r"`sed s:(\S+):(\S+): packaging/jpstore@\.service > ", _PAGE).groups()
+    units = [each.replace("%i", "inventory") for each in (unit, unit.replace(before, after))]
     place.format()
     for unit in units:
         words = shlex.split(re.search(r"^ExecStart=(.*)$", unit, re.M)[1])

@@ -87,6 +87,46 @@ def test_keywords_of_earlier_drafts_are_told(place):
         store.create("a", {"a": 1}, {"dependencies": {"a": ["b"]}})
 
 
+ORDERS = [create("order-1", {"total": 5000, "state": "open", "lines": {"a": {"count": 1}}}),
+          create("order-2", {"total": 7000, "state": "sent"}), create("free", 1)]
+
+
+@pytest.mark.parametrize("query, step", [
+    ("$[?@.total > 6000]", ".total"), ("$[?@.count > 1 && @['state'] == 'open']", "['state']"),
+    ("$[?@.total > 6000 && $.total > 6000]", ".total"),
+    # These ask the document, or what is in its members.
+    ("$[?$.total > 8000]", None), ("$.lines[?@.total > 5]", None), ("$[?@.none > 5]", None), ("$[?@ == 8]", None),
+    ("$[?@.a.count > 5]", None), ("$[?@ == '@.total']", None),
+])
+def test_a_filter_that_asks_the_members_for_what_the_document_has(place, query, step):
+    said = [f"in `{query}`, `@` is each member of the document, and none of them has `{step}`: the document's own is "
+            f"`${step}`"] if step else []
+
+    async def in_a_task():
+        async with AsyncStore(place.file, program=place.program) as store:
+            return await store.query("order-1", query), await store.query_all(query)
+
+    with warnings.catch_warnings(record=True) as told:
+        warnings.simplefilter("always")
+        with place.made() as store:
+            store.group(ORDERS)
+            assert (store.query("order-1", query), store.query_all(query)) == ([], {})
+        assert asyncio.run(in_a_task()) == ([], {})
+    told = [each for each in told if each.category is JpstoreWarning]
+    assert [str(each.message) for each in told] == 4 * said
+    assert {each.filename for each in told} <= {__file__}
+    ended = place.run("find", "store", "--all", query)
+    assert ended.stdout == b"" and (said[0] if said else "") in ended.stderr.decode()
+
+
+def test_a_filter_that_finds_something_is_not_warned_of(place):
+    with place.made() as store, warnings.catch_warnings():
+        warnings.simplefilter("error")
+        store.group(ORDERS)
+        assert list(store.query_all("$[?$.total > 6000]")) == ["order-2"]
+        assert [node.keys for node in store.query("order-1", "$[?@.a.count == 1]")] == [("lines",)]
+
+
 def test_the_client_warns_where_it_is_called(place):
     with place.made() as store:
         calls = [lambda: store.create("a", 1, {"formt": "email"}), lambda: store.set_schema("a", {"minimun": 3}),

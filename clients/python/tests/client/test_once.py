@@ -152,7 +152,8 @@ def test_a_store_of_format_2_has_no_marks(place):
         store.create("d", [])
         for how in ({}, {"by": "till"}):
             told = str(raised(JpstoreError, store.once, "a", [one_more("d")], **how))
-            assert "has no marks, and nothing was changed: `jpstore upgrade FILE` brings one in format 2" in told
+            assert "this store has no marks, and nothing was changed" in told
+            assert "In format 2: `jpstore upgrade FILE` brings a store to format 3" in told
             assert (store.noted("a", **how), store.get("d")) == (None, [])
         refused = raised(Malformed, store.transaction, [one_more("d")], mark=("k", "v"))
         assert str(refused) == "transaction of 1 change: 14 command: this store has no marks"

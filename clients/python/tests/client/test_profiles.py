@@ -15,6 +15,7 @@ _ROWS = [
      "at `/properties/n/pattern`: it is no pattern from character 2 (`(?!b)`) on: looking ahead and behind"),
     ({"pattern": "a" * 4097}, 41, 44, "at `/pattern`: the pattern has 4,097 bytes, and may have 4,096"),
     ({"allOf": [{"pattern": "a"}] * 65}, 41, 44, "at `/allOf/64/pattern`: a schema has at most 64 patterns"),
+    ({"pattern": r"^\w{1,255}$"}, 41, 44, "its patterns take too much memory"),
     ({"dependentSchemas": {"a": 5}}, 41, 40, "at `/dependentSchemas/a`: 5 is no schema"),
     ({"patternProperties": {"a": False}}, 41, None, ""),
     ({"type": "object", "patternProperties": {"a": False}}, 41, 45, ""),
@@ -120,11 +121,12 @@ def test_large_tables_are_told_with_what_helps(place):
     place.format(version=3)
     with place.store() as store:
         refused = raised(Refused, store.create, "d", "a", {"pattern": r"^\p{L}{1,1000}$"})
-        assert refused.number == 63 and "by `maxLength`" in refused.advice
+        assert refused.number == 44 and "by `maxLength`" in refused.advice
         refused = raised(Refused, store.create, "d", {}, {"patternProperties": {r"^\p{L}{1,1000}$": True}})
-        assert refused.number == 63 and "by `maxLength`" in refused.advice
+        assert refused.number == 44 and "by `maxLength`" in refused.advice
         store.create("d", "a", {"pattern": r"^\p{L}+$", "maxLength": 1000})
-    assert "by `maxLength`" not in refusal_of({"number": 63, "error": "memory", "ok": False}, {"cmd": "list"}).advice
+    plain = refusal_of({"number": 44, "error": "schema-size", "ok": False}, {"cmd": "list"})
+    assert "by `maxLength`" not in plain.advice
 
 
 def test_an_upgrade_is_advised_where_it_helps(place):

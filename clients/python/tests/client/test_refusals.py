@@ -1,4 +1,7 @@
-"""The table of refusals is that of docs/use/PROTOCOL.md, and each refusal has a family."""
+"""The names of refusals are those of docs/use/PROTOCOL.md, and each refusal has a family.
+
+The complaints of the program are those of its manual page, packaging/jpstore.1.
+"""
 import os
 import re
 
@@ -7,57 +10,43 @@ from jpstore import REFUSALS, Refused, errors
 from jpstore.refusals import ADVICE, COMPLAINTS, table
 from support import PACKAGE
 
-_PROTOCOL = os.path.join(PACKAGE, "..", "..", "docs", "use", "PROTOCOL.md")
+_TOP = os.path.join(PACKAGE, "..", "..")
 
 
-def _protocol():
-    with open(_PROTOCOL, encoding="utf-8") as opened:
+def _text(*names):
+    with open(os.path.join(_TOP, *names), encoding="utf-8") as opened:
         return opened.read()
 
 
-def test_the_table_is_that_of_the_protocol():
-    text = _protocol()
-    begin = text.index("| Refusal | Means |")
-    assert text[begin:text.index("\n\n", begin)] + "\n" == table()
+def _plain(lines):
+    """The words of lines of a manual page, without its macros, in one line."""
+    words = re.sub(r"^\.(?:Cm|Pa|Ql|Xr) |^\.(?=Fl)", "", lines, flags=re.M).replace("Fl Fl ", "--")
+    return re.sub(r" ([,;:.])(?=\s|$)", r"\1", " ".join(words.split()))
 
 
-def test_the_complaints_are_those_of_the_protocol():
-    rows = dict(re.findall(r"^\| (`jpstore: .*) \| (.*) \|$", _protocol(), re.M))
-    told = {word: means for cell, means in rows.items() for word in re.findall(r"`jpstore: ([a-z-]+)[^`]*`", cell)}
-    # An opening that is refused is told by the number of the refusal.
-    del told["not-a-store"]
-    assert sorted(told.items()) == sorted(COMPLAINTS.items())
+def test_the_refusals_are_those_of_the_protocol():
+    names = {number: row.name for number, row in REFUSALS.items()}
+    listed = re.search(r"^<!-- refusals: .*\n```text\n(.*?)^```$", _text("docs", "use", "PROTOCOL.md"), re.M | re.S)[1]
+    # The others are those of an opening.
+    assert listed.split() == [word for number in names if number < 70 for word in (str(number), names[number])]
 
 
-def _source(*names):
-    with open(os.path.join(PACKAGE, "..", *names), encoding="utf-8") as opened:
-        return opened.read()
+def test_the_table_has_what_each_refusal_means():
+    shown = [row.split(" | ")[1:] for row in table().splitlines()[2:]]
+    assert shown == [[row.meaning, f"{row.advice} |"] for row in REFUSALS.values()]
 
 
-def _joined(text):
-    """A text of Rust whose lines end with a backslash."""
-    return re.sub(r"\\\n\s*", "", text)
+def test_the_complaints_are_those_of_the_manual_page():
+    text = _text("packaging", "jpstore.1").partition(".Ss Refusals of an opening")[0]
+    entries = re.findall(r"^\.It Ql jpstore: ([a-z-]+).*\n((?:.+\n)+?)(?=\.It |\.El)", text, re.M)
+    told = {word: _plain(means) for word, means in entries}
+    assert told == {word: means.replace("`", "") for word, means in COMPLAINTS.items()}
 
 
-def test_the_tables_of_all_clients_are_the_same():
-    """The server's, that of the Rust crate, and the names of the library are those of the protocol."""
-    rows = re.findall(r"^\| (\d+) ([a-z-]+) \| (.*) \| (.*) \|$", _protocol(), re.M)
-    assert len(rows) == len(REFUSALS) == 45
-    server = re.findall(r'^    row\((\d+), "([a-z-]+)", \d+, "(.*)", "(.*)"\),$',
-                        _source("server", "src", "refusals.rs"), re.M)
-    assert server == rows
-    complaints = re.findall(r'^    \("([a-z-]+)", "(.*)"\),$',
-                            _source("server", "src", "program", "complaints.rs"), re.M)
+def test_the_complaints_of_the_server_are_those_of_the_package():
+    with open(os.path.join(PACKAGE, "..", "server", "src", "program", "complaints.rs"), encoding="utf-8") as opened:
+        complaints = re.findall(r'^    \("([a-z-]+)", "(.*)"\),$', opened.read(), re.M)
     assert len(complaints) == 6 and set(complaints) <= set(ADVICE.items())
-    crate = re.findall(r'^    \(\s*(\d+),\s*"([^"]*)",\s*"([^"]*)",\s*\),$',
-                       _joined(_source("rust", "src", "meanings.rs")), re.M)
-    assert crate == [(number, means, advice) for number, _, means, advice in rows]
-    reasons = re.findall(r"^    ([A-Z][A-Za-z]+) = (\d+),$", _source("rust", "src", "refusal.rs"), re.M)
-    named = [(number, re.sub(r"(?<!^)(?=[A-Z])", "-", name).lower()) for name, number in reasons]
-    assert named == [(number, name) for number, name, _, _ in rows]
-    numbers = dict(re.findall(r"(JPSTORE_REFUSAL_[A-Z_]+) = (\d+)", _source("c", "jpstore.h")))
-    names = re.findall(r'\[(JPSTORE_REFUSAL_[A-Z_]+)\] = "([a-z-]+)"', _source("c", "src", "refusals.c"))
-    assert [(numbers[word], name) for word, name in names] == [(number, name) for number, name, _, _ in rows]
 
 
 def test_each_refusal_of_a_line_has_a_family():

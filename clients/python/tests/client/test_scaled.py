@@ -44,6 +44,13 @@ def test_what_has_no_such_number_is_told(value, said):
     assert said in str(raised(Unsendable, MONEY.stored, value))
 
 
+def test_a_fraction_of_a_member_that_is_not_named_is_told_with_what_to_do(place):
+    order = MONEY.stored({"price": Decimal("19.99"), "weight": Decimal("1.50")})
+    with place.made() as store:
+        said = str(raised(Unsendable, store.create, "d", order))
+    assert "/doc/weight: 1.50 is a `Decimal`: name its member in `Scaled(..)`" in said and "send a text" in said
+
+
 def test_what_is_no_number_of_a_program_is_read_as_it_is():
     for value in ({"price_e2": 5, "price": 7}, {"price_e02": 5}, {"price_e2": True}, {"price_e2": None}):
         assert MONEY.read(value) == value

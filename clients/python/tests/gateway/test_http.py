@@ -2,6 +2,7 @@
 import json
 import re
 import threading
+from urllib.parse import quote
 
 import pytest
 from gateways import Events, Gateway, without_history
@@ -33,6 +34,11 @@ def is_problem(answer, status, number=None, **members):
     for name, value in members.items():
         assert told[name] == value, told
     return told
+
+
+def fault(place, keyword, detail):
+    """What is told of a fault of a document; the pointer is that of the example of RFC 9457, section 3."""
+    return {"place": place, "pointer": f"#{quote(place)}", "keyword": keyword, "detail": detail}
 
 
 # PUT and GET: RFC 9110, sections 9.3.1, 9.3.2 and 9.3.4.
@@ -186,10 +192,11 @@ def test_if_match_of_a_schema(gateway):
     is_problem(gateway.put("/schemas/of-schema", True, If_None_Match=f'"x", {tag}'), 412, 24)
     is_problem(gateway.put("/schemas/of-schema", True, If_None_Match="*"), 412, 20)
     # What the store refuses is told as without a condition, and not as a change of a transaction.
-    for schema, status, number in (({"type": "array"}, 422, 45), ({"pattern": "x"}, 422, 41)):
-        told = is_problem(gateway.put("/schemas/of-schema", schema, If_Match=tag), status, number)
-        assert "change" not in told
-        assert number == 45 or told["detail"].startswith("at `/pattern`: `pattern` needs a store of format 3; ")
+    needs = "at `/pattern`: `pattern` needs a store of format 3; "
+    for schema, number, detail in (({"type": "array"}, 45, ""), ({"pattern": "x"}, 41, needs)):
+        answer = gateway.told(lambda told, detail=detail: told["detail"].startswith(detail), "PUT",
+                              "/schemas/of-schema", schema, If_Match=tag)
+        assert "change" not in is_problem(answer, 422, number)
     assert gateway.get("/schemas/of-schema").json() == COUNTS
     new = gateway.put("/schemas/of-schema", {"type": "object"}, If_Match=tag)
     assert (new.status, new.tag(), gateway.get("/schemas/of-schema").json()) == \
@@ -247,15 +254,17 @@ def test_a_transaction_that_is_refused_makes_none(gateway):
         (400, 15, {"change": 1}, [first, create("a b", 1)]),
         (422, 41, {"change": 0}, [set_schema("u-a", {"pattern": "x"})]),
         (422, 45, {"change": 1, "errors": [
-            {"place": "/m", "keyword": "/additionalProperties/minimum", "detail": "-1 is less than the minimum of 0"}]},
+            fault("/m", "/additionalProperties/minimum", "-1 is less than the minimum of 0")]},
          [first, patched("u-a", [{"op": "replace", "path": "/m", "value": -1}])]),
-        (422, 45, {"change": 1, "errors": [{"place": "", "keyword": "/type", "detail": "1 is not of type 'array'"}]},
+        (422, 45, {"change": 1, "errors": [fault("", "/type", "1 is not of type 'array'")]},
          [create("u-b", 1), set_schema("u-b", {"type": "array"})]),
-        (422, 45, {"change": 3, "errors": [{"place": "", "keyword": "/type", "detail": "1 is not of type 'array'"}]},
+        (422, 45, {"change": 3, "errors": [fault("", "/type", "1 is not of type 'array'")]},
          [first, delete("u-a"), create("u-a", 1), set_schema("u-a", {"type": "array"})]),
     ]
     for status, number, members, changes in rows:
-        told = is_problem(gateway.ask("POST", "/transactions", changes_of(*changes)), status, number, **members)
+        answer = gateway.told(lambda told: "errors" in told or "errors" not in members, "POST", "/transactions",
+                              changes_of(*changes))
+        told = is_problem(answer, status, number, **members)
         assert gateway.get(told["type"]).json()["number"] == number
     whole = is_problem(gateway.ask("POST", "/transactions", changes_of(*[first] * 1025)), 400, 14)
     assert "change" not in whole
@@ -308,7 +317,7 @@ def test_what_else_a_transaction_is_refused_for(gateway):
     for method in ("GET", "PUT", "PATCH", "DELETE"):
         answer = gateway.ask(method, "/transactions", body if method[0] == "P" else None)
         is_problem(answer, 405)
-        assert answer.headers["Allow"] == "POST"
+        assert answer.headers["Allow"] == "POST,OPTIONS"
     is_problem(gateway.ask("POST", "/transactions?x=1", body), 400, name="parameter")
     # There is no representation that could match, and none that could not (sections 13.1.1 and 13.1.2).
     for field in ("*", '"1"'):
@@ -478,6 +487,7 @@ def test_schemas(gateway):
     assert answer.tag() == gateway.get("/documents/counts").tag()
     is_problem(gateway.put("/schemas/counts", {"type": "text"}), 422, 40)
     is_problem(gateway.put("/schemas/counts", {"pattern": "x"}), 422, 41)
+    is_problem(gateway.put("/schemas/counts", {"title": "x" * 262144}), 422, 44)
 
 
 def test_a_likely_mistake_in_a_schema_is_told(gateway):
@@ -491,13 +501,47 @@ def test_a_likely_mistake_in_a_schema_is_told(gateway):
     assert list(gateway.put("/schemas/warned", {"minimum": 1}).json()) == ["seq"]
 
 
+@pytest.mark.parametrize("query, step", [
+    ("$[?@.total > 6000]", ".total"), ("$[?@.none || @['total'] > 6000]", "['total']"), ("$[?@['\u00e9']]", ".NAME"),
+    ("$[?$.total > 6000]", None), ("$[?@ == 8]", None), ("$[?@ == 5000]", None), ("$[?@.none]", None),
+])
+def test_a_filter_that_asks_the_members_for_what_the_document_has(gateway, query, step):
+    gateway.put("/documents/filtered", {"total": 5000, "\u00e9": 1})
+    answer = gateway.get("/documents/filtered?query=" + quote(query))
+    told = answer.headers["Jpstore-Warning"]
+    assert answer.status == 200 and (told is not None) == (step is not None)
+    assert step is None or (answer.json() == [] and told.endswith(f"the document's own is `${step}`"))
+
+
+def under(schema):
+    return "schema=" + quote(json.dumps(schema))
+
+
+def test_a_document_is_put_with_its_schema_again_and_again(gateway):
+    """Neither schema need allow the other document: so it may be imported as often as one likes."""
+    path = "/documents/imported?"
+    old, new = {"type": "integer"}, {"type": "object", "required": ["n"]}
+    for doc, schema, status in ((1, old, 201), (2, old, 200), ({"n": 1}, new, 200), (3, old, 200)):
+        answer = gateway.put(path + under(schema), doc)
+        assert (answer.status, gateway.get("/documents/imported").json()) == (status, doc)
+        assert gateway.get("/schemas/imported").json() == schema
+        assert answer.tag() == f'"{answer.json()["seq"]}"' == gateway.get("/documents/imported").tag()
+    tag = gateway.get("/documents/imported").tag()
+    problem = is_problem(gateway.put(path + under(new), {}), 422, 45)
+    assert "change" not in problem and "op" not in problem
+    is_problem(gateway.put(path + under({"type": "text"}), 1), 422, 40)
+    is_problem(gateway.put(path + under(new), {"n": 1}, If_Match='"1"'), 412, 24)
+    is_problem(gateway.put(path + under(new), {"n": 1}, If_None_Match="*"), 412, 20)
+    is_problem(gateway.put("/documents/none?" + under(new), {"n": 1}, If_Match="*"), 412, 21)
+    assert gateway.get("/documents/imported").tag() == tag
+    assert gateway.put(path + under(new), {"n": 1}, If_Match=tag).status == 200
+
+
 def test_a_new_document_under_a_schema(gateway):
     text = "%7B%22type%22%3A%22object%22%7D"
     is_problem(gateway.put(f"/documents/under?schema={text}", 5), 422, 45)
     assert gateway.put(f"/documents/under?schema={text}", {}).status == 201
     assert gateway.get("/schemas/under").json() == {"type": "object"}
-    # A schema is for a new document only.
-    is_problem(gateway.put(f"/documents/under?schema={text}", {}), 409, 20)
     is_problem(gateway.put(f"/documents/under?schema={text}", {}, If_None_Match="*"), 412, 20)
     link = '</schemas/under>; rel="describedby"'
     assert gateway.put("/documents/linked", {"a": 1}, Link=link).status == 201
@@ -512,12 +556,13 @@ def test_a_refusal_tells_each_fault(gateway):
     pytest.importorskip("jsonpatch")
     gateway.put("/documents/faults", {"bolts": 40})
     gateway.put("/schemas/faults", COUNTS)
-    fault = {"place": "/bolts", "keyword": "/additionalProperties/minimum",
-             "detail": "-1 is less than the minimum of 0"}
-    answers = [gateway.patch("faults", [{"op": "replace", "path": "/bolts", "value": -1}]),
-               gateway.merge("faults", {"bolts": -1}), gateway.put("/documents/faults", {"bolts": -1})]
-    for answer in answers:
-        told = is_problem(answer, 422, 45, name="invalid", type="/problems/invalid", errors=[fault])
+    found = fault("/bolts", "/additionalProperties/minimum", "-1 is less than the minimum of 0")
+    patch = [{"op": "replace", "path": "/bolts", "value": -1}]
+    for method, body, kind in (("PATCH", patch, "json-patch+json"), ("PUT", {"bolts": -1}, "json"),
+                               ("PATCH", {"bolts": -1}, "merge-patch+json")):
+        answer = gateway.told(lambda told: "errors" in told, method, "/documents/faults", body,
+                              Content_Type=f"application/{kind}")
+        told = is_problem(answer, 422, 45, name="invalid", type="/problems/invalid", errors=[found])
         assert gateway.get(told["type"]).json()["meaning"] == told["title"]
     assert gateway.get("/documents/faults").json() == {"bolts": 40}
 
@@ -573,9 +618,8 @@ _PLACES = [
 @pytest.mark.parametrize("method, path, body, number, place, advice", _PLACES)
 def test_a_refusal_tells_the_place_and_what_to_do(gateway, method, path, body, number, place, advice):
     gateway.put("/documents/d", 1)
-    answer = gateway.ask(method, path, body)
+    answer = gateway.told(lambda told: told["detail"].startswith(place), method, path, body)
     told = is_problem(answer, answer.status, number)
-    assert told["detail"].startswith(place), told
     assert told["advice"].startswith(advice), told
 
 

@@ -134,7 +134,7 @@ def test_requests_of_one_key_at_once_are_one(gateway):
         assert gateway.get(path).json() == [1]
 
 
-@pytest.mark.parametrize("key", ["", "a", '"', '""', '"a', '"a"b"', '"\\a"', '"\u00e4"', '"a", "b"', '"a";b',
+@pytest.mark.parametrize("key", ["", "a", '"', '""', '"a', '"a"b"', '"\\a"', '"\u00e4"', '"a", "b"', '"a"b',
                                  '"' + 201 * "x" + '"'])
 def test_a_key_that_is_none_is_refused(gateway, key):
     fields = {"Idempotency_Key": key.encode().decode("latin-1")}

@@ -91,7 +91,8 @@ def test_pages_of_other_origins(place, gateway):
             assert (answer.status, answer.json()["name"]) == (403, "origin"), origin
             assert answer.headers["Access-Control-Allow-Origin"] is None
     # A name of another page that leads here.
-    assert gateway.get("/documents", Host="example.org").status == 421
+    refused = gateway.get("/documents", Host="example.org")
+    assert refused.status == 421 and "--token-file" in refused.json()["advice"]
     for host in (gateway.host, "localhost:80", "LOCALHOST"):
         assert gateway.get("/documents", Host=host).status == 200, host
 
@@ -231,7 +232,7 @@ def test_a_client_that_never_reads_is_not_read_further(gateway):
     ("PUT", {"Content_Length": "1", "Connection": "upgrade", "Upgrade": "x"})])
 def test_what_is_sent_while_the_store_is_slow_has_bounded_memory(gateway, method, fields):
     gateway.put("/documents/a", 1)
-    program, = gateway.children()
+    program = gateway.program()
     os.kill(program, signal.SIGSTOP)
     before = gateway.memory()
     with gateway.raw() as client:
@@ -295,8 +296,9 @@ def test_a_client_that_goes_away_is_done_with(gateway):
 
 
 def test_what_is_no_http_is_refused(gateway):
-    for sent in (b"\x16\x03\x01\x02\x00\x01\x00\x01\xfc\x03\x03", b"GET / HTTP/9.9\r\n\r\n", b"nonsense\r\n\r\n",
-                 b"GET / HTTP/1.1\r\nHost: x\r\n" + b"a: b\r\n" * 3 + b"c" * 100000 + b": d\r\n\r\n"):
+    long = b"GET / HTTP/1.1\r\nHost: x\r\n" + b"a: b\r\n" * 3 + b"c" * 100000 + b": d\r\n\r\n"
+    for sent, status in ((b"\x16\x03\x01\x02\x00\x01\x00\x01\xfc\x03\x03", 400), (b"GET / HTTP/9.9\r\n\r\n", 505),
+                         (b"nonsense\r\n\r\n", 400), (long, 431)):
         with gateway.raw() as client:
             with contextlib.suppress(OSError):
                 client.sendall(sent)
@@ -304,7 +306,7 @@ def test_what_is_no_http_is_refused(gateway):
             answer = b""
             with contextlib.suppress(OSError):
                 answer = b"".join(iter(lambda: client.recv(1 << 16), b""))
-            assert not answer or answer.startswith((b"HTTP/1.1 400 ", b"HTTP/1.0 400 ")), answer
+            assert not answer or answer.startswith(b"HTTP/1.1 %d " % status), answer
     assert gateway.get("/healthz").status == 200
 
 
@@ -335,7 +337,7 @@ def test_a_document_whose_faults_are_long_to_find_holds_nobody_up(place):
     with Gateway(place) as gateway:
         made_long(gateway)
         assert gateway.put("/documents/short?schema=%7B%22type%22:%22integer%22%7D", 1).status == 201
-        told = gateway.put("/documents/short", "x").json()
+        told = gateway.told(lambda told: "errors" in told, "PUT", "/documents/short", "x").json()
         assert [fault["keyword"] for fault in told["errors"]] == ["/type"]
         files = len(os.listdir(f"/proc/{gateway.process.pid}/fd"))
 
@@ -352,12 +354,13 @@ def test_a_document_whose_faults_are_long_to_find_holds_nobody_up(place):
                 slowest = max(slowest, time.monotonic() - begin)
             assert slowest < 10
         # A process that took too long is gone, with its pipes, and another one looks.
-        assert gateway.put("/documents/short", "x").json()["errors"] == told["errors"]
-        until(lambda: len(os.listdir(f"/proc/{gateway.process.pid}/fd")) <= files, "the end of the pipes")
-        assert all(state_of(child) != "Z" for child in gateway.children())
+        gateway.told(lambda again: again.get("errors") == told["errors"], "PUT", "/documents/short", "x")
+        # There may be two of them, each with two pipes.
+        until(lambda: len(os.listdir(f"/proc/{gateway.process.pid}/fd")) <= files + 2, "the end of the pipes")
+        until(lambda: all(state_of(child) != "Z" for child in gateway.children()), "the end of the processes")
         with gateway.raw() as client:
             client.sendall(request("PUT", "/documents/long", INVALID))
-            until(lambda: any(processor_time(child) > 0.5 for child in gateway.children()), "the document")
+            until(lambda: len(gateway.children()) > 1, "the process that looks, or another one that begins")
             children, begin = gateway.children(), time.monotonic()
             assert gateway.end() == (0, "")
             assert time.monotonic() - begin < 10
@@ -365,16 +368,16 @@ def test_a_document_whose_faults_are_long_to_find_holds_nobody_up(place):
 
 
 def state_of(process):
-    """The letter that tells the state of a process."""
-    with open(f"/proc/{process}/stat", encoding="ascii", errors="replace") as opened:
-        return opened.read().rpartition(")")[2].split()[0]
+    """The letter that tells the state of a process; none if it has gone."""
+    return (fields_of(process) or [""])[0]
 
 
-def processor_time(process):
-    """How much processor time a process has taken, in seconds."""
-    with open(f"/proc/{process}/stat", encoding="ascii", errors="replace") as opened:
-        user, system = opened.read().rpartition(")")[2].split()[11:13]
-    return (int(user) + int(system)) / os.sysconf("SC_CLK_TCK")
+def fields_of(process):
+    """What the system tells of a process after its name, from its state on; nothing if it has gone."""
+    with contextlib.suppress(OSError):
+        with open(f"/proc/{process}/stat", encoding="ascii", errors="replace") as opened:
+            return opened.read().rpartition(")")[2].split()
+    return []
 
 
 def test_a_look_for_faults_ends_though_its_gateway_is_killed(place):
@@ -382,13 +385,13 @@ def test_a_look_for_faults_ends_though_its_gateway_is_killed(place):
     place.format()
     with Gateway(place) as gateway:
         made_long(gateway)
-        program, = gateway.children()
+        program = gateway.program()
         with gateway.raw() as client:
             client.sendall(request("PUT", "/documents/long", INVALID))
-            child, = until(lambda: set(gateway.children()) - {program}, "the process that looks")
-            until(lambda: processor_time(child) > 0.5, "the document")
+            others = until(lambda: set(gateway.children()) - {program}, "the process that looks")
             gateway.kill()
-            until(lambda: not os.path.exists(f"/proc/{child}") or state_of(child) == "Z", "the end of the process")
+            for child in others:
+                until(lambda: state_of(child) in ("", "Z"), "the end of the process")
 
 
 # The store goes away.
@@ -467,7 +470,7 @@ def test_what_a_killed_program_has_not_answered_is_told(place):
     told = []
     with Gateway(place) as gateway:
         gateway.put("/documents/a", 1)
-        program, = gateway.children()
+        program = gateway.program()
         os.kill(program, signal.SIGSTOP)
 
         def ask(*request):

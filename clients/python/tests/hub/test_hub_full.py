@@ -1,6 +1,7 @@
 """A full store of format 3 under a hub: a change that is committed as a snapshot has no frame, and is told or gone."""
 import pytest
 from histories import Told, ended, ended_hub, killed
+from hubs import Hub
 from jpstore import Full, create, delete, patch
 from support import raised
 
@@ -11,6 +12,18 @@ EMPTY = 12 + len(b'{"cmd":"create","doc":"","name":"d","schema":true}')
 def filling(store, name="d"):
     """A creation that takes all room of a new store."""
     return create(name, "x" * (store.status().capacity - EMPTY))
+
+
+def test_an_export_without_room_is_refused_and_the_next_lines_are_answered(place, monkeypatch):
+    """More than is kept in memory, and no folder for the rest."""
+    place.format(65536)
+    monkeypatch.setenv("TMPDIR", place.path("none"))
+    with Hub(place) as hub, hub.connect() as store:
+        for number in range(6):
+            store.create(f"d{number}", "x" * 1_000_000)
+        refused, names = hub.lines(b'{"cmd":"export"}\n{"cmd":"list"}\n', 2)
+        assert refused == {"error": "memory", "number": 63, "ok": False}
+        assert len(names["names"]) == 6
 
 
 @pytest.mark.parametrize("end", [ended, killed])

@@ -211,7 +211,7 @@ def test_a_file_grows_in_its_place(place):
     assert place.run("grow", "store").stdout.startswith(b"store has grown\n")
     assert os.stat(place.file).st_size == 2048 * 512
     with place.store():
-        assert "store is in use" in place.run("grow", "store", status=1).stderr.decode()
+        assert "store is in use" in place.run("grow", "store", status=13).stderr.decode()
     os.symlink("store", place.path("link"))
     assert grow_file(place.path("link"), 4096, place.program).id == identity
     assert os.path.islink(place.path("link")) and os.stat(place.file).st_size == 4096 * 512

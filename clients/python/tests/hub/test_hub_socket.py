@@ -12,7 +12,7 @@ TEXT = "precious\n"
 
 def refused(place, path):
     """A hub does not begin at this path; returns what it says."""
-    said = place.run("hub", "store", "--socket", path, status=1)
+    said = place.run("hub", "store", "--socket", path, "--wait", "0", status=1)
     assert said.stdout == b""
     return said.stderr.decode()
 
@@ -75,7 +75,7 @@ def test_a_socket_at_which_another_program_listens_is_left_to_it(place):
             client.connect(place.path("other"))
     place.format(file=place.path("second"))
     with Hub(place) as hub, hub.connect() as store:
-        said = place.run("hub", "second", "--socket", "socket", status=1).stderr.decode()
+        said = place.run("hub", "second", "--socket", "socket", "--wait", "0", status=1).stderr.decode()
         assert (said, store.names()) == ("another program listens at socket" + what_to_do, [])
 
 

@@ -13,25 +13,30 @@ import time
 
 import replicas
 from jpstore import JpstoreError, Store
-from jpstore.replica.engine import Engine, members_in, packed
-from jpstore.replica.log import Log
+from jpstore.replica.engine import Engine, members_in, packed, unpacked
+from jpstore.replica.log import DIGESTS, EntryKind, Log
 from jpstore.replica.capacity import room_of
+from jpstore.wire.values import canonical
 from replica_check import played, state_of
-from replicas import LOG, NODES, Members, Replicas, crashing_program
+from replicas import LOG, NODES, Members, Replicas, crashing_program, lacking_program, waited
 from support import PATIENCE, raised
 
 SECTORS, CAPACITY = (4096, 4096, 8192), 1_000_000
+
+# The same where documents are long.
+LONG = (24_000, 24_000, 30_000)
 
 
 @contextlib.contextmanager
 def cluster(folder, program, sectors=SECTORS, capacity=CAPACITY, options=(), etcd=(), package=None, **how):
     """Three members and three nodes."""
     members = Members(folder, options=etcd, **how)
-    nodes = Replicas(folder, program, members, package, ["--compare", "100000", *options])
+    nodes = Replicas(folder, program, members, package, ["--compare", "100000", "--patience", str(PATIENCE), *options])
     try:
         members.start_all()
         nodes.make(sectors, capacity)
         yield nodes
+        nodes.check_said()
     finally:
         nodes.close()
         members.close()
@@ -53,6 +58,17 @@ def are_same(nodes, names=NODES):
     first, *others = states(nodes, names)
     assert all(each == first for each in others), (first, others)
     return first
+
+
+def told_all(nodes, names=NODES, n=0):
+    """Waits until nodes have told etcd that they have done all entries that there are now, or up to entry n."""
+    n, end = n or head(nodes), time.monotonic() + PATIENCE
+    while True:
+        told = json.loads(nodes.run("status", "--json"))["nodes"]
+        if all(told.get(node, {}).get("n", -1) >= n for node in names):
+            return
+        assert time.monotonic() < end, (n, told)
+        time.sleep(0.1)
 
 
 def entries_of(nodes):
@@ -114,7 +130,7 @@ def refusals_in_one_entry(folder, program):
                  {"cmd": "patch", "name": "x", "ops": [{"op": "test", "path": "", "value": 0}]}, put("x", 10)]
         replies = nodes.ask("a", *lines)
         entries = entries_of(nodes)
-        assert len(entries) < 4, "the lines should share entries"
+        assert len(entries) < len(lines), "lines should share entries"
         answers, state = played(program, [entry.lines for entry in entries])
         assert [reply for entry in answers for reply in entry] == replies
         assert are_same(nodes) == state
@@ -172,10 +188,10 @@ def trimmed_without_changes(folder, program):
         nodes.ask("a", create("x", 0))
         states(nodes)
         stored = entries_of(nodes)[0].r
-        time.sleep(3)
+        # Entries at which they compare.
+        told_all(nodes, n=5)
         nodes.ask("b", create("x", 1))
-        states(nodes)
-        time.sleep(1.5)
+        told_all(nodes)
         until = json.loads(nodes.run("trim", "--json"))["revision"]
         assert until > stored, (until, stored)
         for node in NODES:
@@ -202,7 +218,8 @@ def clients_of_all_kinds(folder, program):
         with Store.connect(nodes.socket("b")) as store:
             assert store.get("d") == {"v": 2}
             # Nodes take no marks of clients.
-            assert "this store has no marks" in str(raised(JpstoreError, store.once, "key", [put("d", {"v": 3})]))
+            told = str(raised(JpstoreError, store.once, "key", [put("d", {"v": 3})]))
+            assert "a node of a replicated store: a transaction has one mark, and that is the node's place" in told
             assert store.update("d", lambda _: [{"op": "add", "path": "/w", "value": 4}]) and store.get("d", "/w") == 4
             assert store.snapshot() > 0
         at = nodes.wait("c", head(nodes))["seq"]
@@ -217,29 +234,42 @@ def clients_of_all_kinds(folder, program):
             watching.wait()
         gateway_of_a_node(nodes, words, environment)
         are_same(nodes)
+        as_one_store(nodes)
+
+
+def as_one_store(nodes):
+    """All nodes tell the log's identity as theirs, and the changes of clients as these made them."""
+    log = json.loads(nodes.run("status", "--json"))["log"]
+    seq = nodes.ask("a", {"cmd": "status"}, create("p"), several(put("p", 1), put("p", 2)), delete("p"))[0]["seq"]
+    asked = [{"cmd": "changes", "from": seq, "max": 100_000}, {"cmd": "status"}]
+    for node in NODES:
+        changes, status = nodes.ask(node, *asked, local=False)
+        assert status["id"] == changes["identity"] == log and status["seq"] == changes["seq"] == seq + 4
+        spans = [(each["first"] - seq, each["last"] - seq, len(each)) for each in changes["changes"]]
+        assert spans == [(1, 1, 3), (2, 3, 3), (4, 4, 3)], changes
 
 
 def gateway_of_a_node(nodes, words, environment):
     """Documents are made, read, followed and exported over HTTP."""
-    with socket.socket() as free:
-        free.bind(("127.0.0.1", 0))
-        port = free.getsockname()[1]
-    gateway = subprocess.Popen([*words, "http", nodes.socket("b"), "--listen", f"127.0.0.1:{port}"], env=environment,
-                               stdout=subprocess.PIPE, stderr=subprocess.STDOUT)
+    gateway = subprocess.Popen([*words, "http", nodes.socket("b"), "--listen", "127.0.0.1:0"], env=environment,
+                               stdout=subprocess.PIPE, stderr=subprocess.STDOUT, text=True)
     try:
-        assert b"is served" in gateway.stdout.readline()
-        curl = ["curl", "-s", "-m", "10"]
-        base = f"http://127.0.0.1:{port}"
+        said = gateway.stdout.readline()
+        assert "is served" in said, said
+        curl, base = ["curl", "-s", "-m", str(PATIENCE)], said.split()[-1].rstrip("/")
         made = subprocess.check_output([*curl, "-X", "PUT", f"{base}/documents/h", "-d", "[1]", "-H",
                                         "Content-Type: application/json"])
         assert "seq" in json.loads(made), made
         assert subprocess.check_output([*curl, f"{base}/documents/h"]) == b"[1]"
         listed = subprocess.check_output([*curl, f"{base}/documents", "-H", "Accept: application/x-ndjson"])
         assert [json.loads(line)["name"] for line in listed.splitlines()] == ["d", "h"], listed
+        again = subprocess.check_output([*curl, "-X", "PUT", f"{base}/documents/h", "-d", "[2]", "-H",
+                                         "Content-Type: application/json", "-H", 'Idempotency-Key: "k"'])
+        assert json.loads(again)["name"] == "idempotency-key-unsupported", again
         seq = json.loads(made)["seq"]
-        words = [*curl[:2], "-N", "-m", "2", f"{base}/changes?from={seq - 1}"]
-        followed = subprocess.run(words, stdout=subprocess.PIPE, check=False).stdout
-        assert b"id: %d-" % seq in followed, followed
+        with subprocess.Popen([*curl, "-N", f"{base}/changes?from={seq - 1}"], stdout=subprocess.PIPE) as following:
+            assert any(b"id: %d-" % seq in line for line in following.stdout)
+            following.kill()
     finally:
         gateway.terminate()
         gateway.wait()
@@ -309,20 +339,19 @@ def trimmed_log(folder, program):
     """A trim heeds a node that is away, and one that is being made. A node after a trim ends, and is made anew."""
     with cluster(folder, program) as nodes:
         nodes.ask("a", create("x", 0), create("y", 0))
-        states(nodes)
-        time.sleep(1.5)
+        told_all(nodes)
         nodes.stop("c")
         for number in range(10):
             nodes.ask("b", put("x", number))
-        time.sleep(1.5)
+        told_all(nodes, "ab")
         nodes.run("trim")
         nodes.start("c")
         are_same(nodes)
-        time.sleep(1.5)
+        told_all(nodes)
         nodes.stop("c")
         for number in range(10):
             nodes.ask("b", put("x", -number))
-        time.sleep(1.5)
+        told_all(nodes, "ab")
         nodes.run("forget", "c")
         assert "dropped" in nodes.run("trim")
         nodes.start("c")
@@ -331,7 +360,7 @@ def trimmed_log(folder, program):
         with between(nodes, "a", lambda: trimmed_meanwhile(nodes)) as source:
             nodes.run("join", nodes.file("c"), "--node", "c", "--from", source, "--sectors", "5000")
         nodes.ask("a", put("x", "after the copy"))
-        time.sleep(1.5)
+        told_all(nodes, "ab")
         nodes.run("trim")
         nodes.start("c")
         are_same(nodes)
@@ -345,7 +374,7 @@ def trimmed_log(folder, program):
 
 def trimmed_meanwhile(nodes):
     nodes.ask("a", put("x", "before the copy"))
-    time.sleep(1.5)
+    told_all(nodes, "ab")
     assert "nothing" in nodes.run("trim"), "the log is kept for a node that is being made"
 
 
@@ -485,11 +514,12 @@ def put_back_log(folder, program):
 
 
 def asked(nodes, node, command):
-    """Asks until a change is accepted, since members that were started again must choose a leader."""
-    end = time.monotonic() + PATIENCE
-    while not nodes.ask(node, command)[0]["ok"]:
-        assert time.monotonic() < end
-        time.sleep(0.1)
+    """The reply to a line that is sent until it has one, since members that begin must choose a leader."""
+    def reply():
+        with contextlib.suppress(ConnectionError):
+            found, = nodes.ask(node, command, local=False)
+            return found if found.get("number") not in (60, 82) else None
+    return waited(reply, "an answer")
 
 
 def pause(nodes, names, number):
@@ -499,10 +529,15 @@ def pause(nodes, names, number):
 
 async def appended(nodes, count):
     """Appends entries, as changes of clients that were on their way when etcd was put back."""
+    await appended_lines(nodes, *[[create(f"late{number}")] for number in range(count)])
+
+
+async def appended_lines(nodes, *entries, kind=EntryKind.LINES):
+    """Appends entries of these commands, as another node."""
     log = Log(members_in(nodes.members.endpoints), LOG)
-    await log.register("late")
-    for number in range(count):
-        await log.append(f"late.{number}", [json.dumps(create(f"late{number}")).encode() + b"\n"])
+    name = await log.register("late")
+    for number, commands in enumerate(entries):
+        await log.append(f"late.{name}.{number}", [canonical(command) + b"\n" for command in commands], kind)
     log.close()
 
 
@@ -532,7 +567,7 @@ def full_store(folder, program):
 
 def heavy_entries(folder, program):
     """An entry whose documents are too heavy for one transaction is done line by line; a heavy line is refused."""
-    with cluster(folder, program, (24_000, 24_000, 30_000), 6_000_000) as nodes:
+    with cluster(folder, program, LONG, 6_000_000) as nodes:
         text = "x" * 1_000_000
         assert all(reply["ok"] for reply in nodes.ask("a", *[create(f"n{number}", [text, 0]) for number in range(3)]))
         touch = [{"cmd": "schema", "name": f"n{number % 3}", "schema": True} for number in range(60)]
@@ -585,9 +620,12 @@ def without_space(folder, program):
         nodes.ask("a", create("x", ""))
         reply = {"ok": True}
         for number in range(200):
-            reply, = nodes.ask("a", put("x", f"{number} " + "x" * 100_000), local=False)
+            # If etcd's answers come late, it isn't known whether a change is made, and the connection is closed.
+            with contextlib.suppress(ConnectionError):
+                reply, = nodes.ask("a", put("x", f"{number} " + "x" * 100_000), local=False)
             if not reply["ok"]:
                 break
+            # One entry each, and no more than one over the quota.
             time.sleep(0.1)
         same(reply, refused(60))
         found, = nodes.ask("b", {"cmd": "rev", "name": "x"}, local=False)
@@ -600,23 +638,17 @@ def without_space(folder, program):
         assert found["ok"], "a node that starts without space answers questions"
         nodes.run("trim")
         # Over the gateway too, since not every machine has etcdctl.
-        asyncio.run(made_room(nodes))
-        end = time.monotonic() + PATIENCE
-        again = False
-        while not again:
-            assert time.monotonic() < end, "changes are still refused"
-            time.sleep(0.3)
-            with contextlib.suppress(ConnectionError):
-                again = nodes.ask("a", put("x", "again"))[0]["ok"]
+        asyncio.run(made_room(nodes.members))
+        asked(nodes, "a", put("x", "again"))
         are_same(nodes)
 
 
-async def made_room(nodes):
+async def made_room(members):
     """Gives what was trimmed back to the disk of each member, and ends the alarm."""
-    for member in members_in(nodes.members.endpoints):
+    for member in members_in(members.endpoints):
         await Engine([member]).call("/maintenance/defragment", {})
-    engine = Engine(members_in(nodes.members.endpoints))
-    for alarm in (await engine.call("/maintenance/alarm", {"action": "GET"}))["alarms"]:
+    engine = Engine(members_in(members.endpoints))
+    for alarm in (await engine.call("/maintenance/alarm", {"action": "GET"})).get("alarms", []):
         await engine.call("/maintenance/alarm", {"action": "DEACTIVATE", **alarm})
 
 
@@ -624,11 +656,9 @@ def without_majority(folder, program):
     """Without a majority changes and questions are refused after the patience, local questions are answered, and the
     change whose append is under way is not answered."""
     with cluster(folder, program, options=("--patience", "2")) as nodes:
-        nodes.ask("a", create("x", 1))
+        asked(nodes, "a", create("x", 1))
         states(nodes)
         nodes.members.kill(1), nodes.members.kill(2)
-        time.sleep(1)
-        begin = time.monotonic()
         assert nodes.ask("a", get("x")) == [{"ok": True, "value": 1}]
         reply, = nodes.ask("b", get("x"), local=False)
         same(reply, refused(82))
@@ -639,13 +669,11 @@ def without_majority(folder, program):
             pass
         reply, = nodes.ask("a", put("x", 3))
         same(reply, refused(82))
-        assert time.monotonic() - begin < 12
         nodes.members.revive()
         n = head(nodes)
         nodes.wait("a", n)
-        found, = nodes.ask("b", get("x"), local=False)
-        assert found["value"] in (1, 2)
-        assert nodes.ask("c", put("x", 4))[0]["ok"]
+        assert asked(nodes, "b", get("x"))["value"] in (1, 2)
+        asked(nodes, "c", put("x", 4))
         are_same(nodes)
 
 
@@ -662,16 +690,7 @@ def differing_entries(folder, program):
 def found_by_comparing(folder, program, name, changed):
     """A node whose file has something else, by a fault of a disk or of a program, finds that by comparing."""
     with cluster(folder, program) as nodes:
-        nodes.ask("a", create("x", {"v": 1}), create("y", 1))
-        states(nodes)
-        key = "log-" + json.loads(nodes.run("status", "--json"))["log"]
-        place = nodes.ask("c", {"cmd": "mark", "key": key})[0]["mark"]
-        for node in NODES:
-            nodes.stop(node)
-        os.unlink(nodes.file("c"))
-        nodes.format("c", 4096)
-        served(program, nodes.file("c"), create(name, {"v": 1}),
-               {**create("y", 1), "mark": {"key": key, "value": changed(place)}})
+        stopped_with_another(nodes, "c", create(name, {"v": 1}), changed)
         for node in NODES:
             nodes.start(node, "--compare", "1")
         assert nodes.ended("c") == 12, nodes.output("c")
@@ -679,6 +698,124 @@ def found_by_comparing(folder, program, name, changed):
         assert [nodes.processes[node].poll() for node in "ab"] == [None, None]
         nodes.start("c")
         assert nodes.ended("c") == 12 and "has left the log" in nodes.output("c")
+
+
+def stopped_with_another(nodes, node, creation, changed):
+    """Stops all nodes, one of which has another document then in place of `x`, or another place."""
+    nodes.ask("a", create("x", {"v": 1}), create("y", 1))
+    states(nodes)
+    key = "log-" + json.loads(nodes.run("status", "--json"))["log"]
+    place = nodes.ask(node, {"cmd": "mark", "key": key})[0]["mark"]
+    for each in NODES:
+        nodes.stop(each)
+    os.unlink(nodes.file(node))
+    nodes.format(node, 4096)
+    served(nodes.program, nodes.file(node), creation,
+           {**create("y", 1), "mark": {"key": key, "value": changed(place)}})
+
+
+def two_that_differ(folder, program):
+    """Two nodes that differ while the third is away go on and say so, and the third one decides which ends."""
+    with cluster(folder, program) as nodes:
+        stopped_with_another(nodes, "b", create("x", {"v": 2}), lambda place: place)
+        for node in "ab":
+            nodes.start(node, "--compare", "1")
+        for node, other in ("ab", "ba"):
+            waited(lambda node=node, other=other: f"has other documents than {other}\n" in nodes.output(node), "a word")
+        # While they compare anew, one has told what it has, and the other hasn't yet.
+        waited(lambda: "the documents of a differ from those of b" in nodes.run("status"), "a word of the status")
+        waited(lambda: json.loads(nodes.run("status", "--json"))["unlike"] == [["a"], ["b"]], "its groups")
+        assert nodes.ask("b", put("y", 2))[0]["ok"] and nodes.ask("a", put("y", 3))[0]["ok"]
+        assert [nodes.processes[node].poll() for node in "ab"] == [None, None]
+        nodes.start("c", "--compare", "1")
+        assert nodes.ended("b") == 12 and "most nodes have other documents" in nodes.output("b"), nodes.output("b")
+        waited(lambda: "as the others again" in nodes.output("a"), "the end of the difference")
+        assert "differ" not in nodes.run("status")
+        are_same(nodes, "ac")
+
+
+def compared_once(folder, program):
+    """A node that was away compares what it has once, however often the others have done that meanwhile."""
+    with cluster(folder, program, options=("--compare", "0.2")) as nodes:
+        nodes.ask("a", create("x"))
+        states(nodes)
+        nodes.stop("c")
+        n = head(nodes)
+        waited(lambda: head(nodes) >= n + 8, "comparisons")
+        for node in "ab":
+            nodes.stop(node)
+            nodes.start(node, "--compare", "100000")
+        before = asyncio.run(told_of(nodes, "c"))[1]
+        nodes.start("c", "--compare", "100000")
+        nodes.wait("c", head(nodes))
+        n, more = head(nodes), 0
+        while asyncio.run(told_of(nodes, "c"))[0] <= n:
+            # A node that is behind for a moment makes the next one.
+            asyncio.run(appended_lines(nodes, [], kind=EntryKind.COMPARE))
+            more += 1
+            nodes.wait("c", n + more)
+            time.sleep(0.5)
+        assert asyncio.run(told_of(nodes, "c"))[1] <= before + 1 + more
+        return f"{more} comparisons after"
+
+
+async def told_of(nodes, node):
+    """Of which entry a node has told a digest last, and how often it has told one."""
+    engine = Engine(members_in(nodes.members.endpoints))
+    answer = await engine.call("/kv/range", {"key": packed(f"{LOG}/{DIGESTS}/{node}".encode())})
+    engine.close()
+    found = answer.get("kvs")
+    return (json.loads(unpacked(found[0]["value"]))["n"], int(found[0]["version"])) if found else (0, 0)
+
+
+def large_patterns(folder, program):
+    """A schema whose patterns are too large is refused for its line alone, before the log and in it."""
+    with cluster(folder, program) as nodes:
+        nodes.ask("a", create("x"))
+        heavy = [{"pattern": r"^\w{1,255}$"}, {"items": {"patternProperties": {r"^\p{L}{1,100}$": True}}}]
+        for schema in heavy:
+            lines = [put("x", 1), create("y", 0, schema), create("z", 0, {"pattern": "^a$"}), delete("z"),
+                     several(put("x", 2), {"cmd": "schema", "name": "x", "schema": schema}), put("x", 3)]
+            replies = nodes.ask("a", *lines)
+            assert [reply.get("number") for reply in replies] == [None, 44, None, None, 44, None], replies
+        seq = replies[-1]["seq"]
+        # Lines of the log are judged in the same way.
+        both = several(put("x", 5), create("y", 0, heavy[1]))
+        entries = [[create("y", 0, heavy[0])], [put("x", 4)], [both, put("x", 6)], [put("x", 7)]]
+        nodes.stop("c")
+        asyncio.run(appended_lines(nodes, *entries))
+        for node in "bc":
+            nodes.kill(node)
+            nodes.start(node)
+        assert nodes.ask("a", put("x", 8))[0]["seq"] == seq + 4
+        rows, _ = are_same(nodes)
+        assert [row[0] for row in rows] == ["x"] and all(process.poll() is None for process in nodes.processes.values())
+
+
+def without_memory(folder, program):
+    """A line that no machine has the memory for is refused before it is in the log, and no node ends."""
+    script = lacking_program(folder, program, "heavy")
+    with cluster(folder, program, LONG, 6_000_000) as nodes:
+        nodes.ask("a", create("x", ["heavy"]))
+        states(nodes)
+        for node in NODES:
+            nodes.stop(node)
+            nodes.start(node, program=script)
+            nodes.wait(node)
+        copy = {"cmd": "patch", "name": "x", "ops": [{"op": "copy", "from": "/0", "path": "/-"}]}
+        checked = {**copy, "ops": [*copy["ops"], {"op": "test", "path": "/1", "value": "heavy"}]}
+        lines = [create("heavy", 0, {"pattern": "^a$"}), checked, create("heavy", "x" * 200_000),
+                 several(put("x", 1), {"cmd": "schema", "name": "x", "schema": {"patternProperties": {"heavy": True}}})]
+        before = head(nodes)
+        for node in NODES:
+            for reply in nodes.ask(node, *lines):
+                same(reply, refused(63))
+        assert head(nodes) == before
+        # What is tried and refused for another reason is judged as if it had come alone.
+        tried = [create(name, doc, {"pattern": "^a$"}) for name, doc in (("x", 0), ("y", "b"), ("y", "a"))]
+        replies = nodes.ask("a", *tried, create("z", "x" * 200_000), copy)
+        assert [reply.get("number") for reply in replies] == [20, 45, None, None, None], replies
+        assert [row[0] for row in are_same(nodes)[0]] == ["x", "y", "z"]
 
 
 def other_version(folder, program):
@@ -697,8 +834,7 @@ def other_version(folder, program):
         nodes.start("c", program=script)
         assert nodes.ended("c") == 1 and "is for jpstore" in nodes.output("c"), nodes.output("c")
         nodes.start("c")
-        states(nodes)
-        time.sleep(1.5)
+        told_all(nodes)
         nodes.stop("c")
         nodes.start("c", program=script)
         nodes.wait("c")
@@ -706,8 +842,7 @@ def other_version(folder, program):
             assert nodes.ended(node) == 1 and "is for jpstore 99" in nodes.output(node)
             nodes.start(node, program=script)
         for _ in range(2):
-            states(nodes)
-            time.sleep(1.5)
+            told_all(nodes)
             for node in NODES:
                 nodes.kill(node)
                 nodes.start(node, program=script)
@@ -725,9 +860,9 @@ def begun_with_documents(folder, program):
         nodes.format("a", 4096)
         mark = {"key": "k", "value": "v" * 99}
         served(program, nodes.file("a"), create("x", [1]), {**create("y", {"v": 2}), "mark": mark}, put("x", [3]))
-        nodes.run("init", nodes.file("a"))
+        assert "exists already" not in nodes.run("init", nodes.file("a"))
         # It may be called again, as after a stop in its midst.
-        nodes.run("init", nodes.file("a"))
+        assert "the log exists already, without an entry" in nodes.run("init", nodes.file("a"))
         nodes.start("a")
         nodes.wait("a")
         for node in "bc":
@@ -746,45 +881,12 @@ def begun_with_documents(folder, program):
 
 
 def members_of_too_small_a_file(nodes):
-    """A file that is smaller than agreed on is refused, and nothing is left of it."""
+    """A file that is smaller than agreed on is refused, and nothing is left of it, nor is the log kept for it."""
     told = nodes.run("join", nodes.file("e"), "--node", "e", "--from", nodes.socket("a"), "--sectors", "1000", status=1)
     assert "choose more sectors" in told, told
     assert [name for name in os.listdir(nodes.folder) if name.startswith("e.store")] == []
-    nodes.run("forget", "e")
-
-
-def with_tls(folder, program):
-    """etcd may ask for certificates, and be asked by names."""
-    certificates(folder)
-    options = ["--cert-file", f"{folder}/node.crt", "--key-file", f"{folder}/node.key", "--client-cert-auth",
-               "--trusted-ca-file", f"{folder}/ca.crt"]
-    members = Members(folder, options=options, scheme="https", addresses=["127.0.0.1"] * 3)
-    files = ["--cacert", f"{folder}/ca.crt", "--cert", f"{folder}/node.crt", "--key", f"{folder}/node.key"]
-    nodes = Replicas(folder, program, members)
-    try:
-        members.start_all()
-        nodes.format("a", 4096)
-        nodes.run("init", nodes.file("a"), *files)
-        nodes.start("a", *files)
-        nodes.wait("a")
-        assert nodes.ask("a", create("x", 1), get("x"), local=False)[1] == {"ok": True, "value": 1}
-    finally:
-        nodes.close()
-        members.close()
-
-
-def certificates(folder):
-    """An authority, and a certificate by it for members and nodes."""
-    def openssl(*words):
-        subprocess.run(["openssl", *words], check=True, stdout=subprocess.DEVNULL, stderr=subprocess.DEVNULL,
-                       cwd=folder)
-    key = ["-newkey", "ec", "-pkeyopt", "ec_paramgen_curve:prime256v1", "-nodes"]
-    openssl("req", "-x509", *key, "-keyout", "ca.key", "-out", "ca.crt", "-days", "2", "-subj", "/CN=authority")
-    openssl("req", *key, "-keyout", "node.key", "-out", "node.csr", "-subj", "/CN=node")
-    with open(f"{folder}/node.ext", "w", encoding="ascii") as file:
-        file.write("subjectAltName=IP:127.0.0.1\nextendedKeyUsage=serverAuth,clientAuth\n")
-    openssl("x509", "-req", "-in", "node.csr", "-CA", "ca.crt", "-CAkey", "ca.key", "-CAcreateserial", "-out",
-            "node.crt", "-days", "2", "-extfile", "node.ext")
+    told = nodes.run("forget", "e", status=1)
+    assert "no node e has told its place" in told, told
 
 
 def stopped_node(folder, program):
@@ -797,6 +899,7 @@ def stopped_node(folder, program):
         asking = threading.Thread(target=lambda: late.extend(nodes.ask("c", get("x"), local=False)))
         asking.start()
         nodes.ask("a", put("x", 2))
+        # Long enough to be noticed, and the answer is right without it.
         time.sleep(0.5)
         os.kill(nodes.processes["c"].pid, signal.SIGCONT)
         asking.join()
@@ -808,5 +911,5 @@ CASES = [(case.__doc__.partition("\n")[0].rstrip("."), case) for case in (
     refusals_in_one_entry, odd_lines, one_number_a_change, clients_of_all_kinds, one_order_in_a_connection,
     reads_at_another_node, lost_answers, late_append_of_a_killed_node, trimmed_log, trimmed_without_changes,
     foreign_changes, unfit_files, older_log, put_back_log, full_store, heavy_entries, stopped_line_by_line,
-    without_space, without_majority, differing_nodes, differing_entries, other_version, begun_with_documents, with_tls,
-    stopped_node)]
+    without_space, without_majority, differing_nodes, differing_entries, two_that_differ, compared_once, large_patterns,
+    without_memory, other_version, begun_with_documents, stopped_node)]

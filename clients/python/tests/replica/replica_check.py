@@ -10,19 +10,28 @@
 import bisect
 import heapq
 import json
+import os
 import re
 import subprocess
+import tempfile
+from collections import Counter
 
 ID = re.compile(r"#\d+-\d+")
 NOWHERE = 1 << 60
 
+# The refusals of lines that a node doesn't append: by their form, for room, for memory, without a majority.
+OWN = (10, 11, 12, 14, 60, 63, 82)
+
+# A folder in memory, if there is one.
+MEMORY = "/dev/shm" if os.access("/dev/shm", os.W_OK) else None
+
 
 class Alone:
-    """One program over an empty store in memory, which is sent line after line."""
+    """One program over an empty store in memory, or in a file, which is sent line after line."""
 
-    def __init__(self, program, sectors=1_048_576):
-        words = [program, "mem", "--sectors", str(sectors)]
-        self._process = subprocess.Popen(words, stdin=subprocess.PIPE, stdout=subprocess.PIPE)
+    def __init__(self, program, sectors=64, file=None):
+        words = ["serve", file] if file else ["mem", "--sectors", str(sectors)]
+        self._process = subprocess.Popen([program, *words], stdin=subprocess.PIPE, stdout=subprocess.PIPE)
 
     def ask(self, command):
         line = command if isinstance(command, bytes) else json.dumps(command).encode() + b"\n"
@@ -38,11 +47,15 @@ class Alone:
 
 def played(program, entries):
     """What one program answers to each line of the log, and what it has in the end."""
-    alone = Alone(program)
-    try:
-        return [[alone.ask(line) for line in lines] for lines in entries], state_of(alone.ask)
-    finally:
-        alone.close()
+    with tempfile.TemporaryDirectory(dir=MEMORY) as folder:
+        file = f"{folder}/store"
+        words = ["format", file, "--sectors", "1048576", "--format", "3", "--sparse"]
+        subprocess.run([program, *words], check=True, stdout=subprocess.DEVNULL)
+        alone = Alone(program, file=file)
+        try:
+            return [[alone.ask(line) for line in lines] for lines in entries], state_of(alone.ask)
+        finally:
+            alone.close()
 
 
 def state_of(ask):
@@ -137,7 +150,7 @@ class Judge:
         self._judge_reads(done, reads)
         answered = [operation for operation in changes if operation.end is not None]
         self.counts = {"acknowledged": sum(operation.reply["ok"] for operation in answered),
-                       "refused": sum(not operation.reply["ok"] for operation in answered),
+                       "refused": Counter(each.reply["number"] for each in answered if not each.reply["ok"]),
                        "not answered": len(changes) - len(answered), "reads": len(reads)}
         return self
 
@@ -146,11 +159,11 @@ class Judge:
         operation.place = place
         if operation.end is None:
             return
-        if operation.reply.get("number") == 82:
-            if place is not None:
-                self._wrong("answered that it was not made, and it was:", operation.id)
-        elif place is None:
-            self._wrong("answered, and not in the log:", operation.id, operation.reply)
+        if place is None:
+            if operation.reply.get("number") not in OWN:
+                self._wrong("answered, and not in the log:", operation.id, operation.reply)
+        elif reply["ok"] and not operation.reply["ok"]:
+            self._wrong("refused, and made:", operation.id, operation.reply, reply)
         elif reply != operation.reply:
             self._wrong("answered otherwise than alone:", operation.command, operation.reply, reply)
 

@@ -1,8 +1,8 @@
 """A client of the chaos of nodes: reads and changes at random, and writes down what was asked and answered, and when.
 
-    replica_client.py NUMBER SEED OUT SOCKET..
+    replica_client.py NUMBER SEED OUT PAD SOCKET..
 
-It ends when its standard input ends.
+Some patches add a value of PAD bytes, if it isn't 0. It ends when its standard input ends.
 """
 import json
 import os
@@ -19,8 +19,8 @@ PATIENCE = 30
 class Client:
     """What one client asks, and the file in which it writes that down."""
 
-    def __init__(self, number, seed, out, sockets):
-        self._number, self._sockets = number, sockets
+    def __init__(self, number, seed, out, pad, sockets):
+        self._number, self._pad, self._sockets = number, pad, sockets
         self._random = random.Random(f"{seed} {number}")
         self._out = open(out, "w", encoding="utf-8")
         self._count, self._revs = 0, {}
@@ -38,6 +38,11 @@ class Client:
     def _change(self, id):
         """A change; about half of them are refused, on purpose."""
         name, roll = self._document(), self._random.random()
+        if roll < 0.02:
+            return self._large(name, id)
+        if roll < 0.12 and self._pad:
+            pad = {"op": "add", "path": "/pad", "value": f"{id} " + "x" * self._pad}
+            return {"cmd": "patch", "name": name, "ops": [*self._patch(name, id)["ops"], pad]}
         if roll < 0.35:
             return self._patch(name, id)
         if roll < 0.55:
@@ -56,6 +61,14 @@ class Client:
             return {"cmd": "patch", "name": name, "ops": [{"op": "remove", "path": "/pad"},
                                                           {"op": "replace", "path": "/v", "value": id}]}
         return self._transaction(id)
+
+    def _large(self, name, id):
+        """A change that is larger than a node, or a schema, may be."""
+        deep = json.loads('{"not":' * 66 + "true" + "}" * 66)
+        schema = self._random.choice([{"not": deep, "title": id}, {"pattern": r"^\w{1,255}$", "title": id}])
+        if self._random.random() < 0.3:
+            return {"cmd": "create", "name": name, "doc": {"v": id, "pad": "x" * 1_000_000}, "schema": True}
+        return {"cmd": "schema", "name": name, "schema": schema}
 
     def _transaction(self, id):
         changes = [self._patch(self._document(), id) for _ in range(self._random.randrange(1, 4))]
@@ -119,4 +132,4 @@ class Client:
 
 
 if __name__ == "__main__":
-    Client(int(sys.argv[1]), sys.argv[2], sys.argv[3], sys.argv[4:]).run()
+    Client(int(sys.argv[1]), *sys.argv[2:4], int(sys.argv[4]), sys.argv[5:]).run()

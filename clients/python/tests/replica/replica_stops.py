@@ -11,13 +11,10 @@ import time
 
 import replicas
 from replica_cases import are_same, cluster, create, get, put
-from replicas import NODES
+from replicas import FAREWELL, NODES
 from support import PATIENCE
 
 ROUNDS = 6
-
-# How long a node may take to end, in seconds.
-MOST = 10
 
 # A name whose look-up takes for ever, by what Python loads before a node.
 NOWHERE = "nowhere"
@@ -53,7 +50,7 @@ def busy(nodes):
 
 def stopped(nodes, names=NODES):
     """Waits until nodes that were sent SIGTERM have ended, each as it should."""
-    end = time.monotonic() + MOST
+    end = time.monotonic() + 2 * FAREWELL
     for node in names:
         try:
             status = nodes.processes[node].wait(max(0.1, end - time.monotonic()))

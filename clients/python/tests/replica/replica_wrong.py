@@ -4,10 +4,19 @@ import shutil
 from typing import NamedTuple
 
 import replica_cases
+import replica_kept
+import replica_space
 import replica_stops
 import replicas
 from replica_chaos import Chaos
 from support import PACKAGE
+
+_CASES = {case.__name__: case for module in (replica_cases, replica_kept, replica_space, replica_stops)
+          for _, case in module.CASES}
+
+
+# How many chaoses may find a fault.
+TURNS = 6
 
 
 class Wrong(NamedTuple):
@@ -24,18 +33,11 @@ class Wrong(NamedTuple):
         """Raises if nothing finds it; tells what was found."""
         package = self.planted(folder)
         if self.rounds:
-            try:
-                problems, _ = Chaos(folder, program, self.rounds, 7, package).run()
-            except AssertionError as error:
-                # A node that ends for good never comes to the end of the log.
-                problems = [str(error)]
-            assert problems, "not found"
-            return problems[0].strip().splitlines()[-1][:160]
+            return self._found_by_chaos(folder, program, package)
         found = None
         before, replicas.DEFAULT_PACKAGE = replicas.DEFAULT_PACKAGE, package
         try:
-            cases = replica_stops if hasattr(replica_stops, self.case) else replica_cases
-            getattr(cases, self.case)(folder, program)
+            _CASES[self.case](folder, program)
         except replicas.NotMade:
             raise
         except Exception as error:  # Whatever else the case raises, it has found the fault.
@@ -44,6 +46,20 @@ class Wrong(NamedTuple):
             replicas.DEFAULT_PACKAGE = before
         assert found is not None, "not found"
         return f"{type(found).__name__} {found}".strip().splitlines()[0][:160]
+
+    def _found_by_chaos(self, folder, program, package):
+        """What one of some chaoses finds: how much happens in one is the machine's."""
+        for turn in range(TURNS):
+            place = f"{folder}/{turn}"
+            os.mkdir(place)
+            try:
+                problems, _ = Chaos(place, program, self.rounds, 7 + turn, package).run()
+            except AssertionError as error:
+                # A node that ends for good never comes to the end of the log.
+                problems = [str(error)]
+            if problems:
+                return problems[0].strip().splitlines()[-1][:160]
+        raise AssertionError("not found")
 
     def planted(self, folder):
         """A copy of the package with the fault."""
@@ -60,7 +76,7 @@ class Wrong(NamedTuple):
 
 WRONG = [
     Wrong("a node that begins its next start with the entry that it has done", "log.py",
-          "last, gaps = (n, r, digest), 0", "last, gaps = (n - 1, r, digest) if n > 1 else (0, 0, ''), 0",
+          "(n, r, digest), 0, 0", "(n - 1, r, digest) if n > 1 else (0, 0, ''), 0, 0",
           "trimmed_log"),
     Wrong("a node that does an entry anew that it has begun line by line", "place.py",
           "digest, int(next), chain", "digest, -1, chain", "stopped_line_by_line"),
@@ -87,6 +103,8 @@ WRONG = [
           "if self._total + growth + MOST_MARK <= self.room.documents:", "if True:", "full_store"),
     Wrong("a heavy entry that is sent as one transaction", "capacity.py",
           "if sum(weights.values()) <= limits.MOST_TRANSACTION_BYTES:", "if True:", "heavy_entries"),
+    Wrong("a node that appends what it has no memory for", "trial.py",
+          "return len(text) > _LONG or any(word in text for word in _WORDS)", "return False", "without_memory"),
     Wrong("a log that isn't kept for a node that is being made", "init_join.py",
           'await log.tell(PLACES, node, {"n": 0, "r": 0})', "pass", "trimmed_log"),
     Wrong("a store that somebody else changed is taken as it is", "store.py",
@@ -101,10 +119,25 @@ WRONG = [
           "if (not known or entry.n == last[0]) and place != last:", "if False:", "older_log"),
     Wrong("another version of the program judges what the one before should", "applying.py",
           "if entry.kind is EntryKind.LINES and self.place.version != self.version:", "if False:", "other_version"),
-    Wrong("nodes that never compare what they have", "digest.py",
-          "if is_outvoted(self._node, n, await log.told(DIGESTS)):", "if False:", "differing_nodes"),
+    Wrong("nodes that never compare what they have", "comparing.py",
+          "if is_outvoted(self._node, digest.n, told):", "if False:", "differing_nodes"),
+    Wrong("a node that ends as one other differs from it", "comparing.py",
+          "2 * len(most) > len(most) + sum(map(len, others))", "2 * len(most) >= len(most) + sum(map(len, others))",
+          "two_that_differ"),
+    Wrong("digests without what documents say", "digest.py", 'b"".join(told), digest', 'told[0], digest',
+          "two_that_differ"),
+    Wrong("a node that makes all comparisons that it has missed", "node.py", "if self._is_waited_for():", "if True:",
+          "compared_once"),
     Wrong("an append without its condition", "log.py", 'body = {"compare": compare, "success": [_put(key, id.encode())',
           'body = {"compare": [], "success": [_put(key, id.encode())', "lost_answers"),
+    Wrong("a refusal for want of space that is taken as it is", "log.py",
+          "return await self._settled(key, body, refused)", "raise refused", "refused_after_all"),
+    Wrong("a trim that asks for the nodes of one log alone", "log.py",
+          "for log in logs for place in", "for log in [self._name.encode()] for place in", "two_logs"),
+    Wrong("a node that passes over what was trimmed", "log.py",
+          "        if entry.n > last[0]:\n", "        if False:\n", "compacted"),
+    Wrong("a join that holds the log when it has failed", "init_join.py",
+          "        _let_go(members, name, node, before)\n", "", "failed_join"),
     Wrong("a node that waits at its end for the look-up of a name", "tasks.py",
           "threading.Thread(target=run, daemon=True).start()", "threading.Thread(target=run).start()",
           "ended_as_a_name_is_looked_up"),

@@ -1,7 +1,9 @@
 """Three members of etcd and nodes on loopback, for the tests; ends only what it started."""
+import asyncio
 import contextlib
 import json
 import os
+import random
 import shutil
 import signal
 import socket
@@ -9,6 +11,7 @@ import subprocess
 import sys
 import time
 
+from jpstore.replica.engine import Engine, members_in, packed
 from support import PACKAGE, PATIENCE
 
 LOG = "test"
@@ -56,20 +59,64 @@ sys.exit(program.wait())
 
 def crashing_program(folder, program, chance):
     """A program that dies after a transaction with this chance, until there is a file `calm` in the folder."""
-    path = f"{folder}/crashing"
+    return _script(f"{folder}/crashing",
+                   CRASHING.format(python=sys.executable, program=program, calm=f"{folder}/calm", chance=chance))
+
+
+# A program that has no memory for lines with this word.
+LACKING = """#!{python}
+import os, subprocess, sys
+words = ["{program}", *sys.argv[1:]]
+if words[1] != "serve":
+    os.execv(words[0], words)
+program = subprocess.Popen(words, stdin=subprocess.PIPE, stdout=subprocess.PIPE)
+for line in sys.stdin.buffer:
+    reply = b'{{"error":"memory","number":63,"ok":false}}\\n'
+    if b"{word}" not in line:
+        program.stdin.write(line + b'{{"cmd":"status"}}\\n')
+        program.stdin.flush()
+        reply = program.stdout.readline()
+        program.stdout.readline()
+    sys.stdout.buffer.write(reply)
+    sys.stdout.buffer.flush()
+program.stdin.close()
+sys.exit(program.wait())
+"""
+
+
+def lacking_program(folder, program, word):
+    """A program that has no memory for lines with a word, as a machine with little memory."""
+    return _script(f"{folder}/lacking", LACKING.format(python=sys.executable, program=program, word=word))
+
+
+def _script(path, text):
     with open(path, "w", encoding="utf-8") as file:
-        file.write(CRASHING.format(python=sys.executable, program=program, calm=f"{folder}/calm", chance=chance))
+        file.write(text)
     os.chmod(path, 0o700)
     return path
 
 
+# How long a node may take to end in good order, in seconds: longer than by itself, since a machine may be slow.
+FAREWELL = 60
+
+# `python3 -m jpstore replica serve` with that.
+_SERVE = f"""import sys
+import jpstore.replica.running
+from jpstore.cli.command_line import main
+jpstore.replica.running._FAREWELL = {FAREWELL}
+sys.exit(main())
+"""
+
+
 def free_ports(count):
-    """Ports at which nobody listens."""
-    with contextlib.ExitStack() as block:
-        made = [block.enter_context(socket.socket()) for _ in range(count)]
-        for each in made:
-            each.bind(("127.0.0.1", 0))
-        return [each.getsockname()[1] for each in made]
+    """Ports at which nobody listens, and which no connection gets by chance later."""
+    ports = []
+    while len(ports) < count:
+        port = random.randrange(12_000, 32_000)
+        with socket.socket() as tried, contextlib.suppress(OSError):
+            tried.bind(("127.0.0.1", port))
+            ports += [port] if port not in ports else []
+    return ports
 
 
 class Members:
@@ -83,6 +130,8 @@ class Members:
         self._folder, self._options, self._within = folder, list(options), within or [[]] * count
         self.processes = [None] * count
         self.endpoints = ",".join(self._clients)
+        #: The files for TLS: of the authority, a certificate, and its key.
+        self.tls = ()
 
     def start(self, index):
         """Starts a member, which goes on with what it has."""
@@ -97,8 +146,21 @@ class Members:
                                                      start_new_session=True)
 
     def start_all(self):
+        """Starts all members, and waits until they answer."""
         for index in range(len(self.processes)):
             self.start(index)
+        asyncio.run(asyncio.wait_for(self._answer(), PATIENCE))
+
+    async def _answer(self):
+        engine = Engine(members_in(self.endpoints, *self.tls))
+        await engine.call("/kv/range", {"key": packed(b"\0")})
+        engine.close()
+
+    def restart(self, options):
+        """Ends the members, and starts them with these options."""
+        self.close()
+        self._options = list(options)
+        self.start_all()
 
     def kill(self, index):
         kill(self.processes[index])
@@ -128,6 +190,17 @@ class Members:
             kill(process)
 
 
+def waited(holds, what):
+    """What something is, as soon as it holds."""
+    end = time.monotonic() + PATIENCE
+    while True:
+        found = holds()
+        if found:
+            return found
+        assert time.monotonic() < end, f"waited in vain for {what}"
+        time.sleep(0.05)
+
+
 def kill(process):
     """Ends a process at once, and waits for its end."""
     if process is not None and process.poll() is None:
@@ -137,6 +210,10 @@ def kill(process):
         process.wait()
 
 
+# What Python says of an error that nobody has taken.
+_INSIDE = ("Traceback", "never retrieved", "never awaited", "jpstore.replica.")
+
+
 class NotMade(Exception):
     """The first node's file isn't fit to be one, which says nothing of the nodes: the test is wrong."""
 
@@ -144,8 +221,8 @@ class NotMade(Exception):
 class Replicas:
     """Nodes by name, each with a file of its own."""
 
-    def __init__(self, folder, program, members, package=None, options=(), within=None):
-        self.folder, self.program, self.members = folder, program, members
+    def __init__(self, folder, program, members, package=None, options=(), within=None, log=LOG, names=NODES):
+        self.folder, self.program, self.members, self.log, self.names = folder, program, members, log, names
         self._package, self._options = package or DEFAULT_PACKAGE, list(options)
         self._within = within or {}
         self.processes, self._started = {}, {}
@@ -160,17 +237,28 @@ class Replicas:
         with open(f"{self.folder}/{node}.log", encoding="utf-8", errors="replace") as log:
             return log.read()
 
+    def check_said(self):
+        """Whatever has happened, no node may have shown how it is made inside."""
+        for node in self._started:
+            said = self.output(node)
+            assert not any(word in said for word in _INSIDE), f"node {node}: {said[-4000:]}"
+
     def words(self, *words, program=None):
         """The words of a command about replicas."""
-        return [sys.executable, "-m", "jpstore", "replica", *words, "--etcd", self.members.endpoints, "--log", LOG,
+        how = ["-c", _SERVE] if words[0] == "serve" else ["-m", "jpstore"]
+        return [sys.executable, *how, "replica", *words, "--etcd", self.members.endpoints, "--log", self.log,
                 "--program", program or self.program]
 
     def run(self, *words, status=0, timeout=PATIENCE):
-        """Runs a command about replicas to its end, and returns what it wrote."""
-        ended = subprocess.run(self.words(*words), stdout=subprocess.PIPE, stderr=subprocess.STDOUT, text=True,
-                               env=self.environment(), timeout=timeout, check=False)
-        assert ended.returncode == status, (words, ended.returncode, ended.stdout)
-        return ended.stdout
+        """Runs a command about replicas to its end, and returns what it wrote. It is run again if etcd is too slow."""
+        end = time.monotonic() + timeout
+        while True:
+            ended = subprocess.run(self.words(*words), stdout=subprocess.PIPE, stderr=subprocess.STDOUT, text=True,
+                                   env=self.environment(), timeout=PATIENCE, check=False)
+            if ended.returncode == status:
+                return ended.stdout
+            slow = "etcd does not answer" in ended.stdout and time.monotonic() < end
+            assert slow, (words, ended.returncode, ended.stdout)
 
     def environment(self):
         return {**os.environ, "PYTHONPATH": self._package}
@@ -182,7 +270,7 @@ class Replicas:
     def make(self, sectors, capacity):
         """The first nodes: the first by `init`, the others from its file in files of other sizes, so that they make
         snapshots at different times."""
-        first, *others = NODES
+        first, *others = self.names
         self.format(first, sectors[0])
         try:
             self.run("init", self.file(first), "--capacity", str(capacity))
@@ -200,17 +288,18 @@ class Replicas:
         """Starts a node."""
         self._started[node] = (options, program)
         words = self.words("serve", self.file(node), "--node", node, "--socket", self.socket(node), "--local",
-                           self.socket(node, True), "--first", str(NODES.find(node) % 3), *self._options, *options,
-                           program=program)
+                           self.socket(node, True), "--first", str(self.names.find(node) % 3),
+                           # No answer of a slow machine is taken for one that doesn't come.
+                           "--patience", str(PATIENCE), *self._options, *options, program=program)
         with open(f"{self.folder}/{node}.log", "ab") as log:
             self.processes[node] = subprocess.Popen([*BOUND, *self._within.get(node, []), *words],
                                                     stdin=subprocess.DEVNULL, stdout=log, stderr=log,
                                                     env=self.environment(), start_new_session=True)
 
-    def revive(self):
+    def revive(self, lost=None):
         """Starts what has ended, as systemd would; returns the nodes that are not to be started again."""
         for node, process in self.processes.items():
-            if process is not None and process.poll() not in (None, 12):
+            if process is not None and process.poll() not in (None, 12) and node != lost:
                 options, program = self._started[node]
                 self.start(node, *options, program=program)
         return [node for node, process in self.processes.items() if process is not None and process.poll() == 12]
@@ -226,7 +315,7 @@ class Replicas:
                             return int(child)
         return None
 
-    def ask(self, node, *commands, local=True, timeout=20):
+    def ask(self, node, *commands, local=True, timeout=PATIENCE):
         """The replies to commands."""
         with socket.socket(socket.AF_UNIX) as connected:
             connected.settimeout(timeout)
@@ -250,7 +339,7 @@ class Replicas:
                 raise AssertionError(f"node {node} does not get to entry {n}:\n{self.output(node)[-2000:]}")
             time.sleep(0.02)
 
-    def ended(self, node, seconds=45):
+    def ended(self, node, seconds=PATIENCE):
         """The status with which a node ends by itself."""
         return self.processes[node].wait(seconds)
 

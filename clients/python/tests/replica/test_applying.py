@@ -11,7 +11,8 @@ from jpstore.replica.changes import LINES_OF_ENTRY, MOST_MARK
 from jpstore.replica.line_reader import MOST_TEXT, read_line
 from jpstore.replica.log import Agreed, Entry, EntryKind
 from jpstore.replica.place import MOST_VERSION, Place, begin_of, furthest, key_of, marked, place_in
-from jpstore.replica.store import ReplicaStore
+from jpstore.replica.store import Faulty, ReplicaStore
+from jpstore.replica.trial import is_tried, lacks_memory
 from jpstore.wire.limits import MOST_MARK_BYTES
 from jpstore.wire.program import format_file
 from replica_check import played
@@ -227,3 +228,83 @@ def test_an_entry_for_another_version_is_not_judged(program, tmp_path):
         with pytest.raises(OtherVersion):
             asyncio.run(run(version, entries))
     assert asyncio.run(run("2", [newer._replace(n=1), refused._replace(n=2)])) == "2"
+
+
+# Its patterns are larger than the program takes for those of a schema.
+HEAVY = {"properties": {"a": {"pattern": r"^\w{1,255}$"}}}
+
+
+def creation(name, schema=True):
+    return {"cmd": "create", "doc": 0, "name": name, "schema": schema}
+
+
+async def applied(program, file, entries, together, store_of=lambda store: store):
+    """What the lines of entries are answered, if so many entries wait at once; and the names at the end."""
+    format_file(file, 1000, program, version=3)
+    agreed = (await agreed_on(program, file))._replace(capacity=100_000)
+    store = await ReplicaStore.open(file, program)
+    try:
+        applier, waiting, answers = Applier(store_of(store), agreed, None, begin_of(agreed), "1"), deque(entries), []
+        while waiting:
+            some = deque(waiting.popleft() for _ in range(min(together, len(waiting))))
+            while some:
+                answers += [json.loads(reply) for done in await applier.apply(some) for reply in done.answers]
+        return answers, [name for name, _ in await store.revisions()]
+    finally:
+        await store.close()
+
+
+@pytest.mark.parametrize("together", (1, 2, 9))
+def test_a_schema_that_is_too_large_is_refused_for_its_line_alone(program, tmp_path, together):
+    both = {"changes": [creation("e"), {"cmd": "schema", "name": "a", "schema": HEAVY}], "cmd": "transaction"}
+    entries = [entry(1, [creation("a")]), entry(2, [creation("b", HEAVY)]), entry(3, [creation("a")]),
+               entry(4, [creation("c"), creation("a"), both, creation("d", {"pattern": "^d$"}), creation("f", HEAVY)]),
+               entry(5, [creation("g")])]
+    answers, names = asyncio.run(applied(program, str(tmp_path / "store"), entries, together))
+    assert [answer.get("number") for answer in answers] == [None, 44, 20, None, 20, 44, None, 44, None]
+    assert names == ["a", "c", "d", "g"] and answers[-1]["seq"] == 4
+
+
+class Lacking:
+    """A store whose machine has no memory for any line."""
+
+    def __init__(self, store):
+        self._store = store
+
+    def __getattr__(self, name):
+        return getattr(self._store, name)
+
+    async def ask(self, lines):
+        """No reply but that there is no memory."""
+        return [b'{"error":"memory","number":63,"ok":false}\n' for _ in lines]
+
+    change = ask
+
+
+@pytest.mark.parametrize("schema", (True, {"pattern": "^a$"}))
+def test_no_memory_is_no_answer_of_the_log(program, tmp_path, schema):
+    with pytest.raises(Faulty):
+        asyncio.run(applied(program, str(tmp_path / "store"), [entry(1, [creation("a"), creation("b", schema)])], 1,
+                            Lacking))
+
+
+def test_lines_that_may_need_much_memory_are_tried_and_change_nothing(program, tmp_path):
+    copy = {"cmd": "patch", "name": "a", "ops": [{"op": "copy", "from": "", "path": ""}]}
+    long = {**creation("b"), "doc": "x" * 200_000}
+    changes = [creation("b", {"pattern": "^a$"}), copy, long, {"changes": [creation("b"), copy], "cmd": "transaction"}]
+    texts = entry(1, changes).lines
+    most = {"changes": [copy] * 1024, "cmd": "transaction"}
+    assert all(map(is_tried, texts)) and not any(map(is_tried, entry(1, [creation("b"), creation("c")]).lines))
+    file = str(tmp_path / "store")
+    format_file(file, 4096, program, version=3)
+
+    async def run():
+        store = await ReplicaStore.open(file, program)
+        try:
+            await store.ask([entry(1, [creation("a")]).lines[0]])
+            assert not any([await lacks_memory(text, store) for text in [*texts, *entry(1, [most]).lines]])
+            assert all([await lacks_memory(text, Lacking(store)) for text in texts])
+            return store.status["seq"], await store.revisions()
+        finally:
+            await store.close()
+    assert asyncio.run(run()) == (1, [("a", 1)])

@@ -4,18 +4,26 @@ import asyncio
 import contextlib
 import json
 import random
+import ssl
+import subprocess
+import time
 
 import pytest
+from jpstore.replica import init_join, running
 from jpstore.replica.changes import MOST_MARK, line_in
-from jpstore.replica.digest import digest_of, is_outvoted
-from jpstore.replica.engine import Engine, Member
+from jpstore.replica.certificates import Secure, warning_of
+from jpstore.replica.engine import Engine, Member, NoAnswer, NoSpace, Trimmed, packed
+from jpstore.replica.errors import Astray
 from jpstore.replica.line_reader import MOST_TEXT, read_line
+from jpstore.replica.log import Log
+from jpstore.replica.node import Settings
+from jpstore.replica.reach import Reach
 from jpstore.replica.capacity import LEAST_CAPACITY, Need, Reckoning, room_of
 from jpstore.replica.tasks import end_tasks
 from jpstore.wire.forms import Kind
 from replica_check import Alone
 from replica_wrong import WRONG
-from support import raised
+from support import PATIENCE, raised
 
 DEEP = b"[" * 130 + b"]" * 130
 
@@ -73,6 +81,12 @@ def test_the_compact_text_of_a_line_is_the_same_change(alone, program, line):
         assert alone.ask(get) == other.ask(get)
     finally:
         other.close()
+
+
+def test_a_node_seals_its_own_file(alone):
+    asked = read_line(b'{ "cmd": "seal" }\n')
+    assert (asked.kind, asked.text) == (Kind.SNAPSHOT, b'{"cmd":"seal"}\n')
+    assert alone.ask(asked.text) == {"ok": True}
 
 
 def test_a_name_that_comes_twice_has_two_readings():
@@ -195,24 +209,13 @@ def test_lines_weigh_what_they_may_copy():
     assert verdict_of(together(*often), patch("e")) == ({0: 65}, True)
 
 
-def test_a_node_is_outvoted_if_as_many_others_agree():
-    def told(*digests):
-        return {name: {"n": 7, "digest": digest} for name, digest in zip("abc", digests)}
-    assert not is_outvoted("a", 7, told("x", "x", "x"))
-    assert not is_outvoted("a", 7, told("x", "x", "y"))
-    assert is_outvoted("c", 7, told("x", "x", "y"))
-    assert is_outvoted("a", 7, told("x", "y"))
-    assert not is_outvoted("a", 8, told("x", "y", "y"))
-    assert digest_of(2, "", [("a", 1), ("b", 2)]) != digest_of(2, "", [("b", 2), ("a", 1)])
-
-
 async def cancelled_after(steps):
     """Whether a call that nobody answers ends when it is cancelled after this many steps of the loop."""
     call = asyncio.ensure_future(Engine([Member("127.0.0.1", 1)]).call("/kv/range", {}))
     for _ in range(steps):
         await asyncio.sleep(0)
     call.cancel()
-    await asyncio.wait([call], timeout=5)
+    await asyncio.wait([call], timeout=PATIENCE)
     return call.cancelled()
 
 
@@ -232,7 +235,7 @@ def test_tasks_are_ended_though_they_go_on_and_the_end_is_cancelled():
         ending = asyncio.ensure_future(end_tasks([task]))
         await asyncio.sleep(0)
         ending.cancel()
-        await asyncio.wait([ending], timeout=5)
+        await asyncio.wait([ending], timeout=PATIENCE)
         return task.done(), ending.cancelled()
     assert asyncio.run(run()) == (True, True)
 
@@ -240,3 +243,119 @@ def test_tasks_are_ended_though_they_go_on_and_the_end_is_cancelled():
 @pytest.mark.parametrize("wrong", WRONG, ids=lambda wrong: wrong.what)
 def test_each_fault_that_must_be_found_has_its_place(wrong, tmp_path):
     wrong.planted(tmp_path)
+
+
+def test_a_compaction_that_takes_longer_than_a_try_has_dropped_something():
+    async def dropped(*answers):
+        log, left = Log([Member("127.0.0.1", 1)], "test"), list(answers)
+
+        async def call(path, body, patience=None):
+            answer = left.pop(0)
+            if isinstance(answer, Exception):
+                raise answer
+            return answer
+        log._engine.call = call
+        places = {"key": packed(b"test/nodes/a"), "value": packed(b'{"r": 9}')}
+        left[:0] = [{"header": {"revision": "20"}, "kvs": [{"key": packed(b"test/agreed")}]}, {"kvs": [places]}]
+        return await log.trim()
+    assert asyncio.run(dropped({})) == 8
+    assert asyncio.run(dropped(Trimmed())) is None
+    assert asyncio.run(dropped(NoAnswer(), Trimmed())) == 8
+
+
+def test_a_log_is_trimmed_no_further_than_the_logs_were_looked_up():
+    async def trimmed(now, *revisions):
+        log, asked = Log([Member("127.0.0.1", 1)], "test"), []
+
+        async def call(path, body, patience=None):
+            asked.append(body)
+            if path == "/kv/compaction":
+                return {}
+            if "keys_only" in body:
+                return {"header": {"revision": str(now)}, "kvs": [{"key": packed(b"test/agreed")}]}
+            return {"kvs": [{"key": packed(b"test/nodes/%d" % number), "value": packed(b'{"r": %d}' % revision)}
+                            for number, revision in enumerate(revisions)]}
+        log._engine.call = call
+        return await log.trim()
+    assert asyncio.run(trimmed(20, 15, 30)) == 14
+    # What another log has appended since 20 is not known.
+    assert asyncio.run(trimmed(20, 25, 30)) == 19
+    assert asyncio.run(trimmed(20, 0, 30)) is None
+    assert asyncio.run(trimmed(20)) is None
+
+
+@pytest.mark.parametrize("before", [{}, {"e": {"n": 3, "r": 9}}])
+def test_a_join_lets_go_though_etcd_has_refused_what_it_took(before, monkeypatch, tmp_path):
+    kept = dict(before)
+
+    class Full:
+        """A log whose etcd refuses what crosses its quota when it has made it."""
+
+        def __init__(self, members, name):
+            pass
+
+        async def agreed(self):
+            """Nothing of it matters."""
+
+        async def told(self, what):
+            return dict(kept)
+
+        async def tell(self, what, node, told):
+            kept[node] = told
+            if not told["n"]:
+                raise NoSpace("no space")
+
+        async def forget(self, node):
+            del kept[node]
+
+        def close(self):
+            """It has no connection."""
+    monkeypatch.setattr(init_join, "Log", Full)
+    raised(NoSpace, init_join.join, str(tmp_path / "new"), "e", "nothing", [], "test", None, None)
+    assert kept == before
+
+
+def test_a_node_ends_for_good_though_nothing_can_be_written_about_it(capsys, monkeypatch, tmp_path):
+    async def ended(_):
+        raise Astray("other documents")
+    monkeypatch.setattr(running, "_serve", ended)
+    # With `.astray` it is longer than a name may be.
+    settings = Settings("a", str(tmp_path / ("f" * 250)), [], "test", str(tmp_path / "socket"))
+    raised(Astray, running.run_node, settings)
+    assert "f.astray cannot be written: File name too long" in capsys.readouterr().err
+
+
+def test_what_is_said_of_an_etcd_that_does_not_answer(capsys):
+    reach = Reach(["a:1", "b:2"], True)
+    reach.failed(0, ConnectionRefusedError(111, "refused"), time.monotonic())
+    reach.failed(0, ConnectionRefusedError(111, "refused"), time.monotonic())
+    assert capsys.readouterr().err == "", "it may answer soon"
+    reach.answered()
+    long_ago = time.monotonic() - 4
+    reach.failed(0, ssl.SSLError(1, "[SSL: TLSV1_ALERT_UNKNOWN_CA] tlsv1 alert unknown ca"), long_ago)
+    assert capsys.readouterr().err == "", "one failure may be that of this side"
+    reach.failed(0, ConnectionResetError(104, "reset"), long_ago)
+    told = "etcd does not answer; a:1: refused certificate: it does not take that of this node: "
+    said = capsys.readouterr().err
+    assert said.startswith(told) and said.endswith("; b:2: not asked yet\n")
+    reach.failed(1, asyncio.TimeoutError(), long_ago)
+    assert capsys.readouterr().err == "" and reach.told().endswith("; b:2: no answer in time")
+    reach.answered()
+    assert capsys.readouterr().err == "etcd answers again\n"
+
+
+def test_a_warning_comes_thirty_days_before_a_certificate_ends():
+    day = 86_400
+    assert warning_of("a", None) == warning_of("a", int(time.time()) + 31 * day) == []
+    assert warning_of("a", int(time.time()) + 7 * day) == ["a: a certificate ends in 7 days: renew it"]
+    assert warning_of("a", int(time.time()) - 1) == ["a: a certificate has ended: renew it"]
+
+
+@pytest.mark.parametrize("days", [2, 40_000])
+def test_the_end_of_a_certificate_is_that_which_openssl_tells(tmp_path, days):
+    made = ["openssl", "req", "-x509", "-newkey", "ec", "-pkeyopt", "ec_paramgen_curve:prime256v1", "-nodes", "-subj",
+            "/CN=a", "-keyout", "a.key", "-out", "a.crt", "-days", str(days)]
+    subprocess.run(made, cwd=tmp_path, check=True, stderr=subprocess.DEVNULL)
+    told = subprocess.check_output(["openssl", "x509", "-in", tmp_path / "a.crt", "-noout", "-enddate"], text=True)
+    path = str(tmp_path / "a.crt")
+    assert Secure(path, path, str(tmp_path / "a.key")).end == ssl.cert_time_to_seconds(told.strip().partition("=")[2])

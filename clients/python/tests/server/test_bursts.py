@@ -3,6 +3,7 @@ import contextlib
 import json
 import os
 import resource
+import select
 import shutil
 import signal
 import socket
@@ -13,7 +14,7 @@ import time
 import pytest
 from gateways import Gateway
 from hubs import Hub
-from jpstore import Ended, Store, create
+from jpstore import NoMemory, Store, create
 from support import PATIENCE, raised, until
 from test_limits import answered, most_memory
 
@@ -31,6 +32,11 @@ def at(path, count):
             client.settimeout(PATIENCE)
             client.connect(path)
         yield clients
+
+
+def all_of(client):
+    """What comes until the connection ends."""
+    return b"".join(iter(lambda: client.recv(1 << 20), b""))
 
 
 # Memory.
@@ -90,7 +96,7 @@ def test_merge_patches_of_many_values_take_little_memory(place):
 
 
 def test_exports_that_nobody_reads_are_few(place):
-    """Each may be a file of all documents; beyond 32 of them one more is refused, as if memory ran out."""
+    """Each may be a file of all documents; beyond 32 of them, one that nobody reads is ended for the next one."""
     place.format(65536)
     asked = b'{"cmd":"export"}\n'
     with Hub(place) as hub:
@@ -100,27 +106,25 @@ def test_exports_that_nobody_reads_are_few(place):
             for client in clients:
                 client.sendall(asked)
                 assert client.recv(1)
-            assert hub.lines(asked, 1)[0]["number"] == 63
-        until(lambda: hub.lines(asked, 1)[0]["ok"], "an export")
+            with hub.connect() as store:
+                assert len(exported(store)) == 2
+            # The others get theirs to the end.
+            for client in clients:
+                client.shutdown(socket.SHUT_WR)
+            assert sum(b'"end":true' in all_of(client) for client in clients) == 31
 
 
-def test_long_heads_leave_room_for_bodies(place):
-    """Anybody may send a head, and only who may ask a body."""
+def test_long_heads_leave_room_for_others(place):
+    """Anybody may send a head, and only who may ask a body. Heads that go on no more make room for others."""
     place.format()
     head = b"GET / HTTP/1.1\r\nHost: localhost\r\n" + (b"X: " + b"x" * 16_000 + b"\r\n") * 7
     with Gateway(place) as gateway, contextlib.ExitStack() as stack:
-        for _ in range(330):
-            stack.enter_context(gateway.raw()).sendall(head)
-
-        def is_refused():
-            # One that isn't refused stays, since its room would be free for the next one.
-            client = stack.enter_context(gateway.raw())
-            client.settimeout(1)
+        clients = [stack.enter_context(gateway.raw()) for _ in range(900)]
+        for client in clients:
             client.sendall(head)
-            with contextlib.suppress(socket.timeout):
-                return client.recv(12)[9:] == b"503"
-        until(is_refused, "the limit of heads")
         assert gateway.put("/documents/d", 1).status == 201
+        assert answered(gateway.port, head + b"Connection: close\r\n\r\n", PATIENCE)[9:12] == b"200"
+        assert {client.recv(12)[9:] for client in select.select(clients, [], [], PATIENCE)[0]} == {b"503"}
 
 
 @pytest.mark.parametrize("door", ["http", "socket"])
@@ -151,7 +155,7 @@ def test_a_head_of_too_many_fields_is_refused_before_its_end(place):
     place.format()
     with Gateway(place) as gateway:
         answer = answered(gateway.port, b"GET / HTTP/1.1\r\nHost: localhost\r\n" + b"X:\r\n" * 102)
-        assert (answer[9:12], b"too many fields" in answer) == (b"400", True)
+        assert (answer[9:12], b"too many fields" in answer) == (b"431", True)
 
 
 # The begin and the end.
@@ -183,10 +187,10 @@ def test_a_server_serves_on_if_nobody_reads_what_it_says(place):
         assert b"is served" in serving.stdout.readline()
         with Store.connect(path, timeout=PATIENCE) as store:
             large(store)
-            # What it then says is that an export is broken off, since no file can be written.
+            # What it then says is that there is no room for an export, since no file can be written.
             resource.prlimit(serving.pid, resource.RLIMIT_FSIZE, (0, resource.RLIM_INFINITY))
             for number in range(3):
-                raised(Ended, exported, store)
+                raised(NoMemory, exported, store)
                 assert store.put("d", number) == 7 + number
         serving.send_signal(signal.SIGTERM)
         assert serving.wait(PATIENCE) == 0
@@ -216,6 +220,7 @@ def test_a_gateway_waits_for_the_server_whose_socket_it_serves(place, server):
     words[1] = place.path("none")
     ended = subprocess.run([*words, "--wait", "0.2"], stderr=subprocess.PIPE, timeout=PATIENCE, check=False)
     assert (ended.returncode, b"none: No such file or directory" in ended.stderr) == (1, True)
+    assert b"if it is the socket of a hub, start that" in ended.stderr
 
 
 # In the server alone: writes to the file of an export never end.

@@ -8,23 +8,9 @@ import threading
 import time
 
 import pytest
-from gateways import Events, Gateway
+from gateways import Events, Gateway, Server
 from hubs import Hub
 from support import PATIENCE, until
-
-
-class Server(Gateway):
-    """A server that is started by its own name, with options that the gateway doesn't have."""
-
-    def __init__(self, place, *options):
-        words = [os.environ["JPSTORE_SERVER"], place.file, "--listen", "127.0.0.1:0", "--program", place.program,
-                 *options]
-        self.process = subprocess.Popen(words, stdout=subprocess.PIPE, stderr=subprocess.PIPE, env=place.environment())
-        line = self.process.stdout.readline().decode()
-        assert " is served at http://127.0.0.1:" in line, self.process.stderr.read()
-        self.port = int(line.rsplit(":", 1)[1].strip("/\n"))
-        self.host = f"127.0.0.1:{self.port}"
-        self.url = f"http://{self.host}"
 
 
 def request(method, path, *fields, body=b""):
@@ -275,14 +261,28 @@ def test_a_token_is_read_by_its_owner_alone(place, server):
     place.format()
     path = place.secret("token", "correct-horse-battery-staple")
     words = [place.file, "--listen", "127.0.0.1:0", "--program", place.program, "--token-file", path]
-    for rights in (0o604, 0o644, 0o602, 0o666):
+    for rights in (0o604, 0o644, 0o602, 0o666, 0o640, 0o620, 0o660):
         os.chmod(path, rights)
-        check_refused(server, words, 1, f"other users can read or write this token: `chmod o= {path}`".encode())
+        check_refused(server, words, 1, f"other users can read or write this token: `chmod go= {path}`".encode())
     for text in ("", "\n", "short", "with a blank in its midst"):
         check_refused(server, [*words[:-1], place.secret("other", text)], 1, b"16 or more visible ASCII characters")
-    os.chmod(path, 0o640)
+    os.chmod(path, 0o400)
     with Server(place, "--token-file", path) as running:
         assert running.get("/documents").status == 401
+
+
+def test_a_credential_of_systemd_is_a_token(place, server, monkeypatch):
+    """Its mode shows the mask of an access control list as the rights of the group."""
+    place.format()
+    os.mkdir(place.path("credentials"))
+    path = place.secret("credentials/token", "correct-horse-battery-staple")
+    monkeypatch.setenv("CREDENTIALS_DIRECTORY", place.path("credentials"))
+    os.chmod(path, 0o440)
+    with Server(place, "--token-file", path) as running:
+        assert running.get("/documents").status == 401
+    os.chmod(path, 0o444)
+    words = [place.file, "--listen", "127.0.0.1:0", "--program", place.program, "--token-file", path]
+    check_refused(server, words, 1, b"other users can read or write this token")
 
 
 def test_an_origin_is_the_same_in_capitals_and_with_its_port(place):
@@ -297,7 +297,88 @@ def test_a_port_that_another_program_has_is_told(place, server):
     with socket.create_server(("127.0.0.1", 0)) as other:
         at = f"127.0.0.1:{other.getsockname()[1]}"
         told = f"another program listens at {at}: end it, or choose another port".encode()
-        check_refused(server, [place.file, "--listen", at, "--program", place.program], 1, told)
+        check_refused(server, [place.file, "--listen", at, "--program", place.program, "--wait", "0"], 1, told)
+
+
+def test_a_port_is_waited_for(place):
+    """A server that was killed may have a child that still holds it."""
+    place.format()
+    with socket.create_server(("127.0.0.1", 0)) as other:
+        port = other.getsockname()[1]
+        threading.Timer(1, other.close).start()
+        with Server(place, "--listen", f"127.0.0.1:{port}", "--wait", "60") as server:
+            assert (server.port, server.get("/documents").json()) == (port, [])
+
+
+def test_a_socket_at_which_another_program_listens_is_waited_for(place):
+    place.format()
+    with socket.socket(socket.AF_UNIX) as other:
+        other.bind(place.path("socket"))
+        other.listen()
+        threading.Timer(1, other.close).start()
+        with Hub(place, options=("--wait", "60")) as hub, hub.connect() as store:
+            assert store.names() == []
+
+
+def test_a_follower_of_a_hub_that_is_away_waits_longer_each_time(place):
+    place.format()
+    path = place.path("socket")
+    with contextlib.ExitStack() as stack:
+        hub = stack.enter_context(Hub(place, path=path))
+        gateway = stack.enter_context(Gateway(place, store=path))
+        stack.enter_context(Events(gateway, "/changes"))
+        hub.kill()
+        os.unlink(path)
+        attempts = []
+        with socket.socket(socket.AF_UNIX) as away:
+            away.bind(path)
+            away.listen()
+            away.settimeout(PATIENCE)
+            # A twentieth of a second, and twice as long each time up to two seconds, make over 8 in all.
+            while len(attempts) < 9:
+                away.accept()[0].close()
+                attempts.append(time.monotonic())
+        assert attempts[-1] - attempts[0] > 5
+
+
+def test_slow_readers_of_lines_and_changes_have_the_time_of_each_piece(place):
+    """Who takes 64 KiB in time gets a line or an event of a megabyte, though that takes longer."""
+    place.format(65536)
+    with Server(place, "--patience", "8") as server:
+        for number in range(6):
+            assert server.put(f"/documents/d{number}", str(number) + "x" * 1_000_000).status == 201
+        found = {}
+
+        def read(path, *fields):
+            found[path] = read_slowly(server, request("GET", path, *fields), 12)
+        threads = [threading.Thread(target=read, args=("/documents", "Accept: application/x-ndjson")),
+                   threading.Thread(target=read, args=("/changes?from=0",))]
+        for thread in threads:
+            thread.start()
+        for thread in threads:
+            thread.join()
+        assert found == {"/documents": 6, "/changes?from=0": 6}
+
+
+def read_slowly(server, sent, seconds):
+    """How many texts of a megabyte a client is sent that takes some 100 kB a second for so long, and then the rest."""
+    answer = b""
+    with socket.socket() as client, contextlib.suppress(ConnectionResetError):
+        client.setsockopt(socket.SOL_SOCKET, socket.SO_RCVBUF, 1 << 14)
+        client.settimeout(PATIENCE)
+        client.connect(("127.0.0.1", server.port))
+        client.sendall(sent)
+        end = time.monotonic() + seconds
+        while time.monotonic() < end:
+            answer += client.recv(1 << 14)
+            time.sleep(0.15)
+        client.setsockopt(socket.SOL_SOCKET, socket.SO_RCVBUF, 1 << 20)
+        while len(answer) < 6_000_000 or answer.count(b"x" * 1_000_000) < 6:
+            piece = client.recv(1 << 20)
+            if not piece:
+                break
+            answer += piece
+    return answer.count(b"x" * 1_000_000)
 
 
 def test_a_hub_without_http_listens_nowhere_else(place):
