@@ -6,7 +6,7 @@
 The items, 5,000 if no number is given, lie as maps in so many documents, each item in the one that the CRC-32 of its
 number chooses. A row has how many bytes a document has at most, the time of one query over all documents, the time and
 the bytes of a change that takes one from the stock of an item if it is what was read, and the memory of the program as
-a multiple of the texts. docs/use/MODELLING.md has the table. The time of a change is that of the disk, too.
+a multiple of the texts. docs/use/MODELLING.md has the times. The time of a change is that of the disk, too.
 """
 import pathlib
 import re

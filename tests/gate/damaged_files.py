@@ -10,15 +10,17 @@ them. The last line is `N passed, M failed`.
 import json
 import os
 import random
+import resource
 import subprocess
 import sys
 import tempfile
-import time
+
+from another_user import become, for_another
+from standing_changes import runs_of, standing
 
 SECTOR, BLOCK = 512, 4096
 ROOT = os.path.dirname(os.path.dirname(os.path.dirname(os.path.abspath(__file__))))
 FORMAT_1 = os.path.join(ROOT, "tests", "data", "format_1.store")
-NOBODY = 65534
 SCHEMA = {"type": "object"}
 
 
@@ -69,13 +71,8 @@ def dump_of(documents, seq):
 
 
 def run(program, *words, given="", user=None):
-    def become():
-        if user is not None:
-            os.setgroups([])
-            os.setgid(user)
-            os.setuid(user)
-
-    return subprocess.run([program, *words], input=given, capture_output=True, text=True, timeout=120, preexec_fn=become, check=False)
+    return subprocess.run([program, *words], input=given, capture_output=True, text=True, timeout=120,
+                          preexec_fn=lambda: become(user), check=False)
 
 
 def make(program, file, version, sectors):
@@ -111,6 +108,12 @@ def newest_slots(content):
 def written(file, content):
     with open(file, "wb") as opened:
         opened.write(content)
+
+
+def processor_seconds():
+    """The time of processors that the programs took which have ended."""
+    used = resource.getrusage(resource.RUSAGE_CHILDREN)
+    return used.ru_utime + used.ru_stime
 
 
 def ask(program, file, content, *words):
@@ -245,7 +248,10 @@ class Tests:
             for how in ("wiped", "random"):
                 harmed = damaged(content, start // BLOCK + block, how)
                 self._is_told(harmed, "checksum", "unopened", "lost")
-                self._salvages(harmed, after(not_damaged(start, [start // BLOCK + block])), len(CHANGES), 1)
+                left = not_damaged(start, [start // BLOCK + block])
+                in_slots = standing(CHANGES, runs_of(harmed))
+                stand = [change for change in CHANGES if change in left or change in in_slots]
+                self._salvages(harmed, after(stand), len(CHANGES), 1)
 
     def a_flipped_bit_of_format_3_is_told(self):
         content = self.made(3)
@@ -284,16 +290,15 @@ class Tests:
         expect("their checksum", {line["check"] for line in lines if line["counted"]}, {"held"})
         block = 128 * SECTOR // BLOCK
         lines = [json.loads(line) for line in self._ask(damaged(content, block, "flipped"), "salvage", "--frames").stdout.splitlines()]
-        expect("the checksum of a damaged block", {line["check"] for line in lines if line["counted"]}, {"failed"})
+        expect("the checksum of a damaged block, and of the tail", {(line["sector"] >= 128, line["check"]) for line in lines if line["counted"]}, {(True, "failed"), (False, "held")})
 
     def a_file_that_may_only_be_read_is_dumped(self):
         content = self.made(3)
         written(self.file, content)
-        os.chmod(os.path.dirname(self.file), 0o755)
         os.chmod(self.file, 0o444)
-        user = NOBODY if os.geteuid() == 0 else None
+        program, user = for_another(self.program, os.path.dirname(self.file))
         for words in (["dump", self.file, "--read-only"], ["check", self.file, "--deep"], ["salvage", self.file]):
-            expect(f"{words} as another user", run(self.program, *words, user=user).returncode, 0)
+            expect(f"{words} as another user", run(program, *words, user=user).returncode, 0)
         os.chmod(self.file, 0o600)
 
     def readers_go_together_and_no_server_beside_them(self):
@@ -318,11 +323,11 @@ class Tests:
         head = (1 << 22).to_bytes(4, "big") + bytes(8) + b'{"cmd":"'
         for content in (random.Random(7).randbytes(size), bytes(size), (head * (size // len(head) + 1))[:size], b"{" * size,
                         ((1 << 20).to_bytes(4, "big") + bytes(8) + b"{" * 3000) * (size // 3012)):
-            begin = time.monotonic()
+            begin = processor_seconds()
             said = self._ask(content + bytes(-len(content) % SECTOR), "salvage")
             expect("salvage of no store", (said.returncode, said.stdout), (1, dump_of({}, 0)))
-            if time.monotonic() - begin > 20:
-                raise Wrong("it took over 20 seconds")
+            if processor_seconds() - begin > 20:
+                raise Wrong("it took over 20 seconds of a processor")
 
     def made(self, version, how=make):
         if os.path.exists(self.file):

@@ -1,7 +1,7 @@
 #!/usr/bin/env python3
 """Sends random requests to the gateway, and compares each answer with a model of the store.
 
-    fuzz_http.py PROGRAM [--requests N] [--damaged SHARE] [--seed S] [--formats 2 3]
+    fuzz_http.py PROGRAM [--requests N] [--damaged SHARE] [--seed S] [--formats 2 3] [--caches 1 3000 67108864]
 
 Eight clients send requests whose answers are known exactly, over names of their own: with any framing, chunks, many at once, percent-
 encoding, escapes, members that are there twice, conditions, patches, merge patches, transactions, and what is no JSON; in format 3 also
@@ -12,8 +12,8 @@ In the end each change that was answered has been sent under its number, as the 
 makes the documents that are stored, with their schemas and revisions. Of what damaged requests were answered, each number is that of a
 change of theirs.
 
-A fourth of the N requests, 20,000 if not said, goes to a gateway over a file of format 2, over one of format 3, and over a hub of each. The
-stores are made in the folder that TMPDIR names. The last line is `N passed, M failed`.
+The N requests, 20,000 if not said, are shared among gateways over a file of format 2 and of format 3, with each of these caches, and over
+a hub of each. The stores are made in the folder that TMPDIR names. The last line is `N passed, M failed`.
 """
 import argparse
 import asyncio
@@ -46,7 +46,7 @@ SOON = 1.0
 EXACT_NAMES, DAMAGED_NAMES = "exactly-", "0000000"
 
 # What a gateway may answer to anything.
-STATUSES = {200, 201, 204, 304, 400, 403, 404, 405, 409, 410, 411, 412, 413, 414, 415, 417, 421, 422, 501, 505}
+STATUSES = {200, 201, 204, 304, 400, 403, 404, 405, 409, 410, 411, 412, 413, 414, 415, 417, 421, 422, 431, 501, 505}
 
 
 class Answer:
@@ -361,17 +361,17 @@ def started(words, log):
 
 
 @contextlib.contextmanager
-def gateway(program, folder, number, over_hub, log):
-    """A gateway over a new store of this format; answers its port."""
+def gateway(program, folder, number, cache, log):
+    """A gateway over a new store of this format, with a cache of so many bytes or over a hub; answers its port."""
     file = os.path.join(folder, "store")
     subprocess.run([program, "format", file, "--sectors", "65536", "--format", str(number)], check=True, stdout=subprocess.DEVNULL)
-    package = [sys.executable, "-m", "jpstore"]
+    package, options = [sys.executable, "-m", "jpstore"], ["--cache", str(cache)]
     with contextlib.ExitStack() as stack:
-        if over_hub:
+        if cache is None:
             hub = os.path.join(folder, "socket")
             stack.enter_context(started([*package, "hub", file, "--socket", hub, "--program", program], log))
-            file = hub
-        words = [*package, "http", file, "--listen", "127.0.0.1:0", "--program", program]
+            file, options = hub, []
+        words = [os.environ["JPSTORE_SERVER"], file, "--listen", "127.0.0.1:0", *options, "--program", program, "--python", sys.executable]
         yield int(re.search(r":(\d+)/$", stack.enter_context(started(words, log)))[1])
 
 
@@ -402,12 +402,12 @@ async def tried(port, count, share, seed, has_keys):
     return run, changes
 
 
-def part(program, number, over_hub, words, seed):
-    """Whether nothing is wrong with a gateway over a file or a hub in this format."""
+def part(program, number, cache, words, seed):
+    """Whether nothing is wrong with a gateway over a file, or over a hub, in this format."""
     begin = time.monotonic()
     with tempfile.TemporaryDirectory(prefix="jpstore-") as folder, open(os.path.join(folder, "log"), "w+b") as log:
         try:
-            with gateway(program, folder, number, over_hub, log) as port:
+            with gateway(program, folder, number, cache, log) as port:
                 run, changes = asyncio.run(tried(port, words.requests, words.damaged, seed, number > 2))
             faults = run.faults
         except Exception:  # Whatever is raised, the other parts go on.
@@ -415,7 +415,7 @@ def part(program, number, over_hub, words, seed):
             return False
         log.seek(0)
         tracebacks = log.read().count(b"Traceback")
-    where = f"format {number}, over a {'hub' if over_hub else 'file'}"
+    where = f"format {number}, over a " + ("hub" if cache is None else f"file with a cache of {cache:,} bytes")
     print(f"{where}: {run.exact:,} requests with a known answer, {run.damaged:,} damaged ones, {len(changes):,} changes, {len(run.of_damaged):,} of "
           f"them answered to damaged requests; {run.failures} answers 500, {tracebacks} tracebacks; {time.monotonic() - begin:.0f} seconds", flush=True)
     for fault in faults[:5]:
@@ -430,6 +430,7 @@ def main():
     parser.add_argument("--seed", type=int, default=random.randrange(1 << 32))
     parser.add_argument("--damaged", type=float, default=0.3, help="the share of the requests that are damaged")
     parser.add_argument("--formats", type=int, nargs="+", default=[2, 3])
+    parser.add_argument("--caches", type=int, nargs="*", default=[1, 3000, 1 << 26])
     words = parser.parse_args()
     if importlib.util.find_spec("jsonschema") is None:
         if os.path.exists(DEBIAN_PYTHON) and os.path.realpath(sys.executable) != os.path.realpath(DEBIAN_PYTHON):
@@ -439,10 +440,10 @@ def main():
         return 0
     use_server()
     print(f"seed {words.seed}", flush=True)
-    parts = [(number, over_hub) for number in words.formats for over_hub in (False, True)]
+    parts = [(number, cache) for number in words.formats for cache in (*words.caches, None)]
     words.requests //= len(parts)
     program = os.path.abspath(words.program)
-    passed = sum(part(program, number, over_hub, words, f"{words.seed} {number} {over_hub}") for number, over_hub in parts)
+    passed = sum(part(program, number, cache, words, f"{words.seed} {number} {cache}") for number, cache in parts)
     print(f"{passed} passed, {len(parts) - passed} failed")
     return 0 if passed == len(parts) else 1
 

@@ -465,7 +465,11 @@ class Requests:
         else:
             target += "?schema=" + encoded(choose, json_text(choose, schema))
         asked = Asked("PUT", target, self._text(value), fields)
-        return self._changed(asked, [{"cmd": "create", "name": name, "doc": value, "schema": schema}], 201, name)
+        if name not in self.store.documents:
+            return self._changed(asked, [{"cmd": "create", "name": name, "doc": value, "schema": schema}], 201, name)
+        whole = {"cmd": "patch", "name": name, "ops": [{"op": "replace", "path": "", "value": value}]}
+        under = [{"cmd": "schema", "name": name, "schema": each} for each in (True, schema)]
+        return self._changed(asked, [under[0], whole, under[1]], 200, name)
 
     def _schema(self):
         if self._choose.random() < 0.2:

@@ -245,6 +245,22 @@ def try_failed_hand_over(program, version, size, second=(False,), **failing):
             raise Wrong("when it is opened again, it has %s" % there)
 
 
+def try_nothing_after_a_failure(program, version, when):
+    """A write of a change fails: it is answered 61, and from then on nothing is written, also at the program's end."""
+    with tempfile.TemporaryDirectory() as folder:
+        file, log = os.path.join(folder, "store"), os.path.join(folder, "log")
+        subprocess.run([program, "format", file, "--sectors", "192", "--format", version], check=True, stdout=subprocess.DEVNULL)
+        words = ["strace", "-f", "-o", log, "-P", file, "-e", "trace=pwrite64,pwritev,fdatasync,fsync", "-e", f"inject=pwrite64:error=EIO:when={when}"]
+        ended = subprocess.run([*words, program, "serve", file], input=change(0) + change(1), check=False, stdout=subprocess.PIPE,
+                               text=True, stderr=subprocess.DEVNULL)
+        if [json.loads(reply).get("number") for reply in ended.stdout.splitlines()] != [61, 62]:
+            raise Wrong("the replies are %s" % ended.stdout)
+        with open(log, encoding="utf-8") as calls:
+            later = calls.read().split("(INJECTED)")[1:]
+        if len(later) != 1 or "(" in later[0]:
+            raise Wrong("after the failure it calls %s" % later)
+
+
 def try_migration(program):
     with tempfile.TemporaryDirectory() as folder:
         file = os.path.join(folder, "store")
@@ -316,7 +332,7 @@ def try_rights_of_a_copy(program):
 
 
 def try_signs(program):
-    """A store whose pieces each take 0.6 seconds: a terminal shows it after a second, and nothing else does."""
+    """A store whose pieces each take 0.6 seconds at least: a terminal shows it after a second, and nothing else does."""
     slow = ["strace", "-f", "-o", os.devnull, "-e", "inject=pwrite64:delay_enter=600000:when=1..4", program, "format"]
     with tempfile.TemporaryDirectory() as folder:
         terminal, end = pty.openpty()
@@ -324,7 +340,9 @@ def try_signs(program):
         os.close(end)
         shown = os.read(terminal, 4096).decode().replace("\r\n", "\n")
         os.close(terminal)
-        if shown != "jpstore: 75% of the file is written\n":
+        lines = [f"jpstore: {percent}% of the file is written\n" for percent in (50, 75, 100)]
+        # A slow machine takes longer for a piece, and so may show an earlier one, and a further one after five seconds more.
+        if shown not in {"".join(some) for some in itertools.chain(*(itertools.combinations(lines, count) for count in (1, 2, 3)))} - {lines[2]}:
             raise Wrong("a terminal shows %r" % shown)
         silent = subprocess.run([*slow, "silent", "--sectors", "512"], check=True, cwd=folder, stdout=subprocess.DEVNULL, stderr=subprocess.PIPE)
         if silent.stderr:
@@ -348,7 +366,8 @@ def try_upgrading(program):
         subprocess.run([program, "format", "store", "--sectors", "300"], check=True, cwd=folder, stdout=subprocess.DEVNULL)
         write, sync = ("pwrite64", "store"), ("fdatasync", "store")
         reads = ("pread64", "store")
-        opened = [*OPENED[:2], reads, write, sync]
+        # Whether sector 0 is older than the slots is looked at first.
+        opened = [OPENED[0], reads, OPENED[1], reads, write, sync]
         up = [*opened, sync, write, sync, sync, reads, write, write, sync, write, write, sync]
         # Zeros over 120 sectors, 32 of them at once.
         down = [*opened, write, sync, sync, write, sync, write, write, write, write, sync]
@@ -399,6 +418,8 @@ def main():
         most = 3 + 2 * size if version == "2" else 132
         if version == "2" or size == 2:
             rows["a group" + group + " is written in part"] = functools.partial(fails, limit=most * SECTOR_BYTES)
+    for version, when in (("2", 2), ("3", 3)):
+        rows["nothing is written after a failure in format " + version] = functools.partial(try_nothing_after_a_failure, program, version, when)
     rows["a store of format 1 is opened"] = lambda: try_migration(program)
     rows["a store is made"] = lambda: try_making(program, [], MADE)
     rows["a sparse store is made"] = lambda: try_making(program, ["--sparse"], MADE_SPARSE)

@@ -13,12 +13,16 @@ With `--most` a case fails if it takes more than this many KiB. The case that ta
 a process whose stack is limited to that (`ulimit -s`), and must be answered as before. `--all` adds every schema at the
 edges of nodes and counters, and the sessions of `hostile.py` and `hostile_schemas.py`. With `--library` PROGRAM is
 `clients/c/tests/deep.c` over a built library: it is fed the case of each kind that takes the most, which needs seconds, and
-says how much of the library's own stack was touched. The last line is `N passed, M failed`.
+says how much of the library's own stack was touched. No process takes more than N seconds of a processor (60), or ten times
+that on the clock, as on a machine that others use too. The last line is `N passed, M failed`; the status is 2 if all that
+failed was too slow.
 """
 import argparse
 import json
+import math
 import os
 import resource
+import signal
 import subprocess
 import sys
 import tempfile
@@ -32,6 +36,9 @@ SECTORS = 65536
 SCHEMA_BYTES, LINE_BYTES, QUERY_BYTES = 262144, 1048576, 1024
 
 LEVELS = 64
+
+# How many seconds on the clock a process may take for each that it may take of a processor.
+CLOCK = 10
 
 
 @dataclass
@@ -303,12 +310,28 @@ def all_bytes(lines):
     return b"".join(line_bytes(line) + b"\n" for line in lines) + b'{"cmd":"status"}\n'
 
 
-def limited(stack):
-    """Sets the limit of the stack in the child; what is let grow for the measuring is far from what any line takes."""
-    def set_it():
-        resource.setrlimit(resource.RLIMIT_STACK, (stack, resource.getrlimit(resource.RLIMIT_STACK)[1]))
-        no_core()
-    return set_it
+class Slow(Failed):
+    """A case that takes too long, of which nothing is known."""
+
+
+def limited(seconds, stack=None):
+    """Sets the limits of a child: its seconds of a processor, and its stack. What is let grow for the measuring is far from
+    what any line takes."""
+    def set_them():
+        if stack is not None:
+            resource.setrlimit(resource.RLIMIT_STACK, (stack, resource.getrlimit(resource.RLIMIT_STACK)[1]))
+        resource.setrlimit(resource.RLIMIT_CPU, (math.ceil(seconds), math.ceil(seconds) + 5))
+        resource.setrlimit(resource.RLIMIT_CORE, (0, 0))
+    return set_them
+
+
+def ended(status, seconds, more=""):
+    """The failure of a process that ended with this status."""
+    if status == -signal.SIGXCPU:
+        return Slow("over %g seconds of a processor" % seconds)
+    if status == -signal.SIGKILL:
+        return Slow("killed, as after %g seconds on the clock%s" % (CLOCK * seconds, more))
+    return Failed("ended with status %d%s" % (status, more))
 
 
 def stack_of(process):
@@ -321,15 +344,15 @@ def served(program, store, options, lines, stack, seconds):
     """The replies to the lines, and how far the stack had grown then."""
     # An empty environment, since its words lie on the same stack.
     process = subprocess.Popen([program, "serve", store, *options], stdin=subprocess.PIPE, stdout=subprocess.PIPE,
-                               stderr=subprocess.DEVNULL, env={}, preexec_fn=limited(stack))
-    killer = threading.Timer(seconds, process.kill)
+                               stderr=subprocess.DEVNULL, env={}, preexec_fn=limited(seconds, stack))
+    killer = threading.Timer(CLOCK * seconds, process.kill)
     killer.start()
     writer = threading.Thread(target=given, args=(process.stdin, all_bytes(lines)), daemon=True)
     writer.start()
     try:
         replies = [process.stdout.readline() for _ in range(len(lines) + 1)]
         if not replies[-1]:
-            raise Failed("ended with status %d after %d replies" % (process.wait(), sum(map(bool, replies))))
+            raise ended(process.wait(), seconds, " after %d replies" % sum(map(bool, replies)))
         grown = stack_of(process)
         writer.join()
         process.stdin.close()
@@ -377,30 +400,27 @@ def fed(program, case, seconds):
         file.write(all_bytes(case.lines))
         file.flush()
         try:
-            done = subprocess.run([program, file.name], stdout=subprocess.PIPE, stderr=subprocess.PIPE, timeout=seconds, preexec_fn=no_core)
+            done = subprocess.run([program, file.name], stdout=subprocess.PIPE, stderr=subprocess.PIPE, timeout=CLOCK * seconds,
+                                  preexec_fn=limited(seconds), check=False)
         except subprocess.TimeoutExpired:
-            raise Failed("over %d seconds" % seconds) from None
+            raise Slow("over %g seconds on the clock" % (CLOCK * seconds)) from None
     if done.returncode:
-        raise Failed("ended with status %d" % done.returncode)
+        raise ended(done.returncode, seconds)
     look_at(case, done.stdout.splitlines())
     return int(done.stderr), 0
 
 
-def no_core():
-    resource.setrlimit(resource.RLIMIT_CORE, (0, 0))
-
-
 def attempt(measure, case, most):
-    """Prints a case, and answers what it takes and whether it is as it must be."""
+    """Prints a case, and answers what it takes, whether it is as it must be, and whether it is too slow."""
     begin = time.monotonic()
     try:
         session, opening = measure(case)
     except Failed as why:
         print("%-74s FAILED: %s" % (case.name, why), flush=True)
-        return 0, False
+        return 0, False, isinstance(why, Slow)
     over = most is not None and max(session, opening) > most
     print("%-74s %6d %6d %4.1f s%s" % (case.name, session, opening, time.monotonic() - begin, "  FAILED: over %d" % most if over else ""), flush=True)
-    return max(session, opening), not over
+    return max(session, opening), not over, False
 
 
 def holds(program, case, most, seconds):
@@ -433,14 +453,15 @@ def main():
         return fed(program, case, words.seconds) if words.library else measured(program, case, 1 << 30, words.seconds)
 
     found = [(*attempt(measure, case, words.most), case) for case in cases]
-    passed = [well for _, well, _ in found]
+    passed = [well for _, well, _, _ in found]
     if found:
-        taken, _, worst = max(found, key=lambda each: each[0])
+        taken, _, _, worst = max(found, key=lambda each: each[0])
         print("at most %d KiB: %s" % (taken, worst.name))
         if words.most is not None and not words.library:
             passed.append(holds(program, worst, words.most, words.seconds))
     print("%d passed, %d failed" % (sum(passed), len(passed) - sum(passed)))
-    return 0 if all(passed) else 1
+    slow = sum(is_slow for _, _, is_slow, _ in found)
+    return 0 if all(passed) else 2 if slow == len(passed) - sum(passed) else 1
 
 
 if __name__ == "__main__":

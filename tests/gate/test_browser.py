@@ -25,7 +25,7 @@ from server import use_server
 
 CLIENTS = os.path.normpath(os.path.join(os.path.dirname(os.path.abspath(__file__)), "..", "..", "clients", "python"))
 DEBIAN_PYTHON = "/usr/bin/python3"
-PATIENCE = 20
+PATIENCE = 120
 COUNTS = {"type": "object", "properties": {"bolts": {"type": "integer", "minimum": 0}}}
 TOKEN = "a-token-of-the-page-test"
 # Texts that are no JSON: Python's reader says the line and the column.
@@ -153,7 +153,7 @@ class Page:
 def make_a_document(page):
     """A document is made, under a schema."""
     page.until(lambda: page.text("#live") == "live", "the stream of changes")
-    assert page.text("#no-names") == "No documents yet."
+    page.until(lambda: page.text("#no-names") == "No documents yet.", "the names, of which there are none")
     page.one("#new-panel > summary").click()
     page.write("#new-name", "shelf-1")
     page.write("#new-doc", '{"bolts": 40, "big": 9007199254740993, "<b>": "<script>1</script>"}')
@@ -252,6 +252,8 @@ def keep_what_is_written(page):
     page.ask("PATCH", "documents/shelf-1", {"bolts": 30}, "application/merge-patch+json")
     page.until(lambda: "has changed this value" in page.text("#edit-conflict"), "the other's value")
     assert "It is now 30." in page.text("#edit-conflict")
+    # The last refusal was the same one.
+    page.browser.execute_script("document.querySelector('#edit-result').textContent = '';")
     page.one("#edit-form button.main").click()
     page.until(lambda: "24 revision" in page.text("#edit-result"), "the refusal")
     assert page.one("#value").get_attribute("value") == "7"
@@ -314,6 +316,8 @@ def query(page):
     page.until(lambda: page.text("#query-result") == "2 values are marked.", "the count")
     page.until(lambda: [each.text for each in page.all(".tree .marked")] == ['"price": 12', '"price": 22'], "the marks")
     page.picture("query")
+    page.write("#query", "$[?@[\"it's\"]]\n")
+    page.until(lambda: "No value is found: `@` is each member of the document" in page.text("#query-result"), "the warning")
     page.write("#query", "$..[\n")
     page.until(lambda: "JSONPath" in page.text("#query-result strong"), "the refusal of the query")
     # The meaning, the place and the advice are apart.
@@ -350,7 +354,9 @@ def see_earlier_changes(page):
     page.browser.refresh()
     page.until(lambda: page.text("#live") == "live", "the stream of changes")
     page.until(lambda: "long created" in page.text("#feed"), "a change from before")
-    assert len(page.all("#feed .earlier")) == min(20, page.ask("GET", "status")["seq"]) and not page.all("#feed time")
+    earlier = min(20, page.ask("GET", "status")["seq"])
+    page.until(lambda: len(page.all("#feed .earlier")) == earlier, "the others from before")
+    assert not page.all("#feed time")
     page.picture("earlier")
     page.click("#names a[href='#/books']")
     page.until(lambda: page.text("#title") == "books", "another document")

@@ -4,9 +4,10 @@
     test_embedded.py PROGRAM [--long] [--object FILE] [--unproved] [--only WORD]
 
 PROGRAM is the built `jpstore`. The object is that of the gate, as `clients/c/build` has it; --object names another one for
-tests, and --unproved takes one that wasn't proved. --long kills the host 200 times and not 20, counts to 720 and not
-to 120, feeds every case of `stack.py`, and looks for races. What a machine lacks (Debian's rustc, valgrind, Python's headers) is installed from Debian's
-packages if this user may do so, and else fails. The last line is `N passed, M failed`.
+tests, and --unproved takes one that wasn't proved. --long kills the host 200 times and not 20, counts to 720 over
+360 kills and not to 120 over 60, feeds every case of `stack.py`, and looks for races. What a machine lacks (Debian's rustc,
+valgrind, Python's headers) is installed from Debian's packages if this user may do so, and else fails. The last line is
+`N passed, M failed`.
 """
 import argparse
 import ctypes
@@ -51,6 +52,9 @@ WANTED = {"cc": "gcc", "valgrind": "valgrind", "/usr/bin/cargo": "cargo", "/usr/
 DEBIAN_RUST = {"RUSTC": "/usr/bin/rustc", "RUSTDOC": "/usr/bin/rustdoc", "PATH": "/usr/bin:/bin"}
 
 WANTED_CRATES = {"serde_json-1*": "librust-serde-json-dev", "sha2-0.10*": "librust-sha2-dev"}
+# More orders than a process counts till it is killed.
+NEVER = str(10**12)
+
 DEBIAN_CRATES = """[source.crates-io]
 replace-with = "debian"
 [source.debian]
@@ -75,7 +79,7 @@ def run(words, given=None, seconds=600, **more):
 
 def same(what, found, wanted):
     if found != wanted:
-        raise Failed("%s: %r, and should be %r" % (what, found[-300:], wanted[-300:]))
+        raise Failed("%s: %s, and should be %s" % (what, repr(found)[-300:], repr(wanted)[-300:]))
 
 
 def install_missing():
@@ -319,7 +323,7 @@ class Embedded:
             data = b"".join(stack.line_bytes(line) + b"\n" for line in case.lines)
             with open(lines, "wb") as file:
                 file.write(data)
-            done = subprocess.run([deep, lines], stdout=subprocess.PIPE, stderr=subprocess.PIPE, timeout=120)
+            done = subprocess.run([deep, lines], stdout=subprocess.PIPE, stderr=subprocess.PIPE, timeout=600)
             if done.returncode:
                 raise Failed("%s: ended with %d" % (case.name, done.returncode))
             same(case.name, done.stdout, run([self.program, "mem", "--sectors", "65536"], given=data))
@@ -365,18 +369,30 @@ class Embedded:
     def counting(self):
         """Processes that share a file count in it, each order exactly once, though they are killed at random moments."""
         counter = self.example(RUST_CLIENT, "target", "cargo", "counting", {})
-        share = 120 if self.words.long else 20
+        kills, share = (360, 120) if self.words.long else (60, 20)
         names = ["till-%d" % number for number in range(6)]
         file = self.new_store("counted", "total", *names)
-        kills = kills_until_done({name: [counter, file, name, str(share)] for name in names})
-        print("%d counted by %d processes, over %d kills" % (share * len(names), len(names), kills))
-        if kills == 0:
-            raise Failed("no process was killed")
-        wanted = {"total": share * len(names), **dict.fromkeys(names, share)}
-        asked = [{"cmd": "get", "name": name, "path": ""} for name in wanted] + [{"cmd": "mark", "key": name} for name in names]
-        told = list(map(json.loads, run([self.program, "serve", file], given=lines_of(asked)).splitlines()))
-        same("the counts", [reply.get("value") for reply in told[:7]], list(wanted.values()))
-        same("the marks", [reply.get("mark") for reply in told[7:]], [str(share)] * len(names))
+        counting = {name: [counter, file, name] for name in names}
+        made, rounds, pause = dict.fromkeys(names, 0), 0, 0.04
+        # How much is counted between two kills is the machine's: they are killed until enough of them have counted enough.
+        while not rounds or sum(made.values()) < share * len(names):
+            kill_one_after_another({name: [*words, NEVER] for name, words in counting.items()}, kills, pause)
+            made, rounds, pause = self.counted(file, names), rounds + 1, 2 * pause
+        print("%d counted by %d processes, over %d kills" % (sum(made.values()), len(names), rounds * kills))
+        last = [subprocess.Popen([*words, str(made[name] + share)]) for name, words in counting.items()]
+        same("how they end", [process.wait() for process in last], [0] * len(names))
+        same("the counts", self.counted(file, names), {name: count + share for name, count in made.items()})
+
+    def counted(self, file, names):
+        """How much each has counted, which its mark has too, and which is the total together."""
+        asked = [{"cmd": "get", "name": name, "path": ""} for name in ["total", *names]] + [{"cmd": "mark", "key": name} for name in names]
+        lines = map(json.loads, run([self.program, "serve", file], given=lines_of(asked)).splitlines())
+        # After a kill within a commit the opening says first what its slots say.
+        told = [line for line in lines if "slots" not in line]
+        total, *counts = [reply.get("value") for reply in told[:1 + len(names)]]
+        same("the total", total, sum(counts))
+        same("the marks", [int(reply["mark"] or 0) for reply in told[1 + len(names):]], counts)
+        return dict(zip(names, counts))
 
     def new_store(self, name, *counters):
         """A file of format 3, with documents that are 0."""
@@ -505,32 +521,24 @@ def lines_of(commands):
     return "".join(json.dumps(command) + "\n" for command in commands).encode()
 
 
-def kills_until_done(commands):
-    """Runs commands of these names at once, and kills one after another at random moments, until each has ended by itself.
+def kill_one_after_another(commands, kills, pause):
+    """Runs commands of these names, none of which ends by itself, and kills one after another at random moments, so often.
 
-    One that was killed is run again. Answers how often that was.
+    One that was killed is run again, but not at the end, when all are killed.
     """
-    kills, dice = 0, random.Random(time.time_ns())
+    dice = random.Random(time.time_ns())
     running = {name: subprocess.Popen(words) for name, words in commands.items()}
     try:
-        while running:
-            # Ever longer, so that it ends on a slow machine too.
-            time.sleep(dice.uniform(0.0, 0.04 * 1.01 ** kills))
-            name, process = dice.choice(list(running.items()))
-            process.kill()
-            code = process.wait()
-            if code == -signal.SIGKILL:
-                kills += 1
-                running[name] = subprocess.Popen(commands[name])
-            elif code == 0:
-                del running[name]
-            else:
-                raise Failed("%s ended with %d" % (name, code))
+        for _ in range(kills):
+            time.sleep(dice.uniform(0.0, pause))
+            name = dice.choice(list(running))
+            running[name].kill()
+            same("how %s ends" % name, running[name].wait(), -signal.SIGKILL)
+            running[name] = subprocess.Popen(commands[name])
     finally:
         for process in running.values():
             process.kill()
             process.wait()
-    return kills
 
 
 def written(folder, name, text):

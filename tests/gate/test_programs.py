@@ -18,6 +18,8 @@ import subprocess
 import sys
 import tempfile
 
+from another_user import NOBODY, become, for_another
+
 CREATE = '{"cmd":"create","doc":{"a":1},"name":"d","schema":true}\n'
 DONE = '{"ok":true,"seq":1}\n'
 SIXTEEN = ["--sectors", "16"]
@@ -29,11 +31,11 @@ SLOTS = [0, 32, 64, 96]
 ROOT = os.path.dirname(os.path.dirname(os.path.dirname(os.path.abspath(__file__))))
 FORMAT_1 = os.path.join(ROOT, "tests", "data", "format_1.store")
 VERSION = os.path.join(ROOT, "VERSION")
-PROTOCOL = os.path.join(ROOT, "docs", "use", "PROTOCOL.md")
-# A user without rights of his own, and his group.
-NOBODY = 65534
+MANUAL = os.path.join(ROOT, "packaging", "jpstore.1")
 # The causes that `--why` names.
 CAUSES = ["exists", "missing", "folder", "denied", "read-only", "descriptors", "other"]
+# How long a program may take, in seconds.
+PATIENCE = 600
 
 
 class Wrong(Exception):
@@ -55,10 +57,7 @@ class Jpstore:
         def limit():
             if umask is not None:
                 os.umask(umask)
-            if user is not None:
-                os.setgroups([])
-                os.setgid(user)
-                os.setuid(user)
+            become(user)
             if most_memory is not None:
                 resource.setrlimit(resource.RLIMIT_AS, (most_memory, most_memory))
             if most_bytes is not None:
@@ -66,7 +65,7 @@ class Jpstore:
                 resource.setrlimit(resource.RLIMIT_FSIZE, (most_bytes, most_bytes))
 
         source = {"input": given} if stdin is None else {"stdin": stdin}
-        return subprocess.run([self.program, *words], stdout=stdout, stderr=subprocess.PIPE, text=True, preexec_fn=limit, timeout=60, **source)
+        return subprocess.run([self.program, *words], stdout=stdout, stderr=subprocess.PIPE, text=True, preexec_fn=limit, timeout=PATIENCE, **source)
 
     def shows(self, *words, output="", errors="", status=0, **how):
         """The program ends in this way."""
@@ -172,10 +171,8 @@ def why_a_file_is_not_made_or_opened(jpstore):
 
 def as_nobody(jpstore):
     """The same program for a user who may not read what is root's; for one who isn't root, himself."""
-    os.chmod(jpstore.folder, 0o755)
-    program = os.path.join(jpstore.folder, "program")
-    shutil.copy(jpstore.program, program)
-    return Jpstore(program, jpstore.folder), {"user": NOBODY} if os.geteuid() == 0 else {}
+    program, user = for_another(jpstore.program, jpstore.folder)
+    return Jpstore(program, jpstore.folder), {} if user is None else {"user": user}
 
 
 def why_a_user_without_rights_makes_and_opens_no_file(jpstore):
@@ -205,10 +202,10 @@ def other_faults_are_told_alike_with_and_without_why(jpstore):
         raise Wrong(f"mem has no file: {ended}")
 
 
-def the_page_has_each_cause(_jpstore):
-    with open(PROTOCOL) as page:
-        shown = re.search(r"^\| `cause` .*?\n\n", page.read(), re.MULTILINE | re.DOTALL)[0]
-    if re.findall(r"^\| `([a-z-]+)` ", shown, re.MULTILINE)[1:] != CAUSES:
+def the_manual_page_has_each_cause(_jpstore):
+    with open(MANUAL) as page:
+        shown = re.search(r"^\.Ss Causes\n.*?^\.El\n", page.read(), re.MULTILINE | re.DOTALL)[0]
+    if re.findall(r"^\.It Ql ([a-z-]+)$", shown, re.MULTILINE) != CAUSES:
         raise Wrong(f"the page has {shown}")
 
 
@@ -538,7 +535,9 @@ def formats_1_and_2_have_no_slots(jpstore):
 PROFILES = [
     ({"pattern": "^a$"}, 41, 0), ({"pattern": "b"}, 41, 45), ({"pattern": "("}, 41, 40), ({"pattern": 5}, 41, 40), ({"pattern": "^(?=a)"}, 41, 40),
     ({"pattern": "a" * 4096}, 41, 45), ({"pattern": "a" * 4097}, 41, 44), ({"pattern": "\u00e9" * 2049}, 41, 44),
-    ({"allOf": [{"pattern": "a"}] * 64}, 41, 0), ({"allOf": [{"pattern": "a"}] * 65}, 41, 44), ({"pattern": "((a{100}){100}){100}"}, 41, 63),
+    ({"allOf": [{"pattern": "a"}] * 64}, 41, 0), ({"allOf": [{"pattern": "a"}] * 65}, 41, 44), ({"pattern": "((a{100}){100}){100}"}, 41, 44),
+    ({"pattern": r"^\w{1,255}$", "items": {"pattern": "("}}, 41, 40), ({"pattern": r"^\w{1,255}$", "not": {"$ref": "x"}}, 41, 42),
+    ({"pattern": r"^\w{1,255}$", "$ref": "#"}, 41, 43), ({"pattern": r"^\w{1,255}$", "maxLength": 0}, 41, 44),
     ({"pattern": "(", "minLength": -1}, 40, 40), ({"pattern": "(", "$ref": "x"}, 41, 40), ({"pattern": "a", "$ref": "x"}, 41, 42),
     ({"dependentSchemas": {"b": False}}, 41, 0), ({"dependentSchemas": {"b": 5}}, 41, 40), ({"dependentSchemas": []}, 41, 40),
     ({"dependentSchemas": {"b": {"pattern": "("}}}, 41, 40), ({"dependentSchemas": {"b": {"$ref": "#"}}}, 41, 43),
@@ -577,6 +576,40 @@ def formats_read_their_keywords(jpstore):
             for (schema, *numbers), reply in zip(PROFILES, replies):
                 if reply.get("number", 0) != number_of(numbers[version - 2]):
                     raise Wrong(f"format {version}, {compact(schema)[:200]}: {reply}")
+        os.unlink(jpstore.file)
+
+
+# Patterns whose tables take more room than those of a schema may.
+LARGE_PATTERNS = [r"^\w{1,255}$", r"^\p{L}{1,100}$", r"^[\w.-]{1,64}@[\w.-]{1,255}$"]
+
+
+def lines_with_large_patterns():
+    """Lines among which some bring patterns that are too large, each with what it is answered if it comes alone."""
+    seq = 0
+    for place, pattern in enumerate(LARGE_PATTERNS * 8):
+        schema = [{"pattern": pattern}, {"patternProperties": {pattern: True}}, {"items": {"pattern": "a"}, "not": {"pattern": pattern}}][place % 3]
+        good, heavy = ({"cmd": "create", "doc": {"a": place}, "name": f"{word}{place}", "schema": rules} for word, rules in (("d", True), ("h", schema)))
+        seq += 1
+        yield good, {"ok": True, "seq": seq}
+        large = {"error": "schema-size", "number": 44, "ok": False}
+        yield heavy, large
+        yield {"cmd": "schema", "name": f"d{place}", "schema": schema}, large
+        yield {"changes": [{"cmd": "delete", "name": f"d{place}"}, heavy], "cmd": "transaction"}, {"change": 1, **large}
+        # What stands before the schema is told before it.
+        yield {**heavy, "name": f"d{place}"}, {"error": "exists", "number": 20, "ok": False}
+
+
+def patterns_that_are_too_large_are_refused_alone(jpstore):
+    lines, wanted = zip(*lines_with_large_patterns())
+    given = "\n".join(map(compact, lines))
+    for words in ([], ["--batch", "64"]):
+        jpstore.run("format", jpstore.file, "--sectors", "4096", "--format", "3")
+        replies = [json.loads(line) for line in jpstore.run("serve", jpstore.file, *words, given=given).stdout.splitlines()]
+        for line, reply, asked in zip(lines, replies, wanted, strict=True):
+            if reply != asked:
+                raise Wrong(f"{words}, {compact(line)}: {reply}")
+        # What was stored is there after another opening, and nothing else.
+        jpstore.shows("serve", jpstore.file, given='{"cmd":"list"}\n', output=compact({"names": [f"d{place}" for place in range(len(LARGE_PATTERNS) * 8)], "ok": True}) + "\n")
         os.unlink(jpstore.file)
 
 
@@ -887,13 +920,13 @@ def each_reply_comes_before_more_input_is_awaited(jpstore):
         for seq, line in enumerate([CREATE, '{"cmd":"delete","name":"d"}\n', CREATE], 1):
             served.stdin.write(line.encode())
             served.stdin.flush()
-            if not select.select([served.stdout], [], [], 20)[0]:
+            if not select.select([served.stdout], [], [], PATIENCE)[0]:
                 served.kill()
                 raise Wrong(f"no reply to line {seq} while the input is open")
             if served.stdout.readline() != f'{{"ok":true,"seq":{seq}}}\n'.encode():
                 raise Wrong(f"another reply to line {seq}")
         served.stdin.close()
-        if served.wait(20) != 0:
+        if served.wait(PATIENCE) != 0:
             raise Wrong("it didn't end well")
 
 
@@ -910,7 +943,7 @@ def words_that_are_no_call_end_with_2(jpstore):
         "serve f --halt", "serve f --sparse", "upgrade", "upgrade f g", "upgrade f --format 1",
         "upgrade f --format 4", "upgrade f --format", "upgrade f --sectors 16",
         "mem --sectors 16 --why", "check f --why --why", "check f --strict=yes", "check f --strict --strict", "repair", "repair f g", "repair f --strict",
-        "copy f g --sectors 16 --strict", "serve f --why=yes", "check f --mode 600", "copy f g --sectors 16 --mode 600",
+        "salvage f --strict", "mem --sectors 16 --strict", "serve f --why=yes", "check f --mode 600", "copy f g --sectors 16 --mode 600",
         "format f --sectors 16 --mode", "format f --sectors 16 --mode 8", "format f --sectors 16 --mode 600 --mode 600",
         "format f --sectors 160 --id", "format f --sectors 160 --id 0", f"format f --sectors 160 --id {IDENTITY}0", f"format f --sectors 160 --id {IDENTITY[:-1]}g",
         f"copy f g --sectors 160 --id {IDENTITY[1:]}", f"upgrade f --id -{IDENTITY[1:]}", f"check f --id {IDENTITY}", f"serve f --id {IDENTITY}",
@@ -969,6 +1002,9 @@ def help_ends_with_0(jpstore):
         (["check", "--help"], "      --why "),
         (["check", "--help"], "      --strict "),
         (["serve", "--help"], "      --strict "),
+        (["copy", "--help"], "      --strict "),
+        (["upgrade", "--help"], "      --strict "),
+        (["dump", "--help"], "      --strict "),
         (["repair", "--help"], "Usage: jpstore repair [OPTIONS] <FILE>\n"),
         (["upgrade", "--help"], "Usage: jpstore upgrade [OPTIONS] <FILE>\n"),
         (["mem", "--help"], "Usage: jpstore mem [OPTIONS] --sectors <N>\n"),
@@ -1013,7 +1049,7 @@ TESTS = [
     why_a_file_is_not_made_or_opened,
     why_a_user_without_rights_makes_and_opens_no_file,
     other_faults_are_told_alike_with_and_without_why,
-    the_page_has_each_cause,
+    the_manual_page_has_each_cause,
     a_new_file_is_its_owners_alone_unless_its_mode_is_given,
     a_copy_has_the_rights_of_its_source,
     a_copy_has_the_owner_and_the_group_that_its_maker_may_give,
@@ -1033,6 +1069,7 @@ TESTS = [
     what_the_slots_say_is_told,
     formats_1_and_2_have_no_slots,
     formats_read_their_keywords,
+    patterns_that_are_too_large_are_refused_alone,
     a_schema_of_profile_3_stays_in_format_3,
     a_mark_is_set_with_its_changes_or_not_at_all,
     a_mark_stays_in_format_3,

@@ -65,13 +65,17 @@ def prepare():
 def tests_of(parts, program, rounds, seed):
     """The tests of these parts: what each is called, and a function of a folder."""
     import replica_cases
+    import replica_kept
+    import replica_reach
+    import replica_space
     import replica_stops
     import replica_wrong
     tests = []
     if "chaos" in parts:
         tests.append((f"chaos of {rounds} rounds", lambda folder: run_chaos(folder, program, rounds, seed)))
     if "cases" in parts:
-        cases = [*replica_cases.CASES, *replica_stops.CASES]
+        modules = [replica_cases, replica_kept, replica_reach, replica_space, replica_stops]
+        cases = [case for module in modules for case in module.CASES]
         tests += [(what, lambda folder, case=case: case(folder, program)) for what, case in cases]
     if "wrong" in parts:
         tests += [(f"found: {wrong.what}", lambda folder, wrong=wrong: wrong.is_found(folder, program)) for wrong in replica_wrong.WRONG]

@@ -34,7 +34,7 @@ from jpstore.faults.references import References  # noqa: E402
 from jpstore.patterns import read_dialect  # noqa: E402
 
 MATCHING = ["pattern", "patternProperties"]
-INVALID, MEMORY = 45, 63
+LARGE, INVALID = 44, 45
 
 
 def value_in(path):
@@ -105,8 +105,8 @@ def in_profile_3(store, path, documents, chance):
     """How a store of format 3 reads a schema when it is adapted; None if something is wrong."""
     folder = os.path.dirname(os.path.abspath(path))
     adapted = Schema.adapt(value_in(path), read=lambda uri: _beside(folder, uri), profile=3)
-    if adapted.is_read and refusal_of(store, adapted.schema) == MEMORY:
-        return "in profile 3 with too large patterns (63)"
+    if adapted.is_read and refusal_of(store, adapted.schema) == LARGE:
+        return "in profile 3 with too large patterns (44)"
     if adapted.is_read:
         return "adapted in profile 3" if agrees(store, path, adapted.schema, documents, chance) else None
     if not all(fault.number and fault.message and is_place(adapted.schema, fault.place) for fault in adapted.left):

@@ -391,13 +391,13 @@ def formatted(place, sectors, number):
 
 
 def start_hub(place, words):
-    return subprocess.Popen(place.words("hub", place.file, "--socket", place.path("socket"), "--wait", "30", *words),
+    return subprocess.Popen(place.server_words(place.file, "--socket", place.path("socket"), "--wait", "30", *words),
                             stdout=subprocess.PIPE, env=place.environment())
 
 
 def one_life(place, start=None):
     """A hub from its start to its end; answers how it ended."""
-    hub = start() if start else start_hub(place, random.choice([(), (), ("--pump", "2")]))
+    hub = start() if start else start_hub(place, random.choice([(), (), ("--pump", "2"), ("--cache", "1"), ("--cache", "3000")]))
     how = "start" if random.random() < 0.15 else random.choice(["hub", "hub", "program", "program", "term"])
     if how == "start":
         time.sleep(random.uniform(0, 0.25))

@@ -316,7 +316,7 @@ def free_port():
 def start_server(place, port):
     """Starts a server, whose first line of output says that it serves."""
     words = place.server_words(place.file, "--socket", place.path("socket"), "--listen", f"127.0.0.1:{port}", "--wait", "30",
-                               *random.choice([(), (), ("--pump", "2"), ("--no-cache",)]))
+                               *random.choice([(), ("--pump", "2"), ("--no-cache",), ("--cache", "1"), ("--cache", "3000")]))
     return subprocess.Popen(words, stdout=subprocess.PIPE, stderr=subprocess.DEVNULL, env=place.environment())
 
 

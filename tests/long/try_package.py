@@ -16,6 +16,7 @@ if this user may. The last line is `N passed, M failed`.
 import argparse
 import contextlib
 import hashlib
+import json
 import os
 import pathlib
 import re
@@ -26,6 +27,8 @@ import subprocess
 import sys
 import tempfile
 import time
+import urllib.error
+import urllib.request
 
 HERE = pathlib.Path(__file__).resolve().parent
 sys.dont_write_bytecode = True
@@ -74,9 +77,13 @@ INSTALLED = [
     "usr/share/man/man1/jpstored.1.gz",
     "usr/share/man/man5/jpstore-format.5.gz",
     "usr/share/man/man7/jpstore-protocol.7.gz",
+    "usr/share/man/man7/jpstore-refusals.7.gz",
+    "usr/share/man/man7/jpstore-replica.7.gz",
+    "usr/share/man/man7/jpstore-schemas.7.gz",
     "usr/share/bash-completion/completions/jpstore",
     "usr/share/zsh/vendor-completions/_jpstore",
 ]
+IN_ARCHIVE = ["bin/jpstore", "bin/jpstore-cli", "bin/jpstored", "share/man/man1/jpstore-cli.1", "share/man/man1/jpstored.1"]
 # Registers that Debian's own tools keep, and what changes by itself.
 CHANGING = ("/dev", "/etc/ld.so.cache", "/proc", "/root", "/run", "/sys", "/tmp", "/var/cache", "/var/lib/apt", "/var/lib/dpkg", "/var/lib/etcd",
             "/var/lib/jpstore", "/var/lib/systemd", "/var/log")
@@ -150,10 +157,13 @@ class Files:
             same(f"the object in {library}", [found.decode() for found in re.findall(rb"program-sha256:(\w{64})", contents)], made_of)
 
     def archive(self):
-        """It is of use at any place: the program, the library by pkg-config, and the Python package."""
+        """It is of use at any place: the programs, the library by pkg-config, and the Python package."""
         top = self.unpacked.parent / "archive"
         top.mkdir()
         run(["tar", "-xf", next(self.dist.glob("*-x86_64-linux.tar.gz")), "-C", top, "--strip-components=1"])
+        missing = [name for name in IN_ARCHIVE if not (top / name).is_file()]
+        same("missing files of the archive", missing, [])
+        self._parts_by_themselves(top)
         environment = {"PATH": f"{top}/bin:/usr/bin:/bin", "PYTHONPATH": f"{top}/share/jpstore/python", "PYTHONDONTWRITEBYTECODE": "1"}
         go_through_readme(lambda words: run(["sh", "-ec", words], cwd=top, env=environment))
         for language, name in (("c", "main.c"), ("python", "main.py")):
@@ -162,6 +172,21 @@ class Files:
                        "PYTHONPATH": f"{top}/share/jpstore/python", "PYTHONDONTWRITEBYTECODE": "1"}
         for command in ("cc main.c $(pkg-config --cflags --libs jpstore) -o main && ./main", "rm inventory; python3 main.py"):
             same(command, run(["sh", "-ec", command], cwd=top, env=environment), printed_by_programs())
+
+    def _parts_by_themselves(self, top):
+        """The programs of the archive find one another and the Python package, though no variable names any."""
+        environment = {"PATH": "/usr/bin:/bin", "PYTHONDONTWRITEBYTECODE": "1"}
+        words = f"""{top}/bin/jpstore-cli format parts --size 2M
+            echo '{{"maxProperties": 1}}' > one.json
+            {top}/bin/jpstore-cli new parts shelf-1 '{{"nuts": 12}}' --schema one.json
+            {top}/bin/jpstore-cli get parts shelf-1 /nuts"""
+        same("jpstore-cli", run(["sh", "-ec", words], cwd=top, env=environment).splitlines()[-1:], ["12"])
+        server = subprocess.Popen([top / "bin" / "jpstored", "parts", "--listen", "127.0.0.1:8081"], cwd=top, env=environment)
+        try:
+            until(lambda: faults_of_refusal("http://127.0.0.1:8081/documents/shelf-1") == ["/"], "the reason of a refusal over HTTP")
+        finally:
+            server.terminate()
+            server.wait(60)
 
     def lintian(self):
         said = run(["lintian", "--allow-root", "--fail-on", "error,warning", "--tag-display-limit", "0", *packages_in(self.dist), *self.dist.glob("*.dsc")])
@@ -178,6 +203,16 @@ class Files:
         """Each service is judged by systemd to be exposed to 2.0 at most."""
         for unit in sorted((self.unpacked / "lib/systemd/system").glob("*.service")):
             run(["systemd-analyze", "security", "--offline=true", "--threshold=20", unit])
+
+
+def faults_of_refusal(url):
+    """The places of the faults that a server tells of a document that isn't valid."""
+    asked = urllib.request.Request(url, b'{"nuts": 12, "bolts": 1}', {"Content-Type": "application/json"}, method="PUT")
+    try:
+        urllib.request.urlopen(asked).close()
+    except urllib.error.HTTPError as refused:
+        return [fault["place"] or "/" for fault in json.loads(refused.read()).get("errors", [])]
+    raise Failed(f"{url} took a document that isn't valid")
 
 
 def packages_in(dist):
