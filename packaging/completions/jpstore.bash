@@ -1,4 +1,4 @@
-# bash completion for jpstore
+# bash completion for jpstore, written by tools/protocol.py from docs/protocol.toml
 
 _jpstore() {
     local cur prev words cword
@@ -11,15 +11,15 @@ _jpstore() {
     --sectors | --format | --mode | --id | --batch | --pump | --history) return ;;
     esac
     case ${words[1]}$cur in
-    serve-*) COMPREPLY=($(compgen -W "--batch --pump --history --strict --why --help" -- "$cur")) ;;
     format-*) COMPREPLY=($(compgen -W "--sectors --format --mode --id --sparse --why --help" -- "$cur")) ;;
-    upgrade-*) COMPREPLY=($(compgen -W "--format --id --why --help" -- "$cur")) ;;
-    copy-*) COMPREPLY=($(compgen -W "--sectors --format --id --why --help" -- "$cur")) ;;
-    mem-*) COMPREPLY=($(compgen -W "--sectors --history --help" -- "$cur")) ;;
+    serve-*) COMPREPLY=($(compgen -W "--batch --pump --history --strict --why --help" -- "$cur")) ;;
     check-*) COMPREPLY=($(compgen -W "--strict --deep --why --help" -- "$cur")) ;;
-    salvage-*) COMPREPLY=($(compgen -W "--frames --why --help" -- "$cur")) ;;
-    dump-*) COMPREPLY=($(compgen -W "--read-only --why --help" -- "$cur")) ;;
     repair-*) COMPREPLY=($(compgen -W "--why --help" -- "$cur")) ;;
+    salvage-*) COMPREPLY=($(compgen -W "--frames --why --help" -- "$cur")) ;;
+    dump-*) COMPREPLY=($(compgen -W "--read-only --strict --why --help" -- "$cur")) ;;
+    copy-*) COMPREPLY=($(compgen -W "--sectors --format --id --strict --why --help" -- "$cur")) ;;
+    upgrade-*) COMPREPLY=($(compgen -W "--format --id --strict --why --help" -- "$cur")) ;;
+    mem-*) COMPREPLY=($(compgen -W "--sectors --history --help" -- "$cur")) ;;
     help*) COMPREPLY=($(compgen -W "format serve check repair salvage dump copy upgrade mem" -- "$cur")) ;;
     format* | serve* | check* | repair* | salvage* | dump* | copy* | upgrade*) _filedir ;;
     esac
