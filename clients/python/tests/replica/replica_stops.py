@@ -1,17 +1,20 @@
-"""How nodes end at SIGTERM, whatever etcd does meanwhile: cases as those of `replica_cases`."""
+"""How nodes end at SIGTERM, whatever etcd does, and what a killed one leaves: cases as those of `replica_cases`."""
 import contextlib
+import fcntl
 import json
 import os
 import random
 import signal
 import socket
+import struct
 import subprocess
+import termios
 import threading
 import time
 
 import replicas
-from replica_cases import are_same, cluster, create, get, put
-from replicas import FAREWELL, NODES
+from replica_cases import LONG, are_same, cluster, create, get, put
+from replicas import FAREWELL, NODES, crashing_program, waited
 from support import PATIENCE
 
 ROUNDS = 6
@@ -160,5 +163,35 @@ def ended_in_the_midst_of_answers(folder, program):
             nodes.wait("a")
 
 
+def killed_amid_a_line(folder, program):
+    """A node that is killed as it hands on a long line leaves its file to the next start."""
+    with cluster(folder, program, LONG, 6_000_000) as nodes:
+        nodes.ask("a", create("x"))
+        are_same(nodes)
+        for under in (program, crashing_program(folder, program, 0)):
+            nodes.stop("c")
+            nodes.start("c", program=under)
+            # So that it has measured what it must before that line.
+            nodes.wait("c")
+            nodes.ask("c", put("x", 0))
+            stopped_program = nodes.program_of("c")
+            os.kill(stopped_program, signal.SIGSTOP)
+            try:
+                nodes.ask("a", put("x", "x" * 1_000_000))
+                waited(lambda pid=stopped_program: waits_to_be_read(pid) > 1 << 15, "a part of a line")
+                nodes.kill("c")
+            finally:
+                os.kill(stopped_program, signal.SIGCONT)
+            nodes.start("c", program=under)
+            are_same(nodes)
+
+
+def waits_to_be_read(pid):
+    """How many bytes wait in the standard input of a process."""
+    with open(f"/proc/{pid}/fd/0", "rb", buffering=0) as pipe:
+        return struct.unpack("i", fcntl.ioctl(pipe, termios.FIONREAD, b"    "))[0]
+
+
 CASES = [(case.__doc__.partition("\n")[0].rstrip("."), case) for case in (
-    ended_with_etcd, ended_as_etcd_hangs, ended_as_a_name_is_looked_up, ended_in_the_midst_of_answers)]
+    ended_with_etcd, ended_as_etcd_hangs, ended_as_a_name_is_looked_up, ended_in_the_midst_of_answers,
+    killed_amid_a_line)]

@@ -4,6 +4,7 @@ import contextlib
 import json
 import os
 import random
+import shlex
 import shutil
 import signal
 import socket
@@ -14,6 +15,7 @@ import time
 from jpstore.replica.engine import Engine, members_in, packed
 from support import PACKAGE, PATIENCE
 
+HERE = os.path.dirname(os.path.abspath(__file__))
 LOG = "test"
 
 # The folder of the package that nodes run; a wrong one takes its place.
@@ -27,71 +29,21 @@ BOUND = ["setpriv", "--pdeathsig", "KILL"]
 _TIMES = ["--heartbeat-interval", "50", "--election-timeout", "500"]
 
 
-# A program that is handed one line at a time, and dies at random with replies that nobody got.
-CRASHING = """#!{python}
-import os, random, subprocess, sys
-words = ["{program}", *sys.argv[1:]]
-if words[1] != "serve":
-    os.execv(words[0], words)
-program = subprocess.Popen(words, stdin=subprocess.PIPE, stdout=subprocess.PIPE)
-held = []
-for line in sys.stdin.buffer:
-    changes = b'"cmd":"transaction"' in line
-    program.stdin.write(line if not changes else line + b'{{"cmd":"status"}}\\n')
-    program.stdin.flush()
-    held.append(program.stdout.readline())
-    if changes:
-        program.stdout.readline()
-    if changes and not os.path.exists("{calm}") and random.random() < {chance}:
-        program.kill()
-        program.wait()
-        os._exit(9)
-    if not changes or random.random() < 0.3:
-        sys.stdout.buffer.write(b"".join(held))
-        sys.stdout.buffer.flush()
-        held.clear()
-program.stdin.close()
-sys.stdout.buffer.write(b"".join(held) + program.stdout.read())
-sys.stdout.buffer.flush()
-sys.exit(program.wait())
-"""
-
-
 def crashing_program(folder, program, chance):
     """A program that dies after a transaction with this chance, until there is a file `calm` in the folder."""
-    return _script(f"{folder}/crashing",
-                   CRASHING.format(python=sys.executable, program=program, calm=f"{folder}/calm", chance=chance))
+    return _standing_in(f"{folder}/crashing", "crashing", chance, f"{folder}/calm", program)
 
 
-# A program that has no memory for lines with this word.
-LACKING = """#!{python}
-import os, subprocess, sys
-words = ["{program}", *sys.argv[1:]]
-if words[1] != "serve":
-    os.execv(words[0], words)
-program = subprocess.Popen(words, stdin=subprocess.PIPE, stdout=subprocess.PIPE)
-for line in sys.stdin.buffer:
-    reply = b'{{"error":"memory","number":63,"ok":false}}\\n'
-    if b"{word}" not in line:
-        program.stdin.write(line + b'{{"cmd":"status"}}\\n')
-        program.stdin.flush()
-        reply = program.stdout.readline()
-        program.stdout.readline()
-    sys.stdout.buffer.write(reply)
-    sys.stdout.buffer.flush()
-program.stdin.close()
-sys.exit(program.wait())
-"""
+def lacking_program(folder, program, text):
+    """A program that has no memory for lines with a text, as a machine with little memory."""
+    return _standing_in(f"{folder}/lacking", "lacking", text, program)
 
 
-def lacking_program(folder, program, word):
-    """A program that has no memory for lines with a word, as a machine with little memory."""
-    return _script(f"{folder}/lacking", LACKING.format(python=sys.executable, program=program, word=word))
-
-
-def _script(path, text):
+def _standing_in(path, *words):
+    """A script that takes the place of a program."""
+    given = shlex.join([sys.executable, f"{HERE}/replica_program.py", *map(str, words)])
     with open(path, "w", encoding="utf-8") as file:
-        file.write(text)
+        file.write(f'#!/bin/sh\nexec {given} "$@"\n')
     os.chmod(path, 0o700)
     return path
 

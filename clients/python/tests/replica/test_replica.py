@@ -20,9 +20,11 @@ from jpstore.replica.node import Settings
 from jpstore.replica.reach import Reach
 from jpstore.replica.capacity import LEAST_CAPACITY, Need, Reckoning, room_of
 from jpstore.replica.tasks import end_tasks
+from jpstore.wire.commands import STATUS
 from jpstore.wire.forms import Kind
 from replica_check import Alone
 from replica_wrong import WRONG
+from replicas import crashing_program, lacking_program
 from support import PATIENCE, raised
 
 DEEP = b"[" * 130 + b"]" * 130
@@ -323,6 +325,28 @@ def test_a_node_ends_for_good_though_nothing_can_be_written_about_it(capsys, mon
     settings = Settings("a", str(tmp_path / ("f" * 250)), [], "test", str(tmp_path / "socket"))
     raised(Astray, running.run_node, settings)
     assert "f.astray cannot be written: File name too long" in capsys.readouterr().err
+
+
+@pytest.mark.parametrize("made, more", [(crashing_program, 0), (lacking_program, "heavy")])
+def test_what_stands_in_for_a_program_ends_with_it_and_with_a_node_that_was_killed(program, tmp_path, made, more):
+    file, streams = str(tmp_path / "store"), {"stdin": subprocess.PIPE, "stdout": subprocess.PIPE}
+    subprocess.run([program, "format", file, "--sectors", "4096"], check=True, stdout=subprocess.DEVNULL)
+    words = ["serve", file]
+    with subprocess.Popen([made(str(tmp_path), program, more), *words], **streams) as first:
+        first.stdin.write(STATUS)
+        first.stdin.flush()
+        assert json.loads(first.stdout.readline())["ok"]
+        in_use = subprocess.run([program, *words], stdin=subprocess.DEVNULL, stderr=subprocess.DEVNULL, check=False)
+        with subprocess.Popen([str(tmp_path / f"{made.__name__.partition('_')[0]}"), *words], **streams,
+                              stderr=subprocess.DEVNULL) as second:
+            second.stdin.write(STATUS)
+            second.stdin.flush()
+            assert second.wait(PATIENCE) == in_use.returncode != 0
+        # The rest of the line never comes.
+        first.stdin.write(STATUS[:9])
+        first.stdin.close()
+        assert first.wait(PATIENCE) == 0
+    subprocess.run([program, *words], stdin=subprocess.DEVNULL, check=True)
 
 
 def test_what_is_said_of_an_etcd_that_does_not_answer(capsys):
