@@ -4,6 +4,9 @@ If a line of the entry is refused, nothing of it is done yet. The line has its a
 tried again. After some refusals the rest is done line by line, each with a mark that says how far the entry is. Which
 way an entry takes follows from the documents before it and from its lines alone, so every node takes the same way. One
 that begins anew after the last accepted line tries those after it again, and they are refused again.
+
+A node that has no memory for an entry as a whole does it line by line too, unless lines of it were refused before the
+store judged them: a start in the midst of it would judge these by other documents.
 """
 import json
 from typing import Any, Awaitable, Callable, Deque, Dict, Iterable, List, NamedTuple, Optional, Sequence, Tuple
@@ -14,7 +17,7 @@ from .capacity import Need, Reckoning, Verdict
 from .changes import Line, line_in
 from .errors import Astray, Changed
 from .log import Agreed, Entry, EntryKind
-from .place import Place, as_told, key_of, marked
+from .place import Place, as_told, key_of, length_of_mark, marked
 from .store import MEMORY, Faulty, ReplicaStore
 from .watching import History
 
@@ -54,6 +57,8 @@ class _Task:
             self.answers[at] = refusal(number)
         #: Which lines go into its transaction, and how many the store has refused.
         self.left, self.refused = [at for at in range(len(lines)) if at not in out], 0
+        #: Whether the lines have the same answers if each is done alone, whatever memory there is.
+        self.divisible = not out
 
     def refuse(self, at: int, answer: bytes) -> None:
         """Leaves out a line that was refused."""
@@ -133,7 +138,7 @@ class Applier:
             try:
                 return self._reckoning.verdict(lines)
             except Need as need:
-                await self._reckoning.measure(need, self._store)
+                await self._reckoning.measure(need, self._store, length_of_mark(key_of(self._log), self._stored))
 
     async def _alone(self, entry: Entry) -> Done:
         """Does an entry that is no transaction of changes, or none as a whole."""
@@ -200,11 +205,11 @@ class Applier:
             if done:
                 return Done(task.entry, task.answers)
         while True:
+            if task.divisible and json.loads(reply)["number"] == MEMORY:
+                return await self._rest(task, 0)
             told = _refusal_in(reply)
             if "change" not in told:
-                if told["number"] not in _OF_FORM:
-                    raise Astray(f"the store answered {json.dumps(told)} to entry {task.entry.n}")
-                return await self._rest(task, 0)
+                return await self._undivided(task, told)
             index, begin = _line_of_change(task, told["change"])
             at = task.left[index]
             task.refuse(at, _as_alone(told, task.lines[at], begin))
@@ -218,6 +223,12 @@ class Applier:
             done, reply = await self._together([task])
             if done:
                 return Done(task.entry, task.answers)
+
+    async def _undivided(self, task: _Task, told: Dict[str, Any]) -> Done:
+        """Goes on with an entry whose refusal names none of its lines."""
+        if told["number"] not in _OF_FORM:
+            raise Astray(f"the store answered {json.dumps(told)} to entry {task.entry.n}")
+        return await self._rest(task, 0)
 
     async def _rest(self, task: _Task, begin: int) -> Done:
         """Does the lines from `begin` on, each alone, and judges it by the documents as they are then.

@@ -5,7 +5,8 @@ differ, and a transaction has the lines of many clients. So the same line could 
 refused on another. A node reckons instead, by the documents before the entry and its lines alone, and every node
 reckons the same:
 
-- Room. The documents' snapshot before the entry, and what its lines may add at most, must fit the room agreed on.
+- Room. The documents' snapshot before the entry, with the longest mark, and what its lines may add at most, must fit
+  the room agreed on.
 - Weight. What the lines may copy, and the documents that they put under other schemas, must be under what the program
   takes.
 
@@ -71,7 +72,7 @@ class Reckoning:
 
     def __init__(self, capacity: int) -> None:
         self.room = room_of(capacity)
-        # The length of a snapshot at most, and whether it is exact; nothing is known at first.
+        # The length of a snapshot with the longest mark at most, and whether it is exact; nothing is known at first.
         self._total, self._exact = math.inf, False
         self._lengths: Dict[str, int] = {}
         self._measured: Set[str] = set()
@@ -84,8 +85,7 @@ class Reckoning:
     def _without_room(self, lines: Sequence[Line]) -> Dict[int, int]:
         growth = sum(line.growth for line in lines)
         out = {place: FULL for place, line in enumerate(lines) if line.cost > self.room.changes}
-        # The mark may be longer than it was when the snapshot was measured.
-        if self._total + growth + MOST_MARK <= self.room.documents:
+        if self._total + growth <= self.room.documents:
             return out
         if not self._exact:
             raise Need(True, set())
@@ -124,10 +124,11 @@ class Reckoning:
         copied = min((before + change.length) * ((1 << min(change.copies, 20)) - 1), most)
         return copied + (before if change.takes * after > 2 * _MOST_SIBLINGS else 0)
 
-    async def measure(self, need: Need, store: ReplicaStore) -> None:
-        """Measures what a verdict needs, at the place of the log where the store is."""
+    async def measure(self, need: Need, store: ReplicaStore, mark: int) -> None:
+        """Measures what a verdict needs, at the place of the log where the store is. Its mark takes so many bytes, and
+        that of another node at this place may take others."""
         if need.total:
-            self._total, self._exact = await store.snapshot_length(), True
+            self._total, self._exact = await store.snapshot_length() - mark + MOST_MARK, True
         if need.names:
             self._lengths.update(await store.lengths(sorted(need.names)))
             self._measured |= need.names

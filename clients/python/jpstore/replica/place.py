@@ -8,9 +8,13 @@ import hashlib
 from typing import Any, Dict, NamedTuple, Optional, Sequence
 
 from ..wire.commands import line_of_transaction
+from ..wire.values import canonical
+from .changes import length_of_frames
 from .log import Agreed, Entry
 
-__all__ = ["MOST_VERSION", "Place", "as_told", "begin_of", "furthest", "key_of", "marked", "place_in"]
+__all__ = [
+    "MOST_VERSION", "Place", "as_told", "begin_of", "furthest", "key_of", "length_of_mark", "marked", "place_in",
+]
 
 #: The longest version. With numbers of 19 digits the place is then as long as the value of a mark may be.
 MOST_VERSION = 56
@@ -71,6 +75,13 @@ def furthest(stored: Place, told: Dict[str, Any], log: str, seq: int) -> Place:
     if (told.get("log"), told.get("seq")) != (log, seq):
         return stored
     return max(stored, place_in(told["place"]), key=lambda place: place.n)
+
+
+def length_of_mark(key: str, place: Optional[Place]) -> int:
+    """How many bytes the mark takes in a snapshot, where it is spelled as a creation; None is no mark."""
+    if place is None:
+        return 0
+    return length_of_frames(len(canonical({"cmd": "create", "doc": place.text, "name": key, "schema": True})), 1)
 
 
 def marked(texts: Sequence[bytes], key: str, before: Optional[Place], after: Place) -> bytes:

@@ -100,7 +100,7 @@ WRONG = [
           "                    waiting.answer.set_result(reply)\n",
           rounds=6),
     Wrong("a change that its own file has no room for is left to the store", "capacity.py",
-          "if self._total + growth + MOST_MARK <= self.room.documents:", "if True:", "full_store"),
+          "if self._total + growth <= self.room.documents:", "if True:", "full_store"),
     Wrong("a heavy entry that is sent as one transaction", "capacity.py",
           "if sum(weights.values()) <= limits.MOST_TRANSACTION_BYTES:", "if True:", "heavy_entries"),
     Wrong("a node that appends what it has no memory for", "trial.py",

@@ -10,7 +10,7 @@ from jpstore.replica.applying import Applier, OtherVersion
 from jpstore.replica.changes import LINES_OF_ENTRY, MOST_MARK
 from jpstore.replica.line_reader import MOST_TEXT, read_line
 from jpstore.replica.log import Agreed, Entry, EntryKind
-from jpstore.replica.place import MOST_VERSION, Place, begin_of, furthest, key_of, marked, place_in
+from jpstore.replica.place import MOST_VERSION, Place, begin_of, furthest, key_of, length_of_mark, marked, place_in
 from jpstore.replica.store import Faulty, ReplicaStore
 from jpstore.replica.trial import is_tried, lacks_memory
 from jpstore.wire.limits import MOST_MARK_BYTES
@@ -41,6 +41,26 @@ class Stopping:
         if roll < 2 * self._chance:
             await self._store.change(lines[:self._choose.randrange(1, len(lines) + 1)])
             raise Stop
+        return await self._store.change(lines)
+
+
+NO_MEMORY = b'{"error":"memory","number":63,"ok":false}\n'
+
+
+class Short:
+    """A store whose machine has no memory for some transactions of several changes."""
+
+    def __init__(self, store, lacks=lambda: True):
+        self._store, self._lacks = store, lacks
+
+    def __getattr__(self, name):
+        return getattr(self._store, name)
+
+    async def change(self, lines):
+        """Sends all but the first that there is no memory for."""
+        for at, line in enumerate(lines):
+            if len(json.loads(line)["changes"]) > 1 and self._lacks():
+                return [*await self._store.change(lines[:at]), NO_MEMORY, *await self._store.change(lines[at + 1:])]
         return await self._store.change(lines)
 
 
@@ -86,15 +106,17 @@ async def agreed_on(program, file):
         await store.close()
 
 
-async def done(program, file, entries, agreed, stopping=None):
-    """What the lines were answered, None for one without an answer, the state, the mark, and the count of starts."""
+async def done(program, file, entries, agreed, stopping=None, short=0.0):
+    """What the lines were answered, None for one without an answer, the mark, the state, and the count of starts. With
+    this chance there is no memory for a transaction."""
     answers, told = {}, {}
     for starts in itertools.count(1):
         store = await ReplicaStore.open(file, program)
         try:
             stored = await store.place(agreed)
             place = furthest(stored or begin_of(agreed), told, agreed.log, store.status["seq"])
-            used = Stopping(store, *stopping) if stopping else store
+            used = Short(store, lambda: stopping[0].random() < short) if short else store
+            used = Stopping(used, *stopping) if stopping else used
             applier = Applier(used, agreed, stored, place, "1")
             waiting = deque(entries[place.n:])
             while waiting:
@@ -104,14 +126,14 @@ async def done(program, file, entries, agreed, stopping=None):
                     told = applier.told()
             state = [(name, rev, await store.lengths([name])) for name, rev in await store.revisions()]
             mark, = await store.exchange([b'{"cmd":"mark","key":"%b"}\n' % key_of(agreed.log).encode()])
-            return answers, state, mark, applier.seq, applier.place, starts
-        except Stop:
+            return answers, mark, state, applier.seq, applier.place, starts
+        except (Stop, Faulty):
             pass
         finally:
             await store.close()
 
 
-def compared(program, folder, seed):
+def compared(program, folder, seed, short=0.0):
     """Does one log with an applier that is never stopped and with another; returns the answers, and how many starts."""
     choose = random.Random(seed)
     mine, its = str(folder / "mine"), str(folder / "its")
@@ -120,12 +142,13 @@ def compared(program, folder, seed):
         for file, sectors in ((mine, 500), (its, 2000)):
             format_file(file, sectors, program, version=3)
         agreed, entries = await agreed_on(program, mine), log_of(choose)
-        answers, *rest, _ = await done(program, mine, entries, agreed)
-        others, *other, starts = await done(program, its, entries, agreed, (choose, 0.08))
-        assert other == rest
+        answers, mark, *rest, _ = await done(program, mine, entries, agreed)
+        others, its_mark, *other, starts = await done(program, its, entries, agreed, (choose, 0.08), short)
+        # Who had no memory may have done the last entry in another way.
+        assert other == rest and (short or its_mark == mark)
         for n, given in others.items():
             assert all(reply in (None, first) for reply, first in zip(given, answers[n])), (n, given, answers[n])
-        assert rest[2] == sum(changes_in(each) for each in entries for each in zip(each.lines, answers[each.n]))
+        assert rest[1] == sum(changes_in(each) for each in entries for each in zip(each.lines, answers[each.n]))
         return entries, answers, starts
     return asyncio.run(run())
 
@@ -146,6 +169,12 @@ def test_every_start_at_any_moment_answers_alike(program, tmp_path, seed):
     others = [[(line, reply) for line, reply in each if reply.get("number") != 60] for each in judged]
     alone, _ = played(program, [[line for line, _ in each] for each in others])
     assert alone == [[reply for _, reply in each] for each in others]
+
+
+@pytest.mark.parametrize("seed", range(3, 6))
+def test_one_that_has_no_memory_for_entries_as_a_whole_answers_alike(program, tmp_path, seed):
+    _, answers, _ = compared(program, tmp_path, seed, 0.5)
+    assert {60, 21, 20, 24, None} <= {json.loads(reply).get("number") for given in answers.values() for reply in given}
 
 
 def test_the_longest_lines_are_taken(program, tmp_path):
@@ -276,7 +305,7 @@ class Lacking:
 
     async def ask(self, lines):
         """No reply but that there is no memory."""
-        return [b'{"error":"memory","number":63,"ok":false}\n' for _ in lines]
+        return [NO_MEMORY for _ in lines]
 
     change = ask
 
@@ -286,6 +315,27 @@ def test_no_memory_is_no_answer_of_the_log(program, tmp_path, schema):
     with pytest.raises(Faulty):
         asyncio.run(applied(program, str(tmp_path / "store"), [entry(1, [creation("a"), creation("b", schema)])], 1,
                             Lacking))
+
+
+@pytest.mark.parametrize("together", (1, 2, 9))
+def test_an_entry_that_is_too_much_only_as_a_whole_is_done_line_by_line(program, tmp_path, together):
+    entries = [entry(1, [creation(name) for name in "abc"]), entry(2, [creation("d")]),
+               entry(3, [creation(name) for name in "aebfc"])]
+    answers, names = asyncio.run(applied(program, str(tmp_path / "store"), entries, together, Short))
+    assert [answer.get("seq", answer.get("number")) for answer in answers] == [1, 2, 3, 4, 20, 5, 20, 6, 20]
+    assert names == list("abcdef")
+
+
+def test_the_mark_takes_what_is_reckoned_for_it(place):
+    marks = [Place(3, 30, "0" * 10, -1, "0" * 16, 'jpstore "1"'), Place(4, 99, "0" * 10, 256, "0" * 16, "1 \\ 2")]
+    format_file(place.file, 4096, place.program, version=3)
+    with place.store() as store:
+        store.create("x", 0)
+        bare = store.snapshot()
+        for mark in marks:
+            store.transaction([{"cmd": "patch", "name": "x", "ops": []}], mark=("log-" + "0" * 32, mark.text))
+            assert store.snapshot() - bare == length_of_mark("log-" + "0" * 32, mark)
+    assert length_of_mark("log", None) == 0
 
 
 def test_lines_that_may_need_much_memory_are_tried_and_change_nothing(program, tmp_path):

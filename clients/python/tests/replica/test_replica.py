@@ -156,18 +156,20 @@ def test_a_bound_that_does_not_decide_is_measured():
     assert raised(Need, reckoning.verdict, [line]).total
 
 
-def test_a_bound_that_a_longer_mark_could_pass_is_measured():
+@pytest.mark.parametrize("mark", (0, 100, MOST_MARK))
+def test_a_verdict_counts_the_longest_mark_whatever_mark_a_node_has(mark):
     reckoning, room = Reckoning(LEAST_CAPACITY), room_of(LEAST_CAPACITY).documents
     line = {"cmd": "create", "doc": "", "name": "x", "schema": True}
     less = line_in(read_line(json.dumps(line).encode() + b"\n").text)
     for room_left in (MOST_MARK, MOST_MARK - 1):
-        asyncio.run(reckoning.measure(Need(True, set()), Measured(room - 2 * less.growth - room_left)))
-        # It fits by what was measured.
-        assert reckoning.verdict([less, less]) == ({}, True)
+        snapshot = room - 2 * less.growth - room_left + mark
+        asyncio.run(reckoning.measure(Need(True, set()), Measured(snapshot), mark))
+        assert reckoning.verdict([less, less]) == (({}, True) if room_left == MOST_MARK else ({1: 60}, True))
         reckoning.count([less])
         if room_left == MOST_MARK:
             assert reckoning.verdict([less]) == ({}, True)
         else:
+            # The line that is done may have added less than it might.
             assert raised(Need, reckoning.verdict, [less]).total
 
 
@@ -191,7 +193,7 @@ def verdict_of(*commands):
         try:
             return reckoning.verdict(lines)
         except Need as need:
-            asyncio.run(reckoning.measure(need, Measured()))
+            asyncio.run(reckoning.measure(need, Measured(), 0))
 
 
 def test_lines_weigh_what_they_may_copy():
