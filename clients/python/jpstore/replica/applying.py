@@ -87,6 +87,14 @@ class Applier:
         self.before: Callable[[Iterable[str]], Awaitable[None]] = _nothing
         self._window = _MOST_TOGETHER
 
+    def length(self, names: Iterable[str]) -> int:
+        """How long documents are together at most."""
+        return self._reckoning.length(names)
+
+    async def length_now(self, names: Iterable[str]) -> int:
+        """The same, for which they are read if need be."""
+        return await self._reckoning.length_now(names, self._store)
+
     def told(self) -> Dict[str, Any]:
         """What etcd is told of the place."""
         return as_told(self.place, self._log, self.seq)

@@ -13,7 +13,7 @@ reckons the same:
 The lengths are measured only if bounds that are easily kept don't decide. That changes no verdict.
 """
 import math
-from typing import Dict, List, NamedTuple, Sequence, Set
+from typing import Dict, Iterable, List, NamedTuple, Sequence, Set
 
 from ..wire import limits
 from .changes import MOST_MARK, Change, Line, length_of_frames
@@ -123,6 +123,15 @@ class Reckoning:
         # A copy doubles the document at most. An object or array has fewer members or elements than half its bytes.
         copied = min((before + change.length) * ((1 << min(change.copies, 20)) - 1), most)
         return copied + (before if change.takes * after > 2 * _MOST_SIBLINGS else 0)
+
+    def length(self, names: Iterable[str]) -> int:
+        """How long documents are together at most."""
+        return sum(self._lengths.get(name, limits.MOST_DOCUMENT_BYTES) for name in names)
+
+    async def length_now(self, names: Iterable[str], store: ReplicaStore) -> int:
+        """The same, by measuring them where that wasn't done."""
+        await self.measure(Need(False, set(names) - self._measured), store, 0)
+        return self.length(names)
 
     async def measure(self, need: Need, store: ReplicaStore, mark: int) -> None:
         """Measures what a verdict needs, at the place of the log where the store is. Its mark takes so many bytes, and

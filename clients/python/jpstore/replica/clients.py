@@ -98,9 +98,10 @@ class _Client:
 
     async def _asked(self, asked: Asked) -> "asyncio.Future[bytes]":
         if asked.kind is Kind.CHANGE:
-            if await self._node.lacks_memory(asked.text):
+            changes = changes_in(asked.command)
+            if await self._node.lacks_memory(asked.text, {each["name"] for each in changes if each["cmd"] != "create"}):
                 return _settled(refusal(MEMORY))
-            return await self._node.appending.change(asked.text, len(changes_in(asked.command)))
+            return await self._node.appending.change(asked.text, len(changes))
         if asked.kind is Kind.QUESTION:
             return self._node.asking.question(asked.text, self._linear)
         if asked.kind is Kind.SNAPSHOT:

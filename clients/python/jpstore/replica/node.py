@@ -4,7 +4,7 @@ import contextlib
 import time
 from collections import deque
 from functools import partial
-from typing import IO, Any, Awaitable, Callable, Deque, Dict, List, NamedTuple, Optional, Sequence, TypeVar
+from typing import IO, Any, Awaitable, Callable, Collection, Deque, Dict, List, NamedTuple, Optional, Sequence, TypeVar
 
 from ..errors import JpstoreError
 from .answers import as_asked, as_told
@@ -20,7 +20,7 @@ from .questions import Asking
 from .reach import Reach
 from .store import Faulty, ReplicaStore
 from .tasks import apart, end_tasks, started
-from .trial import is_tried, lacks_memory
+from .trial import MOST_UNTRIED, is_tried, lacks_memory
 
 __all__ = ["Node", "Settings"]
 
@@ -88,9 +88,17 @@ class Node:
         reply, = await self._between(lambda: self._store.ask([text]))
         return reply
 
-    async def lacks_memory(self, text: bytes) -> bool:
-        """Whether this node has no memory for a change, by its compact text."""
-        return is_tried(text) and await self._between(lambda: lacks_memory(text, self._store))
+    async def lacks_memory(self, text: bytes, names: Collection[str]) -> bool:
+        """Whether this node has no memory for a change, by its compact text and the documents that are there for it."""
+        is_due = is_tried(text)
+        if not is_due and self._applier.length(names) <= MOST_UNTRIED:
+            return False
+
+        async def lacks() -> bool:
+            if not is_due and await self._applier.length_now(names) <= MOST_UNTRIED:
+                return False
+            return await lacks_memory(text, self._store)
+        return await self._between(lacks)
 
     async def export(self) -> IO[bytes]:
         """All documents of one moment."""

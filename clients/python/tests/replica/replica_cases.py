@@ -796,7 +796,7 @@ def without_memory(folder, program):
     """A line that no machine has the memory for is refused before it is in the log, and no node ends."""
     script = lacking_program(folder, program, "heavy")
     with cluster(folder, program, LONG, 6_000_000) as nodes:
-        nodes.ask("a", create("x", ["heavy"]))
+        nodes.ask("a", create("x", ["heavy"]), *[create(name, "x" * 600_000) for name in ("long1", "long2")])
         states(nodes)
         for node in NODES:
             nodes.stop(node)
@@ -805,7 +805,9 @@ def without_memory(folder, program):
         copy = {"cmd": "patch", "name": "x", "ops": [{"op": "copy", "from": "/0", "path": "/-"}]}
         checked = {**copy, "ops": [*copy["ops"], {"op": "test", "path": "/1", "value": "heavy"}]}
         lines = [create("heavy", 0, {"pattern": "^a$"}), checked, create("heavy", "x" * 200_000),
-                 several(put("x", 1), {"cmd": "schema", "name": "x", "schema": {"patternProperties": {"heavy": True}}})]
+                 several(put("x", 1), {"cmd": "schema", "name": "x", "schema": {"patternProperties": {"heavy": True}}}),
+                 # Short, and without a word that tells it, but for long documents.
+                 several(*[{"cmd": "schema", "name": f"long{at}", "schema": {"title": "heavy"}} for at in (1, 2)])]
         before = head(nodes)
         for node in NODES:
             for reply in nodes.ask(node, *lines):
@@ -815,7 +817,7 @@ def without_memory(folder, program):
         tried = [create(name, doc, {"pattern": "^a$"}) for name, doc in (("x", 0), ("y", "b"), ("y", "a"))]
         replies = nodes.ask("a", *tried, create("z", "x" * 200_000), copy)
         assert [reply.get("number") for reply in replies] == [20, 45, None, None, None], replies
-        assert [row[0] for row in are_same(nodes)[0]] == ["x", "y", "z"]
+        assert [row[0] for row in are_same(nodes)[0]] == ["x", "long1", "long2", "y", "z"]
 
 
 def other_version(folder, program):

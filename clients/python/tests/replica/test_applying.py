@@ -352,8 +352,9 @@ def test_lines_that_may_need_much_memory_are_tried_and_change_nothing(program, t
         store = await ReplicaStore.open(file, program)
         try:
             await store.ask([entry(1, [creation("a")]).lines[0]])
-            assert not any([await lacks_memory(text, store) for text in [*texts, *entry(1, [most]).lines]])
-            assert all([await lacks_memory(text, Lacking(store)) for text in texts])
+            tried = [*texts, *entry(1, [most]).lines]
+            assert not any([await lacks_memory(text, store) for text in tried])
+            assert all([await lacks_memory(text, Lacking(store)) for text in tried])
             return store.status["seq"], await store.revisions()
         finally:
             await store.close()

@@ -186,6 +186,16 @@ class Measured:
         return {name: 1000 for name in names}
 
 
+def test_documents_count_as_the_longest_until_they_are_read():
+    reckoning = Reckoning(1 << 31)
+    assert reckoning.length([]) == 0 and reckoning.length("ab") == 2 << 20
+    assert asyncio.run(reckoning.length_now("ab", Measured())) == reckoning.length("ba") == 2000
+    line = line_in(read_line(b'{"cmd":"patch","name":"a","ops":[]}\n').text)
+    reckoning.count([line])
+    assert reckoning.length("ab") == 2000 + line.growth and reckoning.length("ac") == 1000 + line.growth + (1 << 20)
+    assert asyncio.run(reckoning.length_now("ab", Measured())) == 2000
+
+
 def verdict_of(*commands):
     lines = [line_in(read_line(json.dumps(each).encode() + b"\n").text) for each in commands]
     reckoning = Reckoning(1 << 31)
