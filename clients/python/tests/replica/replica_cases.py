@@ -818,6 +818,15 @@ def without_memory(folder, program):
         replies = nodes.ask("a", *tried, create("z", "x" * 200_000), copy)
         assert [reply.get("number") for reply in replies] == [20, 45, None, None, None], replies
         assert [row[0] for row in are_same(nodes)[0]] == ["x", "long1", "long2", "y", "z"]
+        # What one node has the memory for ends the others until they have it too.
+        nodes.stop("a")
+        nodes.start("a")
+        nodes.wait("a")
+        assert nodes.ask("a", put("x", "heavy"), create("last"))[1]["ok"]
+        for node in "bc":
+            assert nodes.ended(node) == 1 and '"number":63' in nodes.output(node), nodes.output(node)
+            nodes.start(node)
+        assert [row[0] for row in are_same(nodes)[0]][-1] == "last"
 
 
 def other_version(folder, program):
