@@ -138,8 +138,8 @@ class Node:
         """Runs until it is cancelled, or fails. `begun` is called when clients may ask."""
         # The log is kept for this node from here on, before anything is asked of it. If etcd has no space, it is kept
         # from the place on that the node wrote before.
-        with contextlib.suppress(NoSpace):
-            await self._publish(self._logs())
+        with contextlib.closing(self._logs()) as log, contextlib.suppress(NoSpace):
+            await self._publish(log)
         asking = self.asking.run(self._logs(), lambda: self._received, self._seen)
         tasks = [started(task) for task in (
             self._work(), self._follow(), self._tell(), self._tick(), self.appending.run(self._logs()), asking,
@@ -175,8 +175,8 @@ class Node:
             return await self._applier.apply(self._entries)
         except OtherVersion:
             # Of what was refused nothing is stored, and the other version must not judge it again.
-            with contextlib.suppress(NoAnswer, Rejected):
-                await self._publish(self._logs(), PATIENCE)
+            with contextlib.closing(self._logs()) as log, contextlib.suppress(NoAnswer, Rejected):
+                await self._publish(log, PATIENCE)
             raise
 
     async def _finish(self, done: Done) -> None:
@@ -215,7 +215,8 @@ class Node:
             await self._take_entries()
         except Trimmed:
             # The log need not be kept for a store that can't go on.
-            await self._logs().forget(self._settings.node)
+            with contextlib.closing(self._logs()) as log:
+                await log.forget(self._settings.node)
             raise
 
     async def _take_entries(self) -> None:

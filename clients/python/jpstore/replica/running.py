@@ -1,5 +1,6 @@
 """Runs a node over a file until it is ended."""
 import asyncio
+import contextlib
 import faulthandler
 import os
 import signal
@@ -56,7 +57,8 @@ class _Sockets:
 
 async def _made(settings: Settings, store: ReplicaStore) -> Node:
     """The node, after its file was found to be one of the log."""
-    agreed, nodes = await settings.new_log().agreed(None), await settings.new_log().told(PLACES, None)
+    with contextlib.closing(settings.new_log()) as log:
+        agreed, nodes = await log.agreed(None), await log.told(PLACES, None)
     stored = await store.place(agreed)
     if store.status["capacity"] < agreed.capacity:
         raise JpstoreError(f"{store.file} has halves of {store.status['capacity']:,} bytes, and the nodes have "

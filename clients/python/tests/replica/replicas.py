@@ -162,8 +162,8 @@ def kill(process):
         process.wait()
 
 
-# What Python says of an error that nobody has taken.
-_INSIDE = ("Traceback", "never retrieved", "never awaited", "jpstore.replica.")
+# What Python says of an error that nobody has taken, and of what nobody has closed.
+_INSIDE = ("Traceback", "never retrieved", "never awaited", "was destroyed", "jpstore.replica.")
 
 
 class NotMade(Exception):

@@ -9,13 +9,14 @@ import subprocess
 import time
 
 import pytest
-from jpstore.replica import init_join, running
+from jpstore import JpstoreError
+from jpstore.replica import init_join, node, running
 from jpstore.replica.changes import MOST_MARK, line_in
 from jpstore.replica.certificates import Secure, warning_of
 from jpstore.replica.engine import Engine, Member, NoAnswer, NoSpace, Trimmed, packed
 from jpstore.replica.errors import Astray
 from jpstore.replica.line_reader import MOST_TEXT, read_line
-from jpstore.replica.log import Log
+from jpstore.replica.log import Agreed, Log
 from jpstore.replica.node import Settings
 from jpstore.replica.reach import Reach
 from jpstore.replica.capacity import LEAST_CAPACITY, Need, Reckoning, room_of
@@ -327,6 +328,39 @@ def test_a_join_lets_go_though_etcd_has_refused_what_it_took(before, monkeypatch
     monkeypatch.setattr(init_join, "Log", Full)
     raised(NoSpace, init_join.join, str(tmp_path / "new"), "e", "nothing", [], "test", None, None)
     assert kept == before
+
+
+@pytest.mark.parametrize("answers", (True, False))
+def test_a_node_that_begins_keeps_no_connection_that_it_asks_nothing_more_of(monkeypatch, answers):
+    opened = []
+
+    class Noted:
+        """A log whose connections are noted."""
+
+        def __init__(self, *_):
+            opened.append(self)
+
+        async def agreed(self, _):
+            if not answers:
+                raise JpstoreError("no such log")
+            return Agreed("0" * 32, 2_000_000, "", "1")
+
+        async def told(self, *_):
+            return {}
+
+        def close(self):
+            opened.remove(self)
+
+    class Small:
+        """A store that is smaller than what was agreed on."""
+
+        file, status = "store", {"capacity": 1_000_000}
+
+        async def place(self, _):
+            return None
+    monkeypatch.setattr(node, "Log", Noted)
+    raised(JpstoreError, asyncio.run, running._made(Settings("a", "store", [], "test", "socket"), Small()))
+    assert not opened
 
 
 def test_a_node_ends_for_good_though_nothing_can_be_written_about_it(capsys, monkeypatch, tmp_path):
