@@ -8,6 +8,8 @@ document that it has read, one of a value in it, a patch, a merge patch and a PU
 Shown are the p99 of each in ms, `*` where it is more than five times that without a bad client, and how many were refused or lost.
 With --beside a second pair is measured, by turns with the first. Each bad client is a process of its own.
 
+A bad client is another machine's. So one half of the processors is for it, and the other for the server and the good client.
+
 The stores are in the folder that TMPDIR names. `--only` takes the bad clients whose names have one of these words.
 """
 import argparse
@@ -32,6 +34,9 @@ PATCH, MERGE, JSON, LINES = "application/json-patch+json", "application/merge-pa
 # A client that waits for more than this has lost its request.
 PATIENCE = 70
 BODY = 2 << 20
+# The processors of the server and the good client, and those of the bad one: the same if there is one.
+PROCESSORS = sorted(os.sched_getaffinity(0))
+OURS, THEIRS = PROCESSORS[:(len(PROCESSORS) + 1) // 2], PROCESSORS[(len(PROCESSORS) + 1) // 2:] or PROCESSORS
 
 
 def request(method, path, body=b"", kind=JSON, length=None):
@@ -258,19 +263,20 @@ def files(most):
     resource.setrlimit(resource.RLIMIT_NOFILE, (min(most, hard), min(most, hard)))
 
 
-def own(*words):
-    """This script again, as a process of its own group."""
-    return subprocess.Popen([sys.executable, os.path.abspath(__file__), *words], stdout=subprocess.PIPE, start_new_session=True)
+def own(processors, *words):
+    """This script again, as a process of its own group on these processors."""
+    return subprocess.Popen([sys.executable, os.path.abspath(__file__), *words], stdout=subprocess.PIPE, start_new_session=True,
+                            preexec_fn=lambda: os.sched_setaffinity(0, processors))
 
 
 def measured(program, server, bad, seconds):
     """What a good client sees beside a bad one: the p99 of each kind in ms, and what was refused."""
     with tempfile.TemporaryDirectory(prefix="jpstore-") as folder, serving(program, server, folder) as (port, path), contextlib.ExitStack() as stack:
         if bad:
-            other = own("bad", bad, str(port), path)
+            other = own(THEIRS, "bad", bad, str(port), path)
             stack.callback(lambda: (os.killpg(other.pid, signal.SIGKILL), other.wait(), other.stdout.close()))
             assert other.stdout.readline() == b"ready\n", bad
-        with own("good", str(port), str(seconds)) as good:
+        with own(OURS, "good", str(port), str(seconds)) as good:
             found = json.loads(good.stdout.read())
     times = {kind: sorted(found["times"][kind]) for kind in KINDS}
     return {kind: 1e3 * each[len(each) * 99 // 100] for kind, each in times.items()}, found["refused"]
@@ -294,6 +300,7 @@ def main():
     if words.server:
         os.environ["JPSTORE_SERVER"] = words.server
     use_server()
+    os.sched_setaffinity(0, OURS)
     pairs = {"": (os.path.abspath(words.program), os.environ["JPSTORE_SERVER"])}
     if words.beside:
         pairs = {"beside": [os.path.abspath(word) for word in words.beside], "this": pairs[""]}
