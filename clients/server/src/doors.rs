@@ -2,7 +2,7 @@
 //! are taken, the client that is waited for longest gives its place to the next one.
 
 use crate::ending::Ending;
-use crate::limits::{FILES, OWN_FILES};
+use crate::limits::{FILES, OWN_FILES, TASKS};
 use crate::say;
 use std::collections::HashMap;
 use std::future::Future;
@@ -223,6 +223,10 @@ pub async fn let_in<Client, Accepted, Served>(
         match accepted {
             Ok(client) => {
                 (short, number) = (false, number + 1);
+                if number % u64::from(TASKS) == 0 {
+                    // However fast they come, those that are there have their turns.
+                    tokio::task::yield_now().await;
+                }
                 let place = match places.next(number, &mut ending).await {
                     Some(place) => place,
                     None => return,

@@ -2,7 +2,8 @@
 //!
 //! The rule: what is small (up to [`SMALL`] bytes) seldom waits for what is large, and needs no room that others share. What is
 //! large takes room; when there is none left, the client that moved least lately gives its room up. Whatever is done for a client
-//! at once ends after some bytes, and then it is the turn of others. What takes long leaves others the most of the time.
+//! at once ends after some bytes, and then it is the turn of others. What takes long leaves others the most of the time. What is
+//! large, or goes to many, is for threads of its own, and leaves processors to the others.
 
 use std::time::Duration;
 
@@ -24,10 +25,18 @@ pub const WINDOW: usize = 64;
 /// What takes so long that others notice it. Before the next of its kind so many small requests come for each that waited for it,
 /// or they have had so many times as long as it took, or this; all of it only while they come. So it isn't seen at the 99th
 /// percentile of what they wait.
-pub const LONG: Duration = Duration::from_millis(2);
+pub const LONG: Duration = Duration::from_millis(1);
 pub const OTHERS: u64 = 500;
 pub const TIMES_AS_LONG: u32 = 8;
 pub const MOST_OTHERS: Duration = Duration::from_secs(15);
+
+// Threads.
+
+/// How many threads there are for what is large, and for large texts beside them, but for no more than half of the processors.
+pub const LARGE_THREADS: usize = 2;
+
+/// After so many tasks a thread looks for those that have come from elsewhere, and the next connections are let in.
+pub const TASKS: u32 = 8;
 
 // Rooms: the bytes of all clients together, beyond the small ones of each.
 
@@ -50,9 +59,8 @@ pub const SOCKET_EXPORTS: usize = 32;
 /// Queries that are asked: a reply to one may have 16 MiB.
 pub const QUERIES: usize = 8;
 
-/// Turns to take large texts apart, and the bytes of text for each. A text that is longer than all of them has all. So this many
-/// processors are at work for it at most.
-pub const TURNS: u32 = 2;
+/// The bytes of text for each turn to take large texts apart, of which there are as many as threads for what is large. A text that is
+/// longer than all of them has all.
 pub const BYTES_OF_A_TURN: usize = 1 << 20;
 
 // Connections.

@@ -18,6 +18,7 @@ mod refusals;
 mod run;
 mod say;
 mod store;
+mod threads;
 
 use options::Asked;
 

@@ -16,13 +16,14 @@ use crate::program::room::Room;
 use crate::program::{self, Handle};
 use crate::say;
 use crate::store::{Store, Which};
+use crate::threads::{runtime, Threads, Workers};
 use std::io::ErrorKind;
 use std::os::unix::fs::FileTypeExt;
 use std::path::Path;
 use std::sync::Arc;
 use std::time::{Duration, Instant};
 use tokio::net::TcpListener;
-use tokio::runtime::{Builder, Handle as Workers, Runtime};
+use tokio::runtime::{Builder, Handle as Thread};
 use tokio::signal::unix::{signal, SignalKind};
 use tokio::sync::watch;
 use tokio::task::JoinHandle;
@@ -43,17 +44,13 @@ pub fn run(options: Options) -> Result<(), Error> {
     // SAFETY: a signal is set to be ignored before there is another thread. A file may then not grow over its limit, which
     // is an error of the write.
     unsafe { libc::signal(libc::SIGXFSZ, libc::SIG_IGN) };
-    let workers = runtime(Builder::new_multi_thread().thread_name("jpstored"))?;
+    let threads = Threads::begin()?;
     // The program is of this thread, and its replies wait for no other task.
     let own = runtime(&mut Builder::new_current_thread())?;
-    let done = own.block_on(serve(options, workers.handle().clone()));
-    workers.shutdown_background();
+    let done = own.block_on(serve(options, threads.workers()));
+    threads.end();
     own.shutdown_background();
     done
-}
-
-fn runtime(builder: &mut Builder) -> Result<Runtime, Error> {
-    builder.enable_all().build().map_err(|error| Error::new(format!("the server cannot begin: {error}")))
 }
 
 /// What serves over HTTP, before there is a store.
@@ -90,6 +87,7 @@ async fn serve(options: Options, workers: Workers) -> Result<(), Error> {
     };
     program::remove_leftovers(&options.store);
     let (engine, store) = Engine::begin(program, Cache::new(options.cache)).await?;
+    workers.large.spawn(store.history.clone().hand_news_on());
     let (end, ending) = ending();
     // Both doors are open before either is announced.
     let _listening = welcome(&options, &workers, store.clone(), ending.clone()).await?;
@@ -163,7 +161,7 @@ async fn web(options: &Options, workers: &Workers) -> Result<Option<Web>, Error>
     };
     let (host, port) = http::listening::place(listen)?;
     let address = http::listening::address(&host, port, token.is_some())?;
-    let listener = http::listening::at(address, options.wait, workers).await?;
+    let listener = http::listening::at(address, options.wait, &workers.small).await?;
     Ok(Some(Web { listener, guard: Guard::new(token, options.origins.clone(), &host) }))
 }
 
@@ -174,10 +172,10 @@ fn doors(options: &Options) -> usize {
 
 fn welcome_web(options: &Options, workers: &Workers, web: Web, which: Which, ending: &Ending) -> Arc<App> {
     let store = Store { which, answers: Room::of_bytes(ANSWERS) };
-    let reasons = Reasons::new(&options.python, Workers::current(), ending.clone());
-    let app = Arc::new(App::new(store, web.guard, reasons, options.patience));
+    let reasons = Reasons::new(&options.python, Thread::current(), ending.clone());
+    let app = Arc::new(App::new(store, web.guard, reasons, options.patience, workers.large.clone()));
     let told = web.listener.local_addr().map_or_else(|_| String::new(), |address| format!("http://{address}/"));
-    workers.spawn(http::serve(web.listener, app.clone(), places(doors(options)), ending.clone()));
+    workers.small.spawn(http::serve(web.listener, app.clone(), places(doors(options)), ending.clone()));
     say::announce(&format!("{} is served at {told}", options.store.display()));
     app
 }
@@ -193,16 +191,17 @@ async fn welcome(
         None => return Ok(None),
     };
     let (listening, listener) = listening::Listening::at(path).await?;
-    let _entered = workers.enter();
+    let _entered = workers.small.enter();
     let listener = tokio::net::UnixListener::from_std(listener).map_err(|error| Error::of_path(path, error))?;
-    workers.spawn(hub::serve(listener, store, places(doors(options)), ending));
+    let served = hub::serve(listener, store, places(doors(options)), workers.large.clone(), ending);
+    workers.small.spawn(served);
     Ok(Some(listening))
 }
 
 /// Whether a signal has come that ends the server. The thread of the program may wait for the disk, so another one takes it.
 fn signals(workers: &Workers) -> Result<watch::Receiver<bool>, Error> {
     let told = |error| Error::new(format!("no signals can be taken: {error}"));
-    let _entered = workers.enter();
+    let _entered = workers.small.enter();
     let mut interrupt = signal(SignalKind::interrupt()).map_err(told)?;
     let mut terminate = signal(SignalKind::terminate()).map_err(told)?;
     let (come, has_come) = watch::channel(false);

@@ -11,7 +11,7 @@ use event::line_of;
 use naming::Naming;
 use std::collections::VecDeque;
 use std::io;
-use std::sync::{RwLock, RwLockReadGuard, RwLockWriteGuard};
+use std::sync::{Arc, RwLock, RwLockReadGuard, RwLockWriteGuard};
 use tokio::sync::watch;
 
 pub use event::{Event, HEAD};
@@ -96,6 +96,8 @@ impl Kept {
 pub struct History {
     kept: RwLock<Kept>,
     news: watch::Sender<u64>,
+    /// The same for those who follow: however many they are, no change waits until all are woken.
+    handed_on: watch::Sender<u64>,
 }
 
 impl History {
@@ -103,7 +105,7 @@ impl History {
     pub fn new(opened: &Status) -> io::Result<History> {
         let (naming, events) = (Naming::new(opened)?, VecDeque::new());
         let kept = Kept { before: naming.of_number(0), naming, base: 0, events, bytes: 0 };
-        Ok(History { kept: RwLock::new(kept), news: watch::channel(0).0 })
+        Ok(History { kept: RwLock::new(kept), news: watch::channel(0).0, handed_on: watch::channel(0).0 })
     }
 
     fn kept(&self) -> RwLockReadGuard<'_, Kept> {
@@ -225,7 +227,15 @@ impl History {
 
     /// Tells when there are further changes.
     pub fn news(&self) -> watch::Receiver<u64> {
-        self.news.subscribe()
+        self.handed_on.subscribe()
+    }
+
+    /// Hands news on to those who follow.
+    pub async fn hand_news_on(self: Arc<Self>) {
+        let mut news = self.news.subscribe();
+        while news.changed().await.is_ok() {
+            self.handed_on.send_replace(*news.borrow_and_update());
+        }
     }
 }
 

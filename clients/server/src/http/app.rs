@@ -9,6 +9,7 @@ use crate::limits::{BODIES, EXPORTS, FOLLOWERS, GRACE, HEADS, PLACE, QUERIES};
 use crate::program::room::Room;
 use crate::store::Store;
 use std::time::Duration;
+use tokio::runtime::Handle;
 use tokio::sync::Semaphore;
 
 /// The store over HTTP.
@@ -37,11 +38,13 @@ pub struct App {
     pub followers: Room,
     /// How long a client may take for a request; for a piece of an answer half of it.
     pub patience: Duration,
+    /// The threads for what is large.
+    pub large: Handle,
 }
 
 impl App {
     /// The store over HTTP.
-    pub fn new(store: Store, guard: Guard, reasons: Reasons, patience: Duration) -> App {
+    pub fn new(store: Store, guard: Guard, reasons: Reasons, patience: Duration, large: Handle) -> App {
         App {
             store,
             guard,
@@ -55,6 +58,7 @@ impl App {
             exports: Room::of_places(EXPORTS, GRACE),
             followers: Room::of_places(FOLLOWERS, PLACE),
             patience,
+            large,
         }
     }
 }

@@ -3,7 +3,7 @@
 use super::app::App;
 use super::body::BodyState;
 use super::changes::Events;
-use super::head::{self, Head};
+use super::head::{self, Framing, Head};
 use super::once::Once;
 use super::pace;
 use super::problem::{phrase_of, Problem};
@@ -12,6 +12,7 @@ use super::routes;
 use super::target;
 use crate::doors::{let_in, Guest, Places};
 use crate::ending::Ending;
+use crate::limits::SMALL;
 use crate::program::room::{lost, Taken};
 use bytes::{Bytes, BytesMut};
 use std::io;
@@ -101,29 +102,50 @@ enum After {
 
 impl Connection {
     fn new(stream: TcpStream, app: Arc<App>, ending: Ending, guest: Arc<Guest>) -> Connection {
-        let body = BodyState::new(head::Framing::Length(0), false);
+        let body = BodyState::new(Framing::Length(0), false);
         let buffer = BytesMut::new();
         Connection { stream, buffer, looked: 0, was_long: false, body, app, ending, guest, held: None }
     }
 
-    async fn serve(mut self) {
+    async fn serve(self) {
         // If it fails, the connection is as it was, only slower.
         let _ = self.stream.set_nodelay(true);
         // A client that has gone away is no error.
         let _ = self.requests().await;
     }
 
-    async fn requests(&mut self) -> io::Result<()> {
+    async fn requests(mut self) -> io::Result<()> {
         loop {
             let head = match self.head().await? {
                 Some(Ok(head)) => head,
                 Some(Err(refused)) => return self.refuse(refused).await,
                 None => return Ok(()),
             };
-            if self.answer(head).await? == After::Close {
+            let after = if is_large(&head) {
+                let large = self.app.large.clone();
+                let (connection, after) = large.spawn(self.here(head)).await??;
+                self = connection.adopted()?;
+                after
+            } else {
+                self.answer(head).await?
+            };
+            if after == After::Close {
                 return self.close().await;
             }
         }
+    }
+
+    /// Answers a request on the threads on which this is called, and not where its head was read.
+    async fn here(self, head: Head) -> io::Result<(Connection, After)> {
+        let mut connection = self.adopted()?;
+        let after = connection.answer(head).await?;
+        Ok((connection, after))
+    }
+
+    /// The connection, with the socket watched by the threads on which this is called.
+    fn adopted(self) -> io::Result<Connection> {
+        let stream = TcpStream::from_std(self.stream.into_std()?)?;
+        Ok(Connection { stream, ..self })
     }
 
     /// Answers what is no request, and ends the connection.
@@ -395,6 +417,15 @@ impl Connection {
         }
         Ok(())
     }
+}
+
+/// Whether a request is one for the threads of what is large: its body is large, or what answers it has no end that is near.
+fn is_large(head: &Head) -> bool {
+    let has_large_body = match head.framing {
+        Framing::Length(length) => length > SMALL as u64,
+        Framing::Chunks => true,
+    };
+    has_large_body || target::parts(&head.target).map_or(false, |parts| routes::is_stream(parts.path))
 }
 
 /// What comes next to a follower.

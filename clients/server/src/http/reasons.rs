@@ -43,6 +43,9 @@ const PATIENCE: Duration = Duration::from_secs(1);
 const BEGIN: Duration = Duration::from_secs(60);
 const REST: Duration = Duration::from_secs(60);
 
+/// What the processes have less of the processors than those who are answered.
+const LESS_URGENT: libc::c_int = 5;
+
 /// Longer than any answer.
 const MOST_ANSWER: u64 = 1 << 21;
 
@@ -299,10 +302,12 @@ impl Looking {
         // In a folder that is nobody's, so that nothing there is taken for a module.
         command.current_dir("/").kill_on_drop(true);
         command.env("PYTHONPATH", module_paths(std::env::var_os("PYTHONPATH"))?);
-        // SAFETY: between fork and exec only `setsid` and `signal` are called, which are safe there (signal-safety(7)).
+        // SAFETY: between fork and exec only `setsid`, `nice` and `signal` are called, which are safe there (signal-safety(7)); `nice`
+        // is so in glibc, as it does one call of the system.
         unsafe {
             command.pre_exec(|| {
                 libc::setsid();
+                libc::nice(LESS_URGENT);
                 libc::signal(libc::SIGXFSZ, libc::SIG_DFL);
                 Ok(())
             });

@@ -1,6 +1,7 @@
 //! A client at the socket: its lines are taken, and its replies are handed to it, as fast as it takes them.
 
 use super::{watch, Rooms};
+use crate::doors::Guest;
 use crate::ending::Ending;
 use crate::lines::framing::Framing;
 use crate::lines::kinds::{kind_of, own_command, Kind, Own};
@@ -11,6 +12,7 @@ use crate::program::{Handle, Job, Reply, Spool};
 use bytes::BytesMut;
 use std::future::Future;
 use std::io;
+use std::sync::Arc;
 use std::time::Duration;
 use tokio::io::{AsyncReadExt, AsyncWriteExt};
 use tokio::net::UnixStream;
@@ -32,6 +34,7 @@ pub(super) struct Client {
     pub stream: UnixStream,
     pub framing: Framing,
     pub ending: Ending,
+    pub guest: Arc<Guest>,
     /// A line that was taken, and belongs to the next job.
     next: Option<(Kind, Line)>,
     /// Whether the client sends nothing more.
@@ -48,13 +51,20 @@ pub(super) struct Client {
 }
 
 /// Serves a client until it says that no more lines come and all are answered, it goes away, or the server ends.
-pub(super) fn attend(stream: UnixStream, store: Handle, rooms: &Rooms, ending: Ending) -> impl Future<Output = ()> {
-    let (framing, lines) = (Framing::default(), rooms.lines.begin());
+pub(super) fn attend(
+    stream: UnixStream,
+    store: Handle,
+    rooms: &Rooms,
+    ending: Ending,
+    guest: Arc<Guest>,
+) -> impl Future<Output = ()> {
+    let (framing, lines, large) = (Framing::default(), rooms.lines.begin(), rooms.large.clone());
     let (replies, exports) = (rooms.replies.clone(), rooms.exports.clone());
     let mut client = Client {
         stream,
         framing,
         ending,
+        guest,
         next: None,
         ended: false,
         store,
@@ -66,17 +76,23 @@ pub(super) fn attend(stream: UnixStream, store: Handle, rooms: &Rooms, ending: E
     };
     async move {
         // A client that has gone away is no error.
-        let _ = client.serve().await;
+        if let Ok(Some((from, history))) = client.serve().await {
+            let _ = large.spawn(async move { client.watch(from, history).await }).await;
+        }
     }
 }
 
+/// The number after which changes are watched, and the history that it is of.
+type Watched = (Option<u64>, Option<String>);
+
 impl Client {
-    async fn serve(&mut self) -> io::Result<()> {
+    /// Answers lines up to one that watches the changes, if there is one.
+    async fn serve(&mut self) -> io::Result<Option<Watched>> {
         loop {
             let lines = self.lines();
             if !lines.is_empty() {
                 if !self.answer(lines).await? {
-                    return Ok(());
+                    return Ok(None);
                 }
                 continue;
             }
@@ -84,14 +100,14 @@ impl Client {
                 match own_command(&line) {
                     Some(Own::Export) => self.export().await?,
                     Some(Own::Grow(sectors)) => self.grow(sectors).await?,
-                    Some(Own::Watch { from, history }) => return self.watch(from, history).await,
+                    Some(Own::Watch { from, history }) => return Ok(Some((from, history))),
                     // The program refuses a line that only looks like one of the server's own.
                     None => self.next = Some((Kind::Question, line)),
                 }
                 continue;
             }
-            if self.ended || !self.read().await? {
-                return Ok(());
+            if self.ended || self.guest.is_last() || !self.read().await? {
+                return Ok(None);
             }
         }
     }
@@ -132,7 +148,7 @@ impl Client {
         Some((kind_of(&line), line))
     }
 
-    /// Reads what has come; false if the server ends, or there is no room for a long line.
+    /// Reads what has come; false if the server ends, there is no room for a long line, or others wait for the place.
     async fn read(&mut self) -> io::Result<bool> {
         if self.was_long && self.framing.buffer.is_empty() {
             // What a long line took isn't kept for the next one.
@@ -140,12 +156,16 @@ impl Client {
         }
         self.framing.buffer.reserve(PIECE);
         self.lines.waits(true);
+        self.guest.is_waited_for();
         let before = self.framing.buffer.len();
         tokio::select! {
+            biased;
             count = self.stream.read_buf(&mut self.framing.buffer) => self.ended = count? == 0,
             () = self.ending.begun() => return Ok(false),
             () = self.lines.lost() => return Ok(false),
+            () = self.guest.must_leave() => return Ok(false),
         }
+        self.guest.waits();
         self.lines.moved(self.framing.buffer.len() - before);
         self.lines.waits(false);
         Ok(self.has_room())
@@ -177,7 +197,7 @@ impl Client {
 
     /// Writes as fast as the client takes it, unless others need what it has more; at the server's end not for long.
     pub(super) async fn write(&mut self, bytes: &[u8]) -> io::Result<()> {
-        let Client { stream, ending, held, .. } = self;
+        let Client { stream, ending, guest, held, .. } = self;
         let late = async {
             ending.begun().await;
             tokio::time::sleep(FAREWELL).await;
@@ -190,11 +210,16 @@ impl Client {
             Ok(())
         };
         held.iter().for_each(|taken| taken.waits(true));
-        tokio::select! {
+        guest.is_waited_for();
+        let done = tokio::select! {
+            biased;
             written = written => written,
             () = late => Err(io::ErrorKind::TimedOut.into()),
             () = lost(held) => Err(io::ErrorKind::TimedOut.into()),
-        }
+            () = guest.must_leave() => Err(io::ErrorKind::TimedOut.into()),
+        };
+        guest.waits();
+        done
     }
 
     /// Hands the client all documents of one moment; a refusal, if too many others haven't read theirs.
@@ -229,9 +254,9 @@ impl Client {
         self.write(&reply.map_err(|_| io::ErrorKind::BrokenPipe)?).await
     }
 
-    async fn watch(&mut self, from: Option<u64>, history: Option<String>) -> io::Result<()> {
+    async fn watch(mut self, from: Option<u64>, history: Option<String>) -> io::Result<()> {
         let store = self.store.clone();
-        let told = watch::tell(self, &store.history, from, history).await;
+        let told = watch::tell(&mut self, &store.history, from, history).await;
         // What the client may still read is sent before the connection is closed.
         let _ = timeout(FAREWELL, self.stream.shutdown()).await;
         told

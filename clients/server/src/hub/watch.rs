@@ -60,9 +60,11 @@ async fn wait(client: &mut Client, news: &mut tokio::sync::watch::Receiver<u64>)
         return Ok(false);
     }
     client.framing.buffer.reserve(1 << 12);
+    client.guest.follows();
     tokio::select! {
         changed = news.changed() => return Ok(changed.is_ok()),
         () = client.ending.begun() => return Ok(false),
+        () = client.guest.must_leave() => return Ok(false),
         count = client.stream.read_buf(&mut client.framing.buffer), if !client.ended => client.ended = count? == 0,
         () = tokio::time::sleep(LOOK), if client.ended => return Ok(!has_gone(client)),
     }
