@@ -62,7 +62,7 @@ impl Guest {
         Guest { since: AtomicU64::new(WAITS), is_last: AtomicBool::new(false), opened, leave: Notify::new() }
     }
 
-    /// From now on the client is waited for: for a request, or until it takes an answer.
+    /// From now on the client is waited for, if it wasn't before: for a request, or until it takes an answer.
     pub fn is_waited_for(&self) {
         self.set_since(0);
     }
@@ -75,7 +75,7 @@ impl Guest {
     fn set_since(&self, after: u64) {
         let now = self.opened.elapsed().as_millis() as u64;
         // One that has to leave does so.
-        let _ = self.since.fetch_update(SeqCst, SeqCst, |since| (since != LEAVES).then(|| now + after));
+        let _ = self.since.compare_exchange(WAITS, now + after, SeqCst, SeqCst);
     }
 
     /// From now on the client waits. One that has to leave is answered before.

@@ -4,6 +4,7 @@ import json
 import os
 import re
 import resource
+import select
 import signal
 import socket
 import subprocess
@@ -177,10 +178,16 @@ def test_the_system_keeps_little_of_an_answer(place):
 
 # Places.
 
-def test_followers_that_take_nothing_give_their_places_up(place):
-    if resource.getrlimit(resource.RLIMIT_NOFILE)[1] < 4096:
+def many_files():
+    """Lets this process have some thousand files open."""
+    hard = resource.getrlimit(resource.RLIMIT_NOFILE)[1]
+    if hard < 4096:
         pytest.skip("this needs 4,096 open files")
-    resource.setrlimit(resource.RLIMIT_NOFILE, (4096, resource.getrlimit(resource.RLIMIT_NOFILE)[1]))
+    resource.setrlimit(resource.RLIMIT_NOFILE, (4096, hard))
+
+
+def test_followers_that_take_nothing_give_their_places_up(place):
+    many_files()
     place.format(16384)
     with Gateway(place) as gateway, silent(gateway, request("GET", "/changes"), 1000) as clients:
         for client in clients:
@@ -211,32 +218,56 @@ def test_exports_that_take_nothing_give_their_places_up(place):
                 assert (answer.status, answer.body.count(b"\n")) == (200, 9)
 
 
+@contextlib.contextmanager
+def with_few_files(place, *words):
+    """A server that has room for 64 connections beside its own files; the line that it says first."""
+    def limit():
+        resource.setrlimit(resource.RLIMIT_NOFILE, (128, 128))
+    words = place.server_words(place.file, *words)
+    with subprocess.Popen(words, stdout=subprocess.PIPE, env=place.environment(), preexec_fn=limit) as server:
+        try:
+            yield server.stdout.readline()
+        finally:
+            server.kill()
+
+
 WAITING = {"nothing": b"", "a line": b"GET /doc", "a body": request("PUT", "/documents/d", body=b"1")[:-1],
            "no more": request("GET", "/documents/d", "Connection: close"), "changes": request("GET", "/changes")}
 
 
 @pytest.mark.parametrize("sent", WAITING.values(), ids=WAITING)
 def test_clients_that_wait_keep_nobody_out(place, sent):
-    """Beside the server's own files there is room for 64 connections."""
     place.format()
-    words = place.server_words(place.file, "--listen", "127.0.0.1:0", "--patience", "600")
+    with with_few_files(place, "--listen", "127.0.0.1:0", "--patience", "600") as said, contextlib.ExitStack() as stack:
+        port = int(re.search(rb":(\d+)/\n", said).group(1))
+        for _ in range(200):
+            client = stack.enter_context(socket.create_connection(("127.0.0.1", port)))
+            client.sendall(sent)
+        for number in range(3):
+            with socket.create_connection(("127.0.0.1", port)) as client:
+                client.settimeout(PATIENCE)
+                client.sendall(request("PUT", "/documents/d", body=b"%d" % number))
+                assert client.recv(12)[9:10] == b"2"
 
-    def limit():
-        resource.setrlimit(resource.RLIMIT_NOFILE, (128, 128))
-    with subprocess.Popen(words, stdout=subprocess.PIPE, env=place.environment(), preexec_fn=limit) as server:
-        try:
-            port = int(re.search(rb":(\d+)/\n", server.stdout.readline()).group(1))
-            with contextlib.ExitStack() as stack:
-                for _ in range(200):
-                    client = stack.enter_context(socket.create_connection(("127.0.0.1", port)))
-                    client.sendall(sent)
-                for number in range(3):
-                    with socket.create_connection(("127.0.0.1", port)) as client:
-                        client.settimeout(PATIENCE)
-                        client.sendall(request("PUT", "/documents/d", body=b"%d" % number))
-                        assert client.recv(12)[9:10] == b"2"
-        finally:
-            server.kill()
+
+AT_THE_SOCKET = {"nothing": b"", "a line": b'{"cmd":"li', "changes": b'{"cmd":"watch"}\n', "an answer": b'{"cmd":"list"}\n'}
+
+
+@pytest.mark.parametrize("sent", AT_THE_SOCKET.values(), ids=AT_THE_SOCKET)
+def test_clients_that_wait_at_the_socket_keep_nobody_out(place, sent):
+    place.format()
+    path = place.path("s")
+    with with_few_files(place, "--socket", path), contextlib.ExitStack() as stack:
+        for _ in range(200):
+            client = stack.enter_context(socket.socket(socket.AF_UNIX))
+            client.connect(path)
+            client.sendall(sent)
+        for number in range(3):
+            with socket.socket(socket.AF_UNIX) as client:
+                client.settimeout(PATIENCE)
+                client.connect(path)
+                client.sendall(b'{"cmd":"create","doc":1,"name":"d%d","schema":true}\n' % number)
+                assert b'"seq":%d' % (number + 1) in client.recv(1 << 12)
 
 
 # Probes.
@@ -253,3 +284,70 @@ def test_a_probe_is_answered_though_the_program_hangs(place):
         assert time.monotonic() - begin < 40
         os.kill(program, signal.SIGCONT)
         until(lambda: gateway.get("/healthz").status == 200, "the program")
+
+
+# Threads.
+
+def working(gateway):
+    """For how long the server's threads have worked, in ticks, by their names."""
+    folder, found = f"/proc/{gateway.process.pid}/task", {"jpstored": 0, "jpstored-large": 0}
+    for thread in os.listdir(folder):
+        with open(f"{folder}/{thread}/stat", encoding="ascii") as opened:
+            name, _, rest = opened.read().partition("(")[2].rpartition(")")
+        if name in found and int(thread) != gateway.process.pid:
+            found[name] += sum(int(word) for word in rest.split()[11:13])
+    return found
+
+
+def follows(gateway, count, stack):
+    """Clients that follow the changes, and have read the head of the answer."""
+    clients = [stack.enter_context(gateway.raw()) for _ in range(count)]
+    for client in clients:
+        client.sendall(request("GET", "/changes"))
+    for client in clients:
+        taken = b""
+        while b"retry" not in taken:
+            taken += client.recv(1 << 16)
+    return clients
+
+
+def take(clients, wanted):
+    """Has followers take events until each has that."""
+    for client in clients:
+        taken = b""
+        while wanted not in taken:
+            taken += client.recv(1 << 16)
+
+
+def test_a_change_waits_for_no_followers(place):
+    """It is answered before many of them are told of it."""
+    many_files()
+    place.format()
+    with Gateway(place) as gateway, contextlib.ExitStack() as stack:
+        clients = follows(gateway, 900, stack)
+        poll = select.poll()
+        for client in clients:
+            poll.register(client, select.POLLIN)
+        told = []
+        with contextlib.closing(gateway.connection()) as connection:
+            for number in range(30):
+                connection.request("PUT", "/documents/d", str(number), {"Content-Type": "application/json"})
+                assert connection.getresponse().read()
+                told.append(len(poll.poll(0)))
+                take(clients, b'"seq":%d}' % (number + 1))
+        assert min(told) < 450, told
+
+
+def test_what_is_large_has_threads_of_its_own(place):
+    place.format(65536)
+    with Gateway(place) as gateway, contextlib.closing(gateway.connection()) as connection:
+        before = working(gateway)
+        text, worked = b" " * (BODY - 1) + b"1", {}
+
+        def is_enough():
+            connection.request("PUT", "/documents/d", text, {"Content-Type": "application/json"})
+            assert connection.getresponse().read()
+            worked.update({name: ticks - before[name] for name, ticks in working(gateway).items()})
+            return sum(worked.values()) >= 50
+        until(is_enough, "half a second of work")
+    assert worked["jpstored-large"] > 2 * worked["jpstored"], worked

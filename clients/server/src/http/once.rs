@@ -156,8 +156,25 @@ fn key_in(text: &str) -> Option<String> {
         });
     }
     let mut rest = Rest::of(letters.as_str());
-    rest.parameters(is_item)?;
+    pass_parameters(&mut rest)?;
     ((1..=MOST).contains(&key.len()) && rest.is_empty()).then(|| key)
+}
+
+/// Passes over the parameters of an item of structured fields: blanks may come after a semicolon, and nowhere else.
+fn pass_parameters(rest: &mut Rest<'_>) -> Option<()> {
+    while rest.pass(';') {
+        while rest.pass(' ') {}
+        rest.some(is_key)?;
+        if rest.pass('=') && rest.quoted().is_none() {
+            rest.some(is_item)?;
+        }
+    }
+    Some(())
+}
+
+/// Whether a byte may be in the name of a parameter.
+fn is_key(byte: u8) -> bool {
+    byte.is_ascii_lowercase() || byte.is_ascii_digit() || b"_-.*".contains(&byte)
 }
 
 /// Whether a byte may be in an item that is no string.
@@ -183,7 +200,7 @@ mod tests {
     #[test]
     fn a_key_is_a_string_of_structured_fields() {
         assert_eq!(key_in(" \"a \\\"b\\\\\" ").as_deref(), Some("a \"b\\"));
-        for text in ["\"a\";x=1", "\"a\" ; x ;y=\"b;\\\"\";z=:YQ==:;u=?1"] {
+        for text in ["\"a\";x=1", "\"a\";  x;y=\"b;\\\"\";z=:YQ==:;u=?1 "] {
             assert_eq!(key_in(text).as_deref(), Some("a"), "{text}");
         }
         assert_eq!(key_in(&format!("\"{}\"", "x".repeat(200))).map(|key| key.len()), Some(200));
@@ -202,6 +219,11 @@ mod tests {
             "\"a\";x=\"",
             "\"a\" x",
             "\"a\";=1",
+            "\"a\" ;x=1",
+            "\"a\";x =1",
+            "\"a\";x= 1",
+            "\"a\";X=1",
+            "\"a\";",
             &long,
         ] {
             assert_eq!(key_in(text), None, "{text}");

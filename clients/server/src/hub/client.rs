@@ -90,6 +90,9 @@ impl Client {
     async fn serve(&mut self) -> io::Result<Option<Watched>> {
         loop {
             let lines = self.lines();
+            if !lines.is_empty() || self.next.is_some() {
+                self.guest.waits();
+            }
             if !lines.is_empty() {
                 if !self.answer(lines).await? {
                     return Ok(None);
@@ -165,7 +168,6 @@ impl Client {
             () = self.lines.lost() => return Ok(false),
             () = self.guest.must_leave() => return Ok(false),
         }
-        self.guest.waits();
         self.lines.moved(self.framing.buffer.len() - before);
         self.lines.waits(false);
         Ok(self.has_room())
