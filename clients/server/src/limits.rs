@@ -32,7 +32,7 @@ pub const MOST_OTHERS: Duration = Duration::from_secs(15);
 
 // Threads.
 
-/// How many threads there are for what is large, and for large texts beside them, but for no more than half of the processors.
+/// How many threads there are for what is large, but for no more than half of the processors.
 pub const LARGE_THREADS: usize = 2;
 
 /// After so many tasks a thread looks for those that have come from elsewhere, and the next connections are let in.
@@ -58,10 +58,6 @@ pub const SOCKET_EXPORTS: usize = 32;
 
 /// Queries that are asked: a reply to one may have 16 MiB.
 pub const QUERIES: usize = 8;
-
-/// The bytes of text for each turn to take large texts apart, of which there are as many as threads for what is large. A text that is
-/// longer than all of them has all.
-pub const BYTES_OF_A_TURN: usize = 1 << 20;
 
 // Connections.
 

@@ -54,7 +54,7 @@ impl App {
             bodies: Room::of_bytes(BODIES),
             heads: Room::of_bytes(HEADS),
             queries: Semaphore::new(QUERIES),
-            trees: Trees::new(),
+            trees: Trees::new(large.clone()),
             exports: Room::of_places(EXPORTS, GRACE),
             followers: Room::of_places(FOLLOWERS, PLACE),
             patience,

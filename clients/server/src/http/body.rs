@@ -117,6 +117,9 @@ impl BodyState {
         if let Left::Length(length) = self.left {
             // At once, so that those who have a part of their room don't wait for each other.
             has_room(taken, length as usize).await?;
+            if taken.is_some() {
+                body.reserve(length as usize);
+            }
         }
         if std::mem::take(&mut self.expects) && buffer.is_empty() {
             stream.write_all(b"HTTP/1.1 100 Continue\r\n\r\n").await.map_err(|_| Fault::NotWhole)?;

@@ -5,7 +5,7 @@ use super::problem::Problem;
 use super::response::{Body, Response};
 use super::target::parameters;
 use crate::history::name::name_in;
-use crate::history::{Beginning, Gone, History, HEAD};
+use crate::history::{Beginning, Event, Gone, History, HEAD};
 use crate::json::{members_in, quoted};
 use crate::lines::replies::is_name;
 use crate::other::LineStream;
@@ -234,7 +234,7 @@ async fn own_events(
             }
             some => {
                 *told = Told::now(next.last);
-                return Ok(Some(some.iter().flat_map(|event| event.bytes()).collect()));
+                return Ok(Some(some.iter().map(Event::bytes).collect::<Vec<_>>().concat().into()));
             }
         }
     }

@@ -142,7 +142,7 @@ pub async fn text_of(request: &mut Request<'_>) -> Result<Compact, Problem> {
         return Err(problem.with("Accept-Encoding", "identity"));
     }
     let body = request.body().await?;
-    request.app.trees.work(body.len(), || checked(&body)).await
+    request.app.trees.work(body.len(), move || checked(&body)).await
 }
 
 /// A text that was checked, or the problem of one that no line can carry.
@@ -227,7 +227,7 @@ pub async fn put(request: &mut Request<'_>, name: &str) -> Result<Response, Prob
     };
     let made = or_before(request, made).await?;
     let schema = schema.unwrap_or_default();
-    let notices = request.app.trees.work(schema.len(), || notices_in(&schema)).await;
+    let notices = request.app.trees.work(schema.len(), move || notices_in(&schema)).await;
     Ok(changed(name, made, &notices))
 }
 
@@ -372,8 +372,8 @@ async fn merging(
 ) -> Result<(Option<u64>, Vec<u8>), Problem> {
     let document = request.app.store.document(name).await?;
     condition.check(Some(document.rev))?;
-    let size = document.text.len() + patch.text.len();
-    let operations = request.app.trees.work(size, || merge_operations(&document.text, &patch.text)).await;
+    let (doc, patch) = (document.text.clone(), patch.text.clone());
+    let operations = request.app.trees.work(doc.len() + patch.len(), move || merge_operations(&doc, &patch)).await;
     let told = "the patch nests deeper than 127 levels";
     operations.map(|operations| (Some(document.rev), operations)).ok_or_else(|| Problem::refused(11, told))
 }

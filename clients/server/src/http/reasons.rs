@@ -155,7 +155,8 @@ impl Reasons {
 
 /// What a process is asked of a refused change.
 async fn asked_of_change(app: &App, problem: &Problem, number: u64, line: &[u8]) -> Vec<u8> {
-    let refused = app.trees.work(line.len(), || Refused::of(line, problem.change)).await;
+    let (text, change) = (line.to_vec(), problem.change);
+    let refused = app.trees.work(line.len(), move || Refused::of(&text, change)).await;
     let pair = match &refused.document {
         Some(name) if number == INVALID => pair_of(&app.store, name).await,
         _ => Vec::new(),

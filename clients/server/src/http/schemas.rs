@@ -29,6 +29,6 @@ pub async fn put(request: &mut Request<'_>, name: &str) -> Result<Response, Prob
     let schema = text_of(request).await?.text;
     let made = change_if(request, name, &condition, &setting(name, &schema)).await;
     let made = or_before(request, made).await?;
-    let notices = request.app.trees.work(schema.len(), || notices_in(&schema)).await;
+    let notices = request.app.trees.work(schema.len(), move || notices_in(&schema)).await;
     Ok(changed(name, made, &notices))
 }

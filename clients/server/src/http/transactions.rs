@@ -29,7 +29,7 @@ pub async fn make_all(request: &mut Request<'_>) -> Result<Response, Problem> {
     }
     let body = text_of(request).await?.text;
     let has_key = request.once.is_some();
-    let (line, warnings) = request.app.trees.work(body.len(), || line_of(&body, has_key)).await?;
+    let (line, warnings) = request.app.trees.work(body.len(), move || line_of(&body, has_key)).await?;
     let made = match make(request, line, 200).await {
         Ok(made) => or_problem(request, made).await,
         Err(problem) => Err(problem),

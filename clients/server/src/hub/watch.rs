@@ -48,7 +48,7 @@ pub(super) async fn tell(
         match &events[..] {
             // It isn't copied: many watchers may be sent the same one.
             [one] => client.write(&one.line()).await?,
-            some => client.write(&some.iter().flat_map(Event::line).collect::<Vec<u8>>()).await?,
+            some => client.write(&some.iter().map(Event::line).collect::<Vec<_>>().concat()).await?,
         }
     }
 }
