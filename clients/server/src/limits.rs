@@ -3,7 +3,7 @@
 //! The rule: what is small (up to [`SMALL`] bytes) seldom waits for what is large, and needs no room that others share. What is
 //! large takes room; when there is none left, the client that moved least lately gives its room up. Whatever is done for a client
 //! at once ends after some bytes, and then it is the turn of others. What takes long leaves others the most of the time. What is
-//! large, or goes to many, is for threads of its own, and leaves processors to the others.
+//! large, or goes to many, has threads of its own, and leaves the other processors to what is small.
 
 use std::time::Duration;
 
@@ -23,17 +23,13 @@ pub const ROUND_REPLIES: usize = 1 << 18;
 pub const WINDOW: usize = 64;
 
 /// What takes so long that others notice it. Before the next of its kind so many small requests come for each that waited for it,
-/// or they have had so many times as long as it took, or this; all of it only while they come. So it isn't seen at the 99th
-/// percentile of what they wait.
+/// or they have had so many times as long as it took, but this at least, and this at most; all of it only while they come. So it
+/// isn't seen at the 99th percentile of what they wait.
 pub const LONG: Duration = Duration::from_millis(1);
 pub const OTHERS: u64 = 500;
 pub const TIMES_AS_LONG: u32 = 8;
+pub const LEAST_OTHERS: Duration = Duration::from_millis(32);
 pub const MOST_OTHERS: Duration = Duration::from_secs(15);
-
-// Threads.
-
-/// How many threads there are for what is large, but for no more than half of the processors.
-pub const LARGE_THREADS: usize = 2;
 
 /// After so many tasks a thread looks for those that have come from elsewhere, and the next connections are let in.
 pub const TASKS: u32 = 8;

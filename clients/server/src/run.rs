@@ -161,7 +161,7 @@ async fn web(options: &Options, workers: &Workers) -> Result<Option<Web>, Error>
     };
     let (host, port) = http::listening::place(listen)?;
     let address = http::listening::address(&host, port, token.is_some())?;
-    let listener = http::listening::at(address, options.wait, &workers.small).await?;
+    let listener = http::listening::at(address, options.wait, &workers.large).await?;
     Ok(Some(Web { listener, guard: Guard::new(token, options.origins.clone(), &host) }))
 }
 
@@ -173,9 +173,9 @@ fn doors(options: &Options) -> usize {
 fn welcome_web(options: &Options, workers: &Workers, web: Web, which: Which, ending: &Ending) -> Arc<App> {
     let store = Store { which, answers: Room::of_bytes(ANSWERS) };
     let reasons = Reasons::new(&options.python, Thread::current(), ending.clone());
-    let app = Arc::new(App::new(store, web.guard, reasons, options.patience, workers.large.clone()));
+    let app = Arc::new(App::new(store, web.guard, reasons, options.patience, workers.clone()));
     let told = web.listener.local_addr().map_or_else(|_| String::new(), |address| format!("http://{address}/"));
-    workers.small.spawn(http::serve(web.listener, app.clone(), places(doors(options)), ending.clone()));
+    workers.large.spawn(http::serve(web.listener, app.clone(), places(doors(options)), ending.clone()));
     say::announce(&format!("{} is served at {told}", options.store.display()));
     app
 }

@@ -186,7 +186,9 @@ async fn own(handle: &Handle, lines: Lines, room: &Room) -> Result<Option<Replie
         Ok(answer) => answer.map_err(|_| no_room())?,
         Err(_) => return Ok(None),
     };
-    let all = Bytes::from(answer.replies);
-    let lines: Vec<Bytes> = all.split_inclusive(|byte| *byte == b'\n').map(|line| all.slice_ref(line)).collect();
+    let (mut rest, mut lines) = (Bytes::from(answer.replies), Vec::with_capacity(count));
+    while let Some(place) = memchr::memchr(b'\n', &rest) {
+        lines.push(rest.split_to(place + 1));
+    }
     Ok((lines.len() == count).then(|| Replies { lines, taken: Some(answer.taken) }))
 }

@@ -1,9 +1,8 @@
-//! The threads that serve clients: some for what is small, others for what is large or is done for many followers. So what is small
-//! waits for nothing that takes long, and finds a processor that is free, if there are two.
+//! The threads that serve clients: some for what is small, and one for what is large or is done for many. So what is small waits for
+//! nothing that takes long, and finds a processor that is free, if there are two.
 
 use crate::error::Error;
-use crate::limits::{LARGE_THREADS, TASKS};
-use std::thread::available_parallelism;
+use crate::limits::TASKS;
 use tokio::runtime::{Builder, Handle, Runtime};
 
 /// All of them.
@@ -17,7 +16,7 @@ pub struct Threads {
 pub struct Workers {
     /// The threads for what is small.
     pub small: Handle,
-    /// Those for what is large.
+    /// The one for what is large.
     pub large: Handle,
 }
 
@@ -26,7 +25,7 @@ impl Threads {
     pub fn begin() -> Result<Threads, Error> {
         Ok(Threads {
             small: runtime(Builder::new_multi_thread().thread_name("jpstored"))?,
-            large: runtime(Builder::new_multi_thread().thread_name("jpstored-large").worker_threads(for_large()))?,
+            large: runtime(Builder::new_multi_thread().thread_name("jpstored-large").worker_threads(1))?,
         })
     }
 
@@ -46,10 +45,4 @@ impl Threads {
 pub fn runtime(builder: &mut Builder) -> Result<Runtime, Error> {
     let built = builder.enable_all().event_interval(TASKS).global_queue_interval(TASKS).build();
     built.map_err(|error| Error::new(format!("the server cannot begin: {error}")))
-}
-
-/// How many threads there are for what is large.
-pub fn for_large() -> usize {
-    let processors = available_parallelism().map_or(1, usize::from);
-    LARGE_THREADS.min(processors / 2).max(1)
 }

@@ -8,8 +8,8 @@ use super::trees::Trees;
 use crate::limits::{BODIES, EXPORTS, FOLLOWERS, GRACE, HEADS, PLACE, QUERIES};
 use crate::program::room::Room;
 use crate::store::Store;
+use crate::threads::Workers;
 use std::time::Duration;
-use tokio::runtime::Handle;
 use tokio::sync::Semaphore;
 
 /// The store over HTTP.
@@ -38,13 +38,13 @@ pub struct App {
     pub followers: Room,
     /// How long a client may take for a request; for a piece of an answer half of it.
     pub patience: Duration,
-    /// The threads for what is large.
-    pub large: Handle,
+    /// The threads.
+    pub workers: Workers,
 }
 
 impl App {
     /// The store over HTTP.
-    pub fn new(store: Store, guard: Guard, reasons: Reasons, patience: Duration, large: Handle) -> App {
+    pub fn new(store: Store, guard: Guard, reasons: Reasons, patience: Duration, workers: Workers) -> App {
         App {
             store,
             guard,
@@ -54,11 +54,11 @@ impl App {
             bodies: Room::of_bytes(BODIES),
             heads: Room::of_bytes(HEADS),
             queries: Semaphore::new(QUERIES),
-            trees: Trees::new(large.clone()),
+            trees: Trees::new(workers.large.clone()),
             exports: Room::of_places(EXPORTS, GRACE),
             followers: Room::of_places(FOLLOWERS, PLACE),
             patience,
-            large,
+            workers,
         }
     }
 }

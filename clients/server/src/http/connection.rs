@@ -12,7 +12,6 @@ use super::routes;
 use super::target;
 use crate::doors::{let_in, Guest, Places};
 use crate::ending::Ending;
-use crate::limits::SMALL;
 use crate::program::room::{lost, Taken};
 use bytes::{Bytes, BytesMut};
 use std::io;
@@ -44,13 +43,13 @@ pub async fn serve(listener: TcpListener, app: Arc<App>, places: Places, ending:
 
 /// A connection of a client.
 pub struct Connection {
-    stream: TcpStream,
+    pub(super) stream: TcpStream,
     buffer: BytesMut,
     looked: usize,
     /// Whether the buffer has held a long head.
     was_long: bool,
     body: BodyState,
-    app: Arc<App>,
+    pub(super) app: Arc<App>,
     ending: Ending,
     guest: Arc<Guest>,
     /// What is taken of others for what is written now.
@@ -95,7 +94,7 @@ impl Request<'_> {
 
 /// What becomes of a connection after a request.
 #[derive(PartialEq, Eq)]
-enum After {
+pub(super) enum After {
     Next,
     Close,
 }
@@ -107,49 +106,14 @@ impl Connection {
         Connection { stream, buffer, looked: 0, was_long: false, body, app, ending, guest, held: None }
     }
 
-    async fn serve(self) {
-        // If it fails, the connection is as it was, only slower.
-        let _ = self.stream.set_nodelay(true);
-        // A client that has gone away is no error.
-        let _ = self.requests().await;
-    }
-
-    async fn requests(mut self) -> io::Result<()> {
-        loop {
-            let head = match self.head().await? {
-                Some(Ok(head)) => head,
-                Some(Err(refused)) => return self.refuse(refused).await,
-                None => return Ok(()),
-            };
-            let after = if is_large(&head) {
-                let large = self.app.large.clone();
-                let (connection, after) = large.spawn(self.here(head)).await??;
-                self = connection.adopted()?;
-                after
-            } else {
-                self.answer(head).await?
-            };
-            if after == After::Close {
-                return self.close().await;
-            }
-        }
-    }
-
-    /// Answers a request on the threads on which this is called, and not where its head was read.
-    async fn here(self, head: Head) -> io::Result<(Connection, After)> {
-        let mut connection = self.adopted()?;
-        let after = connection.answer(head).await?;
-        Ok((connection, after))
-    }
-
-    /// The connection, with the socket watched by the threads on which this is called.
-    fn adopted(self) -> io::Result<Connection> {
+    /// The connection, of which the threads on which this is called hear from now on.
+    pub(super) fn adopted(self) -> io::Result<Connection> {
         let stream = TcpStream::from_std(self.stream.into_std()?)?;
         Ok(Connection { stream, ..self })
     }
 
     /// Answers what is no request, and ends the connection.
-    async fn refuse(&mut self, refused: head::Refused) -> io::Result<()> {
+    pub(super) async fn refuse(&mut self, refused: head::Refused) -> io::Result<()> {
         let head::Refused { why, known } = refused;
         let problem = match why.status {
             503 => Problem::busy(why.told),
@@ -163,7 +127,7 @@ impl Connection {
     }
 
     /// The next head; none if the client has ended, was idle for too long, or the server ends.
-    async fn head(&mut self) -> io::Result<Option<Result<Head, head::Refused>>> {
+    pub(super) async fn head(&mut self) -> io::Result<Option<Result<Head, head::Refused>>> {
         let deadline = Instant::now() + self.app.patience;
         let mut taken = None;
         self.guest.is_waited_for();
@@ -201,7 +165,8 @@ impl Connection {
         }
     }
 
-    async fn answer(&mut self, head: Head) -> io::Result<After> {
+    /// Answers a request.
+    pub(super) async fn answer(mut self, head: Head) -> io::Result<(Connection, After)> {
         self.body = BodyState::new(head.framing, head.expects());
         let app = self.app.clone();
         let (method, keeps, is_1_1) = (head.method.clone(), head.keeps(), head.is_1_1);
@@ -213,13 +178,18 @@ impl Connection {
         let must_close = (response.is_stream() && !is_1_1) || (!self.body.is_done() && !self.body.may_be_dropped());
         let is_end = self.ending.has_begun() || self.guest.is_last();
         let closes = !keeps || must_close || is_end || response.status == 408;
-        self.send(response, method == "HEAD", is_1_1, closes).await?;
-        if closes {
-            return Ok(After::Close);
+        if response.is_large() {
+            self = self.send_there(response, method == "HEAD", is_1_1, closes).await?;
+        } else {
+            self.send(response, method == "HEAD", is_1_1, closes).await?;
         }
-        let Connection { stream, buffer, body, app, .. } = self;
+        if closes {
+            return Ok((self, After::Close));
+        }
+        let Connection { stream, buffer, body, app, .. } = &mut self;
         let is_read = body.is_done() || body.drop_rest(stream, buffer, app.patience).await;
-        Ok(if is_read && !self.guest.is_last() { After::Next } else { After::Close })
+        let after = if is_read && !self.guest.is_last() { After::Next } else { After::Close };
+        Ok((self, after))
     }
 
     async fn response(&mut self, head: Head, app: &Arc<App>) -> Response {
@@ -238,7 +208,13 @@ impl Connection {
     }
 
     /// Sends an answer.
-    async fn send(&mut self, response: Response, is_head: bool, is_1_1: bool, closes: bool) -> io::Result<()> {
+    pub(super) async fn send(
+        &mut self,
+        response: Response,
+        is_head: bool,
+        is_1_1: bool,
+        closes: bool,
+    ) -> io::Result<()> {
         let mut head = self.head_of(&response);
         if closes {
             add_field(&mut head, "Connection", "close");
@@ -400,7 +376,7 @@ impl Connection {
     }
 
     /// Ends the connection. What the client still sends is dropped for a while, or it might not get its answer.
-    async fn close(&mut self) -> io::Result<()> {
+    pub(super) async fn close(&mut self) -> io::Result<()> {
         self.stream.shutdown().await?;
         let deadline = Instant::now() + LINGER;
         let (mut dropped, mut piece) = (0, vec![0; READ]);
@@ -417,15 +393,6 @@ impl Connection {
         }
         Ok(())
     }
-}
-
-/// Whether a request is one for the threads of what is large: its body is large, or what answers it has no end that is near.
-fn is_large(head: &Head) -> bool {
-    let has_large_body = match head.framing {
-        Framing::Length(length) => length > SMALL as u64,
-        Framing::Chunks => true,
-    };
-    has_large_body || target::parts(&head.target).map_or(false, |parts| routes::is_stream(parts.path))
 }
 
 /// What comes next to a follower.

@@ -18,6 +18,7 @@ mod link;
 pub mod listening;
 mod making;
 mod merge;
+mod moving;
 mod notices;
 mod once;
 mod pace;

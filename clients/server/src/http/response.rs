@@ -2,6 +2,7 @@
 
 use super::changes::Events;
 use super::lines::DocumentLines;
+use crate::limits::SMALL;
 use crate::program::room::Taken;
 use bytes::Bytes;
 
@@ -53,6 +54,11 @@ impl Response {
     /// Whether its end isn't known when it begins.
     pub fn is_stream(&self) -> bool {
         matches!(self.body, Body::Events(_) | Body::Lines(_))
+    }
+
+    /// Whether its content is large.
+    pub fn is_large(&self) -> bool {
+        matches!(&self.body, Body::Bytes(bytes, _) if bytes.len() > SMALL) || self.is_stream()
     }
 
     /// The same with a further field.

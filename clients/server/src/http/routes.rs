@@ -27,11 +27,6 @@ enum Route {
 
 const READ: &str = "GET,HEAD,OPTIONS";
 
-/// Whether a path leads to all documents, or to the changes, which may be answered by a stream.
-pub fn is_stream(path: &str) -> bool {
-    matches!(Route::of(path), Some(Route::Documents | Route::Changes))
-}
-
 impl Route {
     fn of(path: &str) -> Option<Route> {
         if let Some(file) = page::file_at(path) {

@@ -1,4 +1,4 @@
-//! Turns to take large texts apart: on the threads for what is large, one at a time. The values of a text may take a hundred times its
+//! Turns to take large texts apart, one at a time, on a thread beside that for what is large. The values of a text may take a hundred times its
 //! bytes, and are there only while it is taken apart. A small text waits for no turn.
 
 use crate::limits::SMALL;
@@ -16,7 +16,7 @@ pub struct Trees {
 }
 
 impl Trees {
-    /// Turns on these threads.
+    /// Turns beside these threads.
     pub fn new(large: Handle) -> Trees {
         Trees { turn: Mutex::new(()), large }
     }
@@ -30,7 +30,7 @@ impl Trees {
             return on();
         }
         let _turn = self.turn.lock().await;
-        let worked = self.large.spawn(async move {
+        let worked = self.large.spawn_blocking(move || {
             let made = on();
             if size >= MUCH {
                 // Before the next one has its turn, the system has what the values took: each thread would else keep it.

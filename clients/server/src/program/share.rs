@@ -1,6 +1,6 @@
 //! The shares of the program's time: few of the small requests meet what takes long.
 
-use crate::limits::{LONG, MOST_OTHERS, OTHERS, TIMES_AS_LONG};
+use crate::limits::{LEAST_OTHERS, LONG, MOST_OTHERS, OTHERS, TIMES_AS_LONG};
 use tokio::time::{Duration, Instant};
 
 /// What may take long. One of each kind is done at a time.
@@ -62,14 +62,15 @@ impl Shares {
     pub fn next(&self, kind: Slow) -> Option<Instant> {
         let Held { took, ended, enough } = self.held[kind as usize]?;
         let came = self.came.map_or(ended, |came| came.max(ended));
-        let until = (ended + (TIMES_AS_LONG * took).min(MOST_OTHERS)).min(came + took);
+        let rest = (TIMES_AS_LONG * took).clamp(LEAST_OTHERS, MOST_OTHERS);
+        let until = (ended + rest).min(came + took);
         (self.count < enough).then(|| until)
     }
 }
 
 #[cfg(test)]
 mod tests {
-    use super::{Duration, Instant, Shares, Slow, LONG, MOST_OTHERS, OTHERS, TIMES_AS_LONG};
+    use super::{Duration, Instant, Shares, Slow, LEAST_OTHERS, LONG, MOST_OTHERS, OTHERS, TIMES_AS_LONG};
 
     const KIND: Slow = Slow::Change;
     const TOOK: Duration = Duration::from_millis(100);
@@ -98,6 +99,7 @@ mod tests {
         assert_eq!(rest(TOOK, 2, OTHERS, TOOK), Some(TIMES_AS_LONG * TOOK));
         assert_eq!(rest(TOOK, 2, 2 * OTHERS, TOOK), None);
         assert_eq!(rest(MOST_OTHERS, 1, 9, LONG), Some(MOST_OTHERS));
+        assert_eq!(rest(LONG, 1, 99, LONG), Some(LEAST_OTHERS));
     }
 
     #[test]
