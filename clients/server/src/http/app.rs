@@ -30,7 +30,7 @@ pub struct App {
     pub heads: Room,
     /// The queries that are asked.
     pub queries: Semaphore,
-    /// The bodies that are taken apart.
+    /// The texts of which values are made.
     pub trees: Trees,
     /// The clients that read all documents.
     pub exports: Room,

@@ -141,8 +141,7 @@ pub async fn text_of(request: &mut Request<'_>) -> Result<Compact, Problem> {
         let problem = Problem::new(415, "coding", "the body must not be compressed");
         return Err(problem.with("Accept-Encoding", "identity"));
     }
-    let body = request.body().await?;
-    request.app.trees.work(body.len(), move || checked(&body)).await
+    checked(&request.body().await?)
 }
 
 /// A text that was checked, or the problem of one that no line can carry.

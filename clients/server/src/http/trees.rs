@@ -1,5 +1,5 @@
-//! Turns to take large texts apart, one at a time, on a thread beside that for what is large. The values of a text may take a hundred times its
-//! bytes, and are there only while it is taken apart. A small text waits for no turn.
+//! Turns to make values of large texts, one at a time, on a thread beside that for what is large. They may take a hundred times the
+//! bytes of their text, and are there only as long as they are worked on. A small text waits for no turn.
 
 use crate::limits::SMALL;
 use std::panic::resume_unwind;
@@ -21,7 +21,7 @@ impl Trees {
         Trees { turn: Mutex::new(()), large }
     }
 
-    /// Works on texts of this many bytes together.
+    /// Works on the values of texts of this many bytes together.
     pub async fn work<Made>(&self, size: usize, on: impl FnOnce() -> Made + Send + 'static) -> Made
     where
         Made: Send + 'static,

@@ -15,6 +15,7 @@ use super::start::Program;
 use super::waiting::Waiting;
 use crate::error::Error;
 use crate::history::History;
+use crate::limits::SMALL;
 use crate::lines::replies::is_failure;
 use crate::lines::transactions::{changes_after, Told};
 use crate::lines::SEAL;
@@ -151,6 +152,9 @@ impl Engine {
         for pending in jobs {
             let document = self.waiting.add(pending).and_then(Pending::send);
             if let Some((name, document)) = document.filter(|_| may_be_kept) {
+                if document.text.len() > SMALL {
+                    self.waiting.hand_out(&name, &document);
+                }
                 self.cache.put(&name, document);
             }
         }

@@ -109,6 +109,17 @@ impl Pending {
         self.replies.extend_from_slice(reply);
     }
 
+    /// Hands the document to the one who waits for it, if it is the one of this name; else it is still to be done.
+    pub fn unless_wanted(self, name: &str, document: &Arc<Document>) -> Option<Pending> {
+        match self.job.reply {
+            Reply::Document(wanted, reply) if wanted == name => {
+                let _ = reply.send(Ok(document.clone()));
+                None
+            }
+            reply => Some(Pending { job: Job { reply, ..self.job }, ..self }),
+        }
+    }
+
     /// Hands the replies to the one who waits for them. One who has gone away wants none. A document that was answered is
     /// returned.
     pub fn send(self) -> Option<(String, Arc<Document>)> {

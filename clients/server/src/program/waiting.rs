@@ -3,6 +3,7 @@
 //! What is small never waits for more than one line that is large or may take long, and seldom for one. Jobs of a kind come by
 //! turns.
 
+use super::cache::Document;
 use super::export::Wanted;
 use super::job::{Job, Pending, State};
 use super::share::{Begun, Shares, Slow};
@@ -11,6 +12,7 @@ use crate::limits::{ROUND_BYTES, ROUND_LINES, ROUND_REPLIES, SMALL, WINDOW};
 use crate::lines::Line;
 use bytes::Bytes;
 use std::collections::VecDeque;
+use std::sync::Arc;
 use tokio::time::Instant;
 
 /// The jobs that wait.
@@ -122,6 +124,14 @@ impl Waiting {
     pub fn take_all(&mut self) -> impl Iterator<Item = Pending> + '_ {
         let queues = [&mut self.changing, &mut self.asking, &mut self.slow_changes, &mut self.slow_questions];
         queues.into_iter().flat_map(|queue| queue.drain(..))
+    }
+
+    /// Answers all others who wait for a document that was read now.
+    pub fn hand_out(&mut self, name: &str, document: &Arc<Document>) {
+        for queue in [&mut self.asking, &mut self.slow_questions] {
+            let all = std::mem::take(queue).into_iter();
+            *queue = all.filter_map(|pending| pending.unless_wanted(name, document)).collect();
+        }
     }
 
     /// How long the replies to the next questions of a job are expected to be: to all of one that is done whole.
