@@ -104,6 +104,19 @@ def test_who_asks_much_at_once_lets_others_change_and_ask(place):
         assert asked() < 100
 
 
+def test_a_large_document_that_many_wait_for_is_read_once(place):
+    """Those who ask while the program has other things to do get what it answers then."""
+    place.format(16384)
+    with place.store() as store:
+        store.create("large", "x" * 300_000)
+    slow, asked = slowed(place, 1)
+    with Gateway(slow, "--cache", "0") as gateway, ThreadPoolExecutor(40) as threads:
+        answers = list(threads.map(lambda _: gateway.get("/documents/large"), range(40)))
+        assert {(answer.status, len(answer.body)) for answer in answers} == {(200, 300_002)}
+    # Those that came at once, before it was known how long it is, and further ones.
+    assert asked() < 20, asked()
+
+
 def test_small_changes_seldom_wait_for_a_large_one(place):
     """Two clients send large documents over and over. Another sends small ones, each when that before was answered."""
     place.format(65536)

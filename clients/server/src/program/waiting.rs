@@ -257,7 +257,8 @@ mod tests {
     use super::super::job::{Answer, NoRoom, Reply};
     use super::super::room::Room;
     use super::{
-        Bytes, Instant, Job, Line, Portion, Slow, Turn, Waiting, ROUND_BYTES, ROUND_LINES, ROUND_REPLIES, SMALL,
+        Arc, Bytes, Document, Instant, Job, Line, Portion, Slow, Turn, Waiting, ROUND_BYTES, ROUND_LINES,
+        ROUND_REPLIES, SMALL,
     };
     use crate::limits::LONG;
     use crate::lines::Lines;
@@ -385,6 +386,27 @@ mod tests {
         assert!(first.try_recv().is_ok());
         assert!(waiting.small_questions(ROUND_REPLIES).jobs.is_empty());
         assert_eq!(waiting.slow_question(Instant::now()).unwrap().lines.len(), 1);
+    }
+
+    #[test]
+    fn who_waits_for_a_document_that_was_read_now_gets_it() {
+        let mut waiting = Waiting::default();
+        let mut asked = ["a", "b", "a"].map(|name| {
+            let (reply, answered) = oneshot::channel();
+            let questions = [crate::lines::replies::get(name, "").into()].into();
+            let (lines, reply) = (Lines { questions, ..Lines::default() }, Reply::Document(name.to_owned(), reply));
+            assert!(waiting.come(Job { lines, room: Room::of_bytes(1 << 30), whole: true, reply }).is_none());
+            answered
+        });
+        let mut same = questions(&mut waiting, &["a"], true);
+        waiting.hand_out("a", &Arc::new(Document::new(7, Bytes::from_static(b"1"))));
+        let rev = |answered: &mut Receiver<Result<Arc<Document>, Bytes>>| {
+            answered.try_recv().ok().map(|found| found.unwrap().rev)
+        };
+        assert_eq!(asked.iter_mut().map(rev).collect::<Vec<_>>(), [Some(7), None, Some(7)]);
+        let portion = waiting.small_questions(ROUND_REPLIES);
+        assert_eq!(answer(&mut waiting, portion, |_| 10), [10, 10]);
+        assert!(same.try_recv().is_ok());
     }
 
     #[test]
