@@ -263,7 +263,8 @@ def test_clients_that_wait_keep_nobody_out(place, sent):
                 assert client.recv(12)[9:10] == b"2"
 
 
-AT_THE_SOCKET = {"nothing": b"", "a line": b'{"cmd":"li', "changes": b'{"cmd":"watch"}\n', "an answer": b'{"cmd":"list"}\n'}
+AT_THE_SOCKET = {"nothing": b"", "a line": b'{"cmd":"li', "changes": b'{"cmd":"watch"}\n',
+                 "an answer": b'{"cmd":"list"}\n'}
 
 
 @pytest.mark.parametrize("sent", AT_THE_SOCKET.values(), ids=AT_THE_SOCKET)
@@ -351,16 +352,32 @@ def test_a_change_waits_for_no_followers(place):
         assert min(told) < 450, told
 
 
-def test_what_is_large_has_threads_of_its_own(place):
+def sends(connection, _):
+    connection.request("PUT", "/documents/d", b" " * (BODY - 1) + b"1", {"Content-Type": "application/json"})
+    assert connection.getresponse().read()
+
+
+def reads(connection, _):
+    connection.request("GET", "/documents/large")
+    assert connection.getresponse().read()
+
+
+def comes_and_goes(_, gateway):
+    for _ in range(100):
+        gateway.raw().close()
+
+
+@pytest.mark.parametrize("asks", [sends, reads, comes_and_goes])
+def test_what_is_large_has_a_thread_of_its_own(place, asks):
+    """So do clients that ask for nothing."""
     place.format(65536)
     with Gateway(place) as gateway, contextlib.closing(gateway.connection()) as connection:
-        before = working(gateway)
-        text, worked = b" " * (BODY - 1) + b"1", {}
+        gateway.put("/documents/large", "x" * 1_000_000)
+        before, worked = working(gateway), {}
 
         def is_enough():
-            connection.request("PUT", "/documents/d", text, {"Content-Type": "application/json"})
-            assert connection.getresponse().read()
+            asks(connection, gateway)
             worked.update({name: ticks - before[name] for name, ticks in working(gateway).items()})
             return sum(worked.values()) >= 50
         until(is_enough, "half a second of work")
-    assert worked["jpstored-large"] > 2 * worked["jpstored"], worked
+    assert worked["jpstored-large"] > worked["jpstored"], worked
