@@ -28,7 +28,7 @@ pub const WINDOW: usize = 64;
 pub const LONG: Duration = Duration::from_millis(1);
 pub const OTHERS: u64 = 500;
 pub const TIMES_AS_LONG: u32 = 8;
-pub const LEAST_OTHERS: Duration = Duration::from_millis(32);
+pub const LEAST_OTHERS: Duration = Duration::from_millis(64);
 pub const MOST_OTHERS: Duration = Duration::from_secs(15);
 
 /// After so many tasks a thread looks for those that have come from elsewhere, and the next connections are let in.

@@ -33,8 +33,8 @@ use tokio::time::{timeout_at, Instant};
 const TOLD: [u64; 14] = [13, 14, 15, 30, 31, 33, 40, 41, 42, 43, 44, 45, 50, 51];
 const INVALID: u64 = 45;
 
-/// How many processes look beside each other.
-const MOST: usize = 2;
+/// How many processes look beside each other: each may take a processor.
+const MOST: usize = 1;
 
 /// How long a refusal waits for its reason.
 const PATIENCE: Duration = Duration::from_secs(1);

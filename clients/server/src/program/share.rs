@@ -99,7 +99,7 @@ mod tests {
         assert_eq!(rest(TOOK, 2, OTHERS, TOOK), Some(TIMES_AS_LONG * TOOK));
         assert_eq!(rest(TOOK, 2, 2 * OTHERS, TOOK), None);
         assert_eq!(rest(MOST_OTHERS, 1, 9, LONG), Some(MOST_OTHERS));
-        assert_eq!(rest(LONG, 1, 99, LONG), Some(LEAST_OTHERS));
+        assert_eq!(rest(LONG, 1, 199, LONG), Some(LEAST_OTHERS));
     }
 
     #[test]
