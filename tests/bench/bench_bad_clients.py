@@ -25,7 +25,8 @@ import sys
 import tempfile
 import time
 
-sys.path.insert(0, os.path.join(os.path.dirname(os.path.abspath(__file__)), "..", "..", "tools"))
+ROOT = os.path.join(os.path.dirname(os.path.abspath(__file__)), "..", "..")
+sys.path.insert(0, os.path.join(ROOT, "tools"))
 from server import use_server  # noqa: E402
 
 FILES = 8192
@@ -241,7 +242,10 @@ def serving(program, server, folder):
     file, path = os.path.join(folder, "store"), os.path.join(folder, "s")
     subprocess.run([program, "format", file, "--sectors", "131072", "--format", "3"], check=True, stdout=subprocess.DEVNULL)
     words = [server, file, "--listen", "127.0.0.1:0", "--socket", path, "--program", program]
-    with subprocess.Popen(words, stdout=subprocess.PIPE, stderr=subprocess.DEVNULL, preexec_fn=lambda: files(FILES)) as process:
+    # The package tells why something is refused.
+    environment = {**os.environ, "PYTHONPATH": os.path.join(ROOT, "clients", "python")}
+    with subprocess.Popen(words, stdout=subprocess.PIPE, stderr=subprocess.DEVNULL, env=environment,
+                          preexec_fn=lambda: files(FILES)) as process:
         try:
             port = next(int(line.split(b":")[-1].strip(b"/\n")) for line in process.stdout if b"http://" in line)
             client = Client(port)
