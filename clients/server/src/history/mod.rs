@@ -10,6 +10,7 @@ use crate::lines::MOST_CHANGES as MOST_LINES;
 use event::line_of;
 use naming::Naming;
 use std::collections::VecDeque;
+use std::future::Future;
 use std::io;
 use std::sync::{Arc, RwLock, RwLockReadGuard, RwLockWriteGuard};
 use tokio::sync::watch;
@@ -230,11 +231,13 @@ impl History {
         self.handed_on.subscribe()
     }
 
-    /// Hands news on to those who follow.
-    pub async fn hand_news_on(self: Arc<Self>) {
+    /// Hands the news from now on to those who follow.
+    pub fn hand_news_on(self: Arc<Self>) -> impl Future<Output = ()> {
         let mut news = self.news.subscribe();
-        while news.changed().await.is_ok() {
-            self.handed_on.send_replace(*news.borrow_and_update());
+        async move {
+            while news.changed().await.is_ok() {
+                self.handed_on.send_replace(*news.borrow_and_update());
+            }
         }
     }
 }

@@ -3,6 +3,7 @@
 use super::{Beginning, Gone, History, Status, MOST_BYTES, MOST_CHANGES};
 use crate::lines::transactions::Told;
 use std::collections::HashSet;
+use std::sync::Arc;
 
 /// A history of a store with an identity that was opened so often, after number `base`.
 fn history(opens: u64, base: u64) -> History {
@@ -136,14 +137,16 @@ fn a_follower_goes_on_after_a_start_if_it_has_the_same_transactions() {
     assert_eq!(first.begin(None, None).unwrap().since, 3);
 }
 
-#[test]
-fn who_follows_what_is_forgotten_learns_it() {
-    let history = history(1, 0);
+#[tokio::test]
+async fn who_follows_what_is_forgotten_learns_it() {
+    let history = Arc::new(history(1, 0));
     add(&history, &["{\"a\":1}"], "");
     let (name, mut news) = (history.name_at(1).unwrap(), history.news());
+    let handing_on = tokio::spawn(history.clone().hand_news_on());
     news.borrow_and_update();
     history.begin_after(9);
-    assert!(news.has_changed().unwrap());
+    assert!(news.changed().await.is_ok());
+    handing_on.abort();
     assert_eq!(history.after(1, 1).unwrap_err(), Gone(9));
     assert_eq!(history.begin(Some(1), Some(&name)).unwrap_err(), Gone(9));
     assert_eq!((history.last(), history.begin(Some(9), None).unwrap().last), (9, 9));
