@@ -14,10 +14,10 @@ impl Connection {
         // If it fails, the connection is as it was, only slower.
         let _ = self.stream.set_nodelay(true);
         // A client that has gone away is no error.
-        let _ = self.from_the_first().await;
+        let _ = self.begin().await;
     }
 
-    async fn from_the_first(mut self) -> io::Result<()> {
+    async fn begin(mut self) -> io::Result<()> {
         match self.head().await? {
             Some(head) => {
                 let small = self.app.workers.small.clone();
