@@ -2,15 +2,15 @@
 import os
 import time
 from typing import (
-    Any, Callable, ContextManager, Dict, Generator, Iterable, List, Literal, Optional, Sequence, Tuple, Type, TypeVar,
-    cast, overload,
+    Any, Callable, ContextManager, Dict, Iterable, List, Literal, Optional, Sequence, Tuple, Type, TypeVar, cast,
+    overload,
 )
 
 from . import calls
 from .calls import ATTEMPTS, NO_ATTEMPT
 from .embedded import SECTORS, Embedded
 from .errors import Invalid
-from .follow import Latest, followed
+from .follow import Following, followed
 from .moment import Moment, moment_of
 from .once import Once
 from .results import Changes, Mark, Node, Pumped, Status
@@ -18,7 +18,7 @@ from .watch import Watch, watched
 from .wire import requests
 from .wire.commands import AskedMark, Command
 from .wire.connection import Connection
-from .wire.finished import each_finished, finished
+from .wire.finished import finished
 from .wire.limits import MOST_TOLD_BYTES
 from .wire.program import BATCH, Path, Program, find_program, serve_words
 from .wire.requests import Outcome, Request
@@ -315,15 +315,16 @@ class Store:
         """
         return Watch(watched(self.hub), since, history=history, follow=follow, wait=wait)
 
-    def follow(self, name: str, path: str = "") -> Generator[Optional[Latest], None, None]:
+    def follow(self, name: str, path: str = "") -> Following:
         """A document of a hub's store, or the value at a place of it, at once and again after changes of it.
 
-        It yields None if there is no such document or place, and with a `path` also if the value there is the same.
+        It yields a `Latest` with `value` and `rev`, or None if there is no such document or place; with a `path` also
+        if the value there is the same. A `with` block ends it.
         Several changes may come as one: `watch` has each. It waits for the next change, and goes on after the hub was
         ended or killed and started anew, or serves another history of the store, whose revisions count anew.
         """
         hub = watched(self.hub)
-        return each_finished(followed(lambda wait: Watch(hub, wait=wait), _Steps(self), name, path))
+        return Following(followed(lambda wait: Watch(hub, wait=wait), _Steps(self), name, path))
 
     #: Another name of `names`.
     list = names

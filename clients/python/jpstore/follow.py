@@ -1,15 +1,18 @@
 """One document of a hub's store, as it is now and after each change of it, over restarts of the hub."""
 import contextlib
 from dataclasses import dataclass
-from typing import Any, AsyncGenerator, Callable, Optional
+from typing import Any, AsyncGenerator, Callable, Iterator, Optional, TypeVar
 
 from .calls import Steps
 from .errors import Gone, JpstoreError, NotFound
 from .watch import Change, Watcher
+from .wire.finished import each_finished
 from .wire.requests import Request, rev_and_value
 from .wire.session import PAUSE, may_come
 
-__all__ = ["Latest", "followed"]
+__all__ = ["Following", "Latest", "followed"]
+
+F = TypeVar("F", bound="Following")
 
 
 @dataclass(frozen=True)
@@ -18,6 +21,29 @@ class Latest:
 
     rev: int
     value: Any
+
+
+class Following(Iterator[Optional[Latest]]):
+    """What `Store.follow` yields, with a connection of its own: a `with` block, or `close`, ends it."""
+
+    def __init__(self, values: AsyncGenerator[Optional[Latest], None]) -> None:
+        self._values = each_finished(values)
+
+    def __enter__(self: F) -> F:
+        return self
+
+    def __exit__(self, *_: Any) -> None:
+        self.close()
+
+    def __iter__(self: F) -> F:
+        return self
+
+    def __next__(self) -> Optional[Latest]:
+        return next(self._values)
+
+    def close(self) -> None:
+        """Ends it."""
+        self._values.close()
 
 
 async def followed(watch: Callable[[Optional[float]], Watcher[Any]], steps: Steps, name: str,

@@ -2,14 +2,14 @@
 import asyncio
 import os
 from typing import (
-    Any, AsyncContextManager, AsyncGenerator, Callable, Dict, Iterable, List, Literal, Optional, Sequence, Tuple, Type,
+    Any, AsyncContextManager, Callable, Dict, Iterable, List, Literal, Optional, Sequence, Tuple, Type,
     TypeVar, overload,
 )
 
 from .. import calls
 from ..calls import ATTEMPTS
 from ..errors import Invalid, JpstoreError
-from ..follow import Latest, followed
+from ..follow import followed
 from ..once import Once
 from ..results import Changes, Mark, Node, Pumped, Status
 from ..watch import watched
@@ -20,6 +20,7 @@ from ..wire.program import BATCH, Path, find_program, serve_words
 from ..wire.requests import Outcome, Request
 from ..wire.session import give_back_if_dropped
 from .channel import AsyncChannel, AsyncConnection, AsyncProgram, connect
+from .follow import AsyncFollowing
 from .moment import AsyncMoment, async_moment_of
 from .session import AsyncSession
 from .watch import AsyncWatch
@@ -215,10 +216,10 @@ class AsyncStore:
         """As `Store.watch`, for `async for`; it connects at its first step."""
         return AsyncWatch(watched(self.hub), since, history=history, follow=follow, wait=wait)
 
-    def follow(self, name: str, path: str = "") -> AsyncGenerator[Optional[Latest], None]:
-        """As `Store.follow`, for `async for`."""
+    def follow(self, name: str, path: str = "") -> AsyncFollowing:
+        """As `Store.follow`, for `async for` and `async with`."""
         hub = watched(self.hub)
-        return followed(lambda wait: AsyncWatch(hub, wait=wait), _Steps(self), name, path)
+        return AsyncFollowing(followed(lambda wait: AsyncWatch(hub, wait=wait), _Steps(self), name, path))
 
     #: Another name of `names`.
     list = names

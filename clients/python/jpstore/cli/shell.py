@@ -205,7 +205,7 @@ class Shell(cmd.Cmd):
         """follow NAME [POINTER]: a document of a hub's store now and after each change of it, until Ctrl-C."""
         name, rest = word_and_rest(line, "NAME")
         pointer = _pointer(rest)
-        with contextlib.suppress(KeyboardInterrupt), contextlib.closing(self.store.follow(name, pointer)) as values:
+        with contextlib.suppress(KeyboardInterrupt), self.store.follow(name, pointer) as values:
             for latest in values:
                 print_record({"rev": None} if latest is None else vars(latest))
 

@@ -88,6 +88,36 @@ def test_what_changes_while_it_is_read_is_read_again(place):
         values.close()
 
 
+def test_a_with_block_ends_it(place):
+    """As that of a watch, also if nothing was asked of it yet."""
+    place.format()
+    with RealHub(place) as hub, Store.connect(hub.path) as store:
+        store.create("d", {"a": 1})
+        with store.follow("d", "/a") as values, store.follow("d") as unread:
+            assert iter(values) is values
+            for latest in values:
+                assert latest == Latest(1, 1)
+                break
+        for ended in (values, unread):
+            assert list(ended) == []
+
+
+def test_a_with_block_of_asyncio_ends_it(place):
+    place.format()
+
+    async def run(path):
+        async with AsyncStore.connect(path) as store:
+            await store.create("d", {"a": 1})
+            async with store.follow("d", "/a") as values, store.follow("d") as unread:
+                async for latest in values:
+                    assert latest == Latest(1, 1)
+                    break
+            for ended in (values, unread):
+                assert [each async for each in ended] == []
+    with RealHub(place) as hub:
+        asyncio.run(run(hub.path))
+
+
 def test_a_document_is_followed_by_asyncio(place):
     place.format()
 
