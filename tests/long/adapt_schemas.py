@@ -94,7 +94,7 @@ def judged(store, path):
     if is_read(store, schema):
         return "as it is"
     for drop, how in (([], "adapted"), (MATCHING, "without " + " and ".join(MATCHING))):
-        adapted = Schema.adapt(schema, drop=drop, read=lambda uri: _beside(folder, uri))
+        adapted = Schema.adapt(schema, drop=drop, read=lambda uri: _beside(folder, uri), profile=2)
         if adapted.is_read:
             return how if is_read(store, adapted.schema) else None
     told = all(fault.message for fault in adapted.left) and adapted.left

@@ -53,15 +53,15 @@ class Schema:
     """What can be done with a schema by itself."""
 
     @staticmethod
-    def faults(schema: Any, *, profile: int = 2) -> List[SchemaFault]:
+    def faults(schema: Any, *, profile: int = 3) -> List[SchemaFault]:
         """Each reason why the store does not read a schema, with its place; none if it reads it.
 
-        The profile is 2, or 3 for a store of format 3, which reads patterns too.
+        The profile is 3, or 2 for a store of format 2, which reads no patterns.
         """
         return list(faults_of_schema(schema, profile))
 
     @staticmethod
-    def adapt(schema: Any, *, drop: Collection[str] = (), read: Optional[Read] = None, profile: int = 2) -> Adapted:
+    def adapt(schema: Any, *, drop: Collection[str] = (), read: Optional[Read] = None, profile: int = 3) -> Adapted:
         """A schema of an earlier draft, or with references to others, as one that the store reads.
 
         `drop` are keywords to leave out where the store does not read them; the result's `$comment` says so. `read` is
@@ -77,7 +77,7 @@ class Schema:
 class Work:
     """A translation that is under way."""
 
-    def __init__(self, schema: Any, drop: Collection[str], read: Optional[Read], profile: int = 2) -> None:
+    def __init__(self, schema: Any, drop: Collection[str], read: Optional[Read], profile: int) -> None:
         self.documents = Documents(schema, read)
         self.drop = frozenset(drop)
         self.profile = profile

@@ -64,7 +64,7 @@ def _beside(folder: str, uri: str) -> Any:
 #: The sub-command, whose STORE is the file of a schema.
 ADAPT: Row = (_adapt, "makes a schema of an earlier draft, or in several files, one that the store reads",
               "schema adapt package.schema.json --drop pattern > schema.json", [
-                  ("--profile", {"type": int, "choices": (2, 3), "default": 2,
-                                 "help": "3 keeps patterns, for a store of format 3 (default: 2)"}),
+                  ("--profile", {"type": int, "choices": (2, 3), "default": 3,
+                                 "help": "2 is for a store of format 2, which reads no patterns (default: 3)"}),
                   ("--drop", {"metavar": "KEYWORD", "action": "append", "default": [],
                               "help": "leave this keyword out, if the store does not read it; `$comment` says so"})])

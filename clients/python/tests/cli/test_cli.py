@@ -444,15 +444,17 @@ def test_a_schema_of_other_people_is_adapted(place):
     schema = {"$schema": "http://json-schema.org/draft-07/schema#", "additionalProperties": {
         "$ref": "other.json#/definitions/n"}, "propertyNames": {"pattern": "^a"}}
     place.text("schema.json", json.dumps(schema))
-    made, noted = run_here(place, "schema", "adapt", "schema.json", status=6)
+    made, noted = run_here(place, "schema", "adapt", "schema.json", "--profile", "2", status=6)
     assert json.loads(made)["$defs"] == {"n": {"type": "integer", "minimum": 1}}
     changed, left, hint = noted.splitlines()
     assert changed == ("changed: at `other.json/definitions/n/minimum`: the bound 0.5 is `minimum` 1 for whole "
                        "numbers")
     assert left.startswith("left: at `/propertyNames/pattern`: `pattern` needs a store of format 3; ")
     assert hint == "for a store of format 3: --profile 3"
-    made = told(place, "schema", "adapt", "schema.json", "--drop", "pattern", "--json")
+    made = told(place, "schema", "adapt", "schema.json", "--profile", "2", "--drop", "pattern", "--json")
     assert json.loads(made)["schema"]["$comment"] == "left out for jpstore: pattern (1)"
+    made_for_3, noted = run_here(place, "schema", "adapt", "schema.json")
+    assert (json.loads(made_for_3)["propertyNames"], noted) == ({"pattern": "^a"}, changed + "\n")
     place.format(16)
     place.text("made.json", json.dumps(json.loads(made)["schema"]))
     told(place, "new", "store", "d", '{"a": 1}', "--schema", "made.json")

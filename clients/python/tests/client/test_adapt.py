@@ -148,7 +148,7 @@ def test_a_schema_of_profile_3_says_the_same():
 
 @pytest.mark.parametrize("draft, schema, wanted", _TRANSLATED)
 def test_a_schema_says_the_same_in_2020_12(place, draft, schema, wanted):
-    adapted = Schema.adapt(_declared(draft, schema))
+    adapted = Schema.adapt(_declared(draft, schema), profile=2)
     made = {word: value for word, value in adapted.schema.items() if word != "$schema"}
     assert (made, adapted.left, adapted.is_read) == (wanted, [], True)
     # What an earlier validator and one of 2020-12 say of documents is the same.
@@ -176,10 +176,10 @@ def test_what_is_not_the_same_is_told():
 def test_what_the_store_does_not_read_is_left_and_told():
     schema = _declared(7, {"properties": {"a": {"pattern": "^a"}, "b": {"$ref": "http://nowhere/b.json"}},
                            "patternProperties": {"^x": {}}, "additionalProperties": False})
-    adapted = Schema.adapt(schema)
+    adapted = Schema.adapt(schema, profile=2)
     assert [(fault.number, fault.place) for fault in adapted.left] == [
         (41, "/patternProperties"), (41, "/properties/a/pattern"), (42, "/properties/b/$ref")]
-    dropped = Schema.adapt(schema, drop=["pattern", "patternProperties"])
+    dropped = Schema.adapt(schema, drop=["pattern", "patternProperties"], profile=2)
     assert [fault.place for fault in dropped.left] == ["/properties/b/$ref"]
     # Without its patterns, `additionalProperties` would refuse what these allow.
     assert dropped.schema["$comment"] == (
@@ -195,12 +195,18 @@ def test_what_references_lead_to_is_bundled():
                                  "anyOf": [{"$ref": "#/definitions/c"}], "definitions": {"c": {"type": "integer"}}}}
     asked = []
     adapted = Schema.adapt({"$id": "http://x/a.json", "properties": {"a": {"$ref": "b.json#/definitions/n"}}},
-                           read=lambda uri: asked.append(uri) or files.get(uri))
+                           read=lambda uri: asked.append(uri) or files.get(uri), profile=2)
     assert adapted.schema == {
         "$id": "http://x/a.json", "properties": {"a": {"$ref": "#/$defs/n"}},
         "$defs": {"n": {"$ref": "#/$defs/c"}, "c_2": {"type": "integer"},
                   "c": {"exclusiveMinimum": 1, "anyOf": [{"$ref": "#/$defs/c_2"}]}}}
     assert (adapted.left, asked) == ([], ["http://x/b.json", "http://x/c.json"])
+
+
+def test_a_schema_is_adapted_for_format_3_if_not_told_otherwise():
+    schema = {"properties": {"a": {"pattern": r"^\d$"}}}
+    assert Schema.adapt(schema).schema["properties"] == {"a": {"pattern": "^[0-9]$"}}
+    assert Schema.faults(schema) == Schema.faults(schema, profile=3) != Schema.faults(schema, profile=2)
 
 
 def test_names_that_are_none_are_told():
@@ -211,7 +217,7 @@ def test_names_that_are_none_are_told():
 def test_a_schema_that_is_too_long_is_told():
     schema = {"description": "x" * 262144}
     assert [fault.number for fault in Schema.adapt(schema).left] == [44]
-    assert Schema.faults({"pattern": "a"})[0].place == "/pattern" and Schema.faults({"minimum": 1}) == []
+    assert Schema.faults({"pattern": "("})[0].place == "/pattern" and Schema.faults({"minimum": 1}) == []
 
 
 def _remote(uri):

@@ -133,8 +133,8 @@ def test_profile_3_keeps_patterns():
     assert "it is no pattern from character 2 (`(?!x)b`) on: looking ahead" in adapted.left[0].message
     assert [change.place for change in adapted.changes] == ["/properties/c/pattern", "/properties/d/pattern"]
     # In profile 2 nothing has changed.
-    assert {fault.number for fault in Schema.adapt(schema).left} == {41}
-    assert Schema.adapt(schema).schema["properties"] == schema["properties"]
+    assert {fault.number for fault in Schema.adapt(schema, profile=2).left} == {41}
+    assert Schema.adapt(schema, profile=2).schema["properties"] == schema["properties"]
 
 
 _FAULTS = [
@@ -169,7 +169,7 @@ _FAULTS = [
 @pytest.mark.parametrize("schema, number, place", _FAULTS)
 def test_the_faults_of_profile_3_are_told(schema, number, place):
     assert (number, place) in [(fault.number, fault.place) for fault in Schema.faults(schema, profile=3)]
-    assert Schema.faults(schema)
+    assert Schema.faults(schema, profile=2)
 
 
 def test_what_profile_3_reads_has_no_fault():
@@ -194,7 +194,7 @@ def test_what_profile_3_reads_has_no_fault():
 
 def test_the_faults_of_profile_2_name_the_format_that_reads_more():
     faults = Schema.faults({"pattern": "(", "dependentSchemas": {"a": 5}, "patternProperties": {"(": 5},
-                            "$anchor": "a", "not": {"$ref": "#/items"}, "items": {"$dynamicAnchor": "x"}})
+                            "$anchor": "a", "not": {"$ref": "#/items"}, "items": {"$dynamicAnchor": "x"}}, profile=2)
     assert [(fault.number, fault.place) for fault in faults] == [
         (41, "/pattern"), (41, "/dependentSchemas"), (41, "/patternProperties"), (41, "/$anchor"), (42, "/not/$ref"),
         (41, "/items/$dynamicAnchor")]
