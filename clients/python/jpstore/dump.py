@@ -188,7 +188,8 @@ def _sent(line: bytes) -> List[Tuple[bytes, int]]:
     if _is_document(value):
         return [(made, 1) for made in _lines_that_make(value)]
     if not is_changing(value):
-        raise Unsendable("it is none of create, patch, schema, delete and transaction")
+        raise Unsendable("it is none of create, patch, schema, delete and transaction: of other JSON make documents by "
+                         "`put`, or in Python by `store.group(create(name, doc) for ..)`")
     return [(line if line.endswith(b"\n") else line + b"\n", len(changes_in(value)))]
 
 
