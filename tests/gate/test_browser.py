@@ -54,13 +54,26 @@ class Page:
         self.url, self._gateway, self.browser = "", None, None
 
     def begin(self, *options):
-        """Starts the gateway."""
-        file = os.path.join(self._folder.name, "store")
-        subprocess.run([self._program, "format", file, "--sectors", "4096"], check=True, stdout=subprocess.DEVNULL)
-        words = [sys.executable, "-m", "jpstore", "http", file, "--listen", "127.0.0.1:0", "--program", self._program]
+        """Starts the gateway over a new store."""
+        words = [self._program, "format", self._file(), "--sectors", "4096"]
+        subprocess.run(words, check=True, stdout=subprocess.DEVNULL)
+        self.start("127.0.0.1:0", *options)
+
+    def start(self, listen, *options):
+        """Starts the gateway at an address."""
+        words = [sys.executable, "-m", "jpstore", "http", self._file(), "--listen", listen, "--program", self._program]
         environment = {**os.environ, "PYTHONPATH": CLIENTS}
         self._gateway = subprocess.Popen([*words, *options], env=environment, stdout=subprocess.PIPE, text=True)
         self.url = self._gateway.stdout.readline().split()[-1]
+
+    def stop(self):
+        """Ends the gateway."""
+        self._gateway.terminate()
+        self._gateway.wait(PATIENCE)
+        self._gateway.stdout.close()
+
+    def _file(self):
+        return os.path.join(self._folder.name, "store")
 
     def open(self, width=1400, height=900):
         """Opens the page."""
@@ -87,9 +100,7 @@ class Page:
         if self.browser is not None:
             self.browser.quit()
         if self._gateway is not None:
-            self._gateway.terminate()
-            self._gateway.wait(PATIENCE)
-            self._gateway.stdout.close()
+            self.stop()
         self._folder.cleanup()
 
     def ask(self, method, path, body=None, kind="application/json", **fields):
@@ -506,6 +517,33 @@ def no_errors_in_the_console(page):
     assert all(any(text in message for text in expected) for message in told), told
 
 
+def outlive_the_gateway(page):
+    """A change that the gateway can't answer is told, also far down the page, and is made once the gateway is back."""
+    page.browser.get(page.url + "#/t")
+    page.until(lambda: page.text("#live") == "live", "the stream of changes")
+    page.until(lambda: page.text("#title") == "t", "the document")
+    page.click(".leaf", "7")
+    page.write("#value", "8")
+    page.stop()
+    page.until(lambda: page.text("#live").startswith("not connected"), "the state")
+    page.one("#edit-form button.main").click()
+    page.until(lambda: "The change is stored, or not at all" in page.text("#edit-result"), "the reason")
+    page.browser.execute_script("scrollTo(0, document.body.scrollHeight)")
+    in_sight = "const place = arguments[0].getBoundingClientRect(); return 0 <= place.top && place.bottom <= innerHeight;"
+    assert page.browser.execute_script(in_sight, page.one("#live"))
+    page.picture("gone")
+    page.start(page.url.split("/")[2])
+    page.until(lambda: page.text("#live") == "live", "the stream of changes")
+    assert page.one("#value").get_attribute("value") == "8" and page.text("#edit-conflict") == ""
+    # As if the lost change had been stored: no other client is blamed for it.
+    page.ask("PATCH", "documents/t", [{"op": "replace", "path": "/0", "value": 8}], "application/json-patch+json")
+    page.until(lambda: page.text("#rev") == str(page.ask("GET", "status")["seq"]), "the revision")
+    page.until(lambda: "8" in page.text("#tree"), "the new value")
+    assert page.text("#edit-conflict") == ""
+    page.one("#edit-form button.main").click()
+    page.until(lambda: "is stored" in page.text("#edit-result"), "the change")
+
+
 def ask_for_the_token(page):
     """A store with a token asks for it, refuses another one, and then shows its documents."""
     page.until(lambda: page.one("#token-form").is_displayed(), "the question")
@@ -526,7 +564,7 @@ def ask_for_the_token(page):
 WITHOUT_TOKEN = [make_a_document, see_a_refused_document, change_a_value, see_a_refusal, see_what_is_mistyped,
                  see_the_change_of_another, keep_what_is_written, add_and_remove_a_value, see_a_transaction, query,
                  find_in_a_long_value, see_earlier_changes, change_the_schema, see_a_warning, make_one_as_another,
-                 run_the_recipe, use_the_keyboard, use_a_phone, delete, no_errors_in_the_console]
+                 run_the_recipe, use_the_keyboard, use_a_phone, delete, no_errors_in_the_console, outlive_the_gateway]
 
 
 def tried(program, pictures, parts, with_token):

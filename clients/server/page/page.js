@@ -138,7 +138,8 @@ async function ask(path, method = "GET", body, headers = {}) {
   try {
     response = await fetch(path, { method, body, headers: withToken(headers), cache: "no-store" });
   } catch {
-    throw new Refused({ title: "The gateway does not answer.", detail: "This page connects again by itself." });
+    const lost = method === "GET" ? "" : "The change is stored, or not at all: the document shows which, once this page is live. ";
+    throw new Refused({ title: "The gateway does not answer.", detail: `${lost}This page connects again by itself.` });
   }
   if (response.ok) return response;
   const problem = await response.json().catch(() => ({ title: `HTTP status ${response.status}` }));
@@ -566,9 +567,20 @@ function chooseValue(pointer) {
   mark();
 }
 
+// Whether the value is already as the edit would have it, as after a change whose answer was lost.
+function isMade() {
+  try {
+    return ["replace", "add"].includes($("op").value) && textOf(valueNow()) === valueAtPointer();
+  } catch {
+    return false;
+  }
+}
+
 // After the document was read again: an edit goes on if its value is as it was. Else it is not sent unseen.
 function keepEdit() {
-  if (valueAtPointer() === begun.value) {
+  if (isMade()) {
+    beginEdit();
+  } else if (valueAtPointer() === begun.value) {
     begun.rev = state.rev;
     $("edit-conflict").replaceChildren();
   } else if ($("value").value === begun.text && $("op").value === "replace") {
