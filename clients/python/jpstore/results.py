@@ -98,9 +98,14 @@ class Status:
     id: Optional[str] = None
 
     @property
+    def format(self) -> int:
+        """The format of the file: 2, or 3, in which a half has fewer bytes."""
+        return 2 if self.capacity == (self.sectors - 1) // 2 * 512 else 3
+
+    @property
     def most_documents(self) -> int:
-        """How many documents there may be: 65,536 in format 3, in which a half has fewer bytes, and else 1,024."""
-        return 1_024 if self.capacity == (self.sectors - 1) // 2 * 512 else 65_536
+        """How many documents there may be: 65,536 in format 3, and else 1,024."""
+        return 1_024 if self.format == 2 else 65_536
 
     @classmethod
     def of(cls, reply: Dict[str, Any]) -> "Status":

@@ -154,7 +154,16 @@ def test_status_says_how_full_it_is(place):
     place.format(16)
     place.shows("store", given=b"new d {\"a\":1}\nstatus\n", output=(
         "done, change 1\ndocuments  1 of 1,024\nused       67 of 3,584 bytes (1.9 %)\nchanges    1\n"
-        "openings   1\nfile       16 sectors, 8,192 bytes; half 0 in force\n"))
+        "openings   1\nfile       16 sectors, 8,192 bytes; half 0 in force\n"
+        "format     2; `jpstore upgrade FILE` brings it to 3, which tells damage, and has marks and patterns\n"))
+
+
+def test_status_names_no_format_but_an_old_one(place):
+    place.format(version=3)
+    shown_now = place.run("store", given=b"status\n").stdout.decode()
+    assert "\nidentity   " in shown_now and "\nformat" not in shown_now
+    with place.store() as store:
+        assert (store.status().format, store.status().most_documents) == (3, 65_536)
 
 
 def test_a_file_that_is_no_store_is_told(place):

@@ -150,8 +150,7 @@ def test_what_is_wrong_in_a_line_to_load(place):
     lines = b'{"cmd":"create","name":"a","doc":1,"schema":true}\n'
     for wrong, said in ((b'{"cmd":"create",}\n', "not JSON: column 17: "), (b'{"cmd":\n', "not JSON: column 8: "),
                         (b'{"cmd":"list"}\n', "it is none of create, patch, "),
-                        (b'[{"a":1}]\n', "it is none of create, patch, schema, delete and transaction: of other JSON "
-                                          "make documents by `put`")):
+                        (b'[{"a":1}]\n', "it is none of create, patch, schema, delete and transaction: of other ")):
         shown = told(place, "load", "store", "--partial", given=lines + wrong, status=6)
         assert shown.startswith("line 2 is refused; 1 change was made\n" + said), shown
         told(place, "rm", "store", "a", status=0)
