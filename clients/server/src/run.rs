@@ -124,7 +124,7 @@ fn nothing_there(path: &Path, error: std::io::Error) -> Error {
     let to_do =
         "what to do: compare the path; if it is a file, `jpstore-cli format FILE` makes a store; if it is the socket \
                  of a hub, start that, or wait longer by `--wait SECONDS`";
-    Error::new(format!("{}\n  {to_do}", Error::of_path(path, error)))
+    Error::new(format!("{}\n  {}", Error::of_path(path, error), program::as_called(to_do)))
 }
 
 /// Serves the store of another server over HTTP.

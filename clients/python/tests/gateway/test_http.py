@@ -84,9 +84,15 @@ def test_what_is_not_there_is_not_found(gateway):
     is_problem(gateway.get("/documents/a/b"), 404)
 
 
+def test_what_is_asked_at_a_wrong_path_is_told_the_right_one(gateway):
+    for answer, status in ((gateway.ask("POST", "/documents", {}), 405), (gateway.get("/document/a"), 404)):
+        is_problem(answer, status)
+        assert answer.json()["advice"].startswith("`PUT /documents/NAME` makes a document; `GET /openapi.json` ")
+
+
 def test_an_unknown_method_is_told_the_known_ones(gateway):
     answer = gateway.ask("POST", "/documents/m", {})
-    is_problem(answer, 405)
+    is_problem(answer, 405, detail="POST is not for this path, which takes GET, HEAD, PUT, PATCH, DELETE, OPTIONS")
     assert {"GET", "HEAD", "PUT", "PATCH", "DELETE"} <= set(answer.headers["Allow"].split(","))
     asked = gateway.ask("OPTIONS", "/documents/m")
     assert (asked.status, asked.body) == (204, b"")

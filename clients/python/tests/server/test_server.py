@@ -220,15 +220,28 @@ def check_refused(server, words, status, told):
 
 def test_a_store_that_is_not_opened_is_told_with_what_to_do(place, server):
     words = [place.text("text", "no store" * 1000), "--listen", "127.0.0.1:0", "--program", place.program]
-    check_refused(server, words, 1, b"jpstore: not-a-store (72): the file does not begin as a store does")
-    check_refused(server, words, 1, b"check that it is the right file")
+    check_refused(server, words, 1, b"text: not-a-store (72): the file does not begin as a store does")
+    check_refused(server, words, 1, b")\n  what to do: check that it is the right file\n")
     place.format()
     with open(place.file, "r+b") as file:
         file.seek(16)
         file.write(b"\xff" * 8)
     words[0] = place.file
-    check_refused(server, words, 1, b"jpstore: damaged (73): the file begins as a store, but what follows is not one")
+    check_refused(server, words, 1, b"store: damaged (73): the file begins as a store, but what follows is not one")
     check_refused(server, words, 1, b"restore it from a copy or a dump")
+
+
+def test_advice_names_commands_as_they_can_be_called(place, server, monkeypatch):
+    """Without an installation there is no `jpstore-cli`."""
+    folder = place.path("bin")
+    os.mkdir(folder)
+    monkeypatch.setenv("PATH", folder)
+    rows = [["--socket", place.path("s"), "--program", place.program], ["--listen", "127.0.0.1:0", "--wait", "0"]]
+    for options in rows:
+        check_refused(server, [place.path("none"), *options], 1, b"`python3 -m jpstore ")
+    place.text("bin/jpstore-cli", "")
+    for options in rows:
+        check_refused(server, [place.path("none"), *options], 1, b"`jpstore-cli ")
 
 
 VALUES = {

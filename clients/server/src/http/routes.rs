@@ -83,12 +83,11 @@ pub async fn answered(mut request: Request<'_>) -> Result<Response, Problem> {
     if request.head.expects_else() {
         return Err(Problem::new(417, "request", "only `100-continue` may be expected"));
     }
-    let route =
-        Route::of(&request.path).ok_or_else(|| Problem::new(404, "request", "there is nothing at this path"))?;
+    let route = Route::of(&request.path).ok_or_else(|| misplaced(404, "there is nothing at this path"))?;
     let method = request.head.method.clone();
     if !route.methods().split(',').any(|known| known == method) {
-        let told = format!("{method} is not for this path");
-        return Err(Problem::new(405, "request", told).with("Allow", route.methods()));
+        let told = format!("{method} is not for this path, which takes {}", route.methods().replace(',', ", "));
+        return Err(misplaced(405, &told).with("Allow", route.methods()));
     }
     if method == "OPTIONS" {
         return Ok(options(&route));
@@ -102,6 +101,12 @@ pub async fn answered(mut request: Request<'_>) -> Result<Response, Problem> {
         Route::Transactions => transactions::make_all(&mut request).await,
         route => read(&request, route).await,
     }
+}
+
+/// The problem of a request for something that there isn't.
+fn misplaced(status: u16, told: &str) -> Problem {
+    let advice = "`PUT /documents/NAME` makes a document; `GET /openapi.json` describes all requests";
+    Problem { advice: Some(advice.to_owned()), ..Problem::new(status, "request", told) }
 }
 
 /// What may be asked.

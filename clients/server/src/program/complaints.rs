@@ -18,7 +18,20 @@ const ADVICE: &[(&str, &str)] = &[
 /// What to do about a cause or a complaint, as a line of its own; empty if nothing is known.
 pub fn what_to_do(word: &str) -> String {
     let found = ADVICE.iter().find(|(known, _)| *known == word);
-    found.map_or(String::new(), |(_, advice)| format!("\n  what to do: {advice}"))
+    found.map_or(String::new(), |(_, advice)| to_do(advice))
+}
+
+/// An advice, as a line of its own.
+pub fn to_do(advice: &str) -> String {
+    format!("\n  what to do: {}", as_called(advice))
+}
+
+/// A text that names commands of the command line, as they can be called here: without an installation by the module.
+pub fn as_called(text: &str) -> String {
+    let path = std::env::var_os("PATH").unwrap_or_default();
+    let is_installed = std::env::split_paths(&path).any(|folder| folder.join("jpstore-cli").is_file());
+    let called = if is_installed { "jpstore-cli " } else { "python3 -m jpstore " };
+    text.replace("jpstore-cli ", called)
 }
 
 /// Why a file could not be made or opened.

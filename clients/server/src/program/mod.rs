@@ -18,6 +18,7 @@ mod spool;
 mod start;
 mod waiting;
 
+pub use complaints::as_called;
 pub use handle::Handle;
 pub use job::{Job, Reply};
 pub use larger::remove_leftovers;

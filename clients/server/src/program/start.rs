@@ -1,6 +1,6 @@
 //! How the program is found and started, and how it ended.
 
-use super::complaints::{cause_in, what_to_do};
+use super::complaints::{cause_in, to_do, what_to_do};
 use super::pipes::Pipes;
 use crate::error::{system_words, Error};
 use crate::lines::replies::Status;
@@ -75,7 +75,8 @@ pub async fn start(program: &Path, store: &Path, pump: u64, wait: Duration) -> R
         }
         let ended = started.ended().await;
         if !ended.said.contains("jpstore: in-use") {
-            return Err(Error::new(ended.to_string()));
+            let refused = refused_in(&ended.said).map_or(String::new(), |_| format!("{}: ", store.display()));
+            return Err(Error::new(format!("{refused}{ended}")));
         }
         if Instant::now() >= until {
             let (store, to_do) = (store.display(), what_to_do("in-use"));
@@ -177,14 +178,16 @@ impl std::fmt::Display for Ended {
         if let Some(cause) = cause_in(&self.said) {
             return write!(formatter, "{} ({} ended {how}){}", cause.told, self.words, what_to_do(&cause.word));
         }
-        write!(formatter, "{} ended {how}", self.words)?;
         let said = self.said.trim();
-        if !said.is_empty() {
-            write!(formatter, ": {said}")?;
+        if let Some(Refusal { name, number, meaning, advice, .. }) = refused_in(said) {
+            let more = if said.lines().count() > 1 { format!(": {said}") } else { String::new() };
+            let ended = format!("{} ended {how}{more}", self.words);
+            return write!(formatter, "{name} ({number}): {meaning} ({ended}){}", to_do(advice));
         }
-        match refused_in(said) {
-            Some(row) => write!(formatter, ": {}: {}", row.meaning, row.advice),
-            None => Ok(()),
+        write!(formatter, "{} ended {how}", self.words)?;
+        match said {
+            "" => Ok(()),
+            _ => write!(formatter, ": {said}"),
         }
     }
 }
