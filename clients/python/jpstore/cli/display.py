@@ -50,7 +50,8 @@ def shown_status(status: Status) -> str:
     if status.id:
         rows.append(["identity", status.id])
     if status.format == 2:
-        rows.append(["format", "2; `jpstore upgrade FILE` brings it to 3, which tells damage, and has marks and patterns"])
+        rows.append(["format", "2; `jpstore upgrade FILE` brings it to 3, which tells damage, and has marks and "
+                               "patterns"])
     if status.broken:
         rows.append(["broken", "the device failed: end the program and open the store again"])
     return "\n".join(f"{what:<10} {said}" for what, said in rows)
