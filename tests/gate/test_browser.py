@@ -453,6 +453,11 @@ def use_the_keyboard(page):
         raise AssertionError(f"{text} is not reached, but {focused()}")
     page.browser.get(page.url)
     page.until(lambda: page.all("#names a"), "the names")
+    page.browser.get(page.url + "#shelf-1")
+    page.until(lambda: page.text("#title") == "shelf-1", "the document that the address names without a slash")
+    page.browser.get("about:blank")
+    page.browser.get(page.url)
+    page.until(lambda: page.all("#names a"), "the names")
     press(Keys.TAB)
     assert focused() == "Skip to the document"
     tab_to("books")

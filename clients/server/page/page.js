@@ -827,9 +827,10 @@ async function followAlways() {
   }
 }
 
-// The document that the address of the page names, such as `#/shelf-1`.
+// The document that the address of the page names, such as `#/shelf-1`. Without `/` it may be a part of the page.
 function nameInHash() {
-  return location.hash.match(/^#\/([A-Za-z0-9._-]{1,64})$/)?.[1] ?? null;
+  const [, slash, name] = location.hash.match(/^#(\/?)([A-Za-z0-9._-]{1,64})$/) ?? [];
+  return name && (slash || (state.names.includes(name) && !$(name))) ? name : null;
 }
 
 let following = false;
