@@ -1,6 +1,7 @@
 pub mod Walked
 pub mod Kept
 mod Fronts
-mod Spelling
+mod Pointing
+pub mod Characters
 mod Gathering
 pub mod Listed

@@ -1,10 +1,12 @@
 //! The fragment of a reference, and the text that it spells.
-ghost use Rattle.std.specs.Prelude.{◌≡◌, IfOk, option_map, string_bytes};
+ghost use Rattle.std.specs.Prelude.{◌≡◌, IfOk, OnErr, is_some, option_map, string_bytes, true};
+ghost use Rattle.std.specs.Str.{is_utf8};
 ghost use Rattle.doc_tree.specs.TreeView.{view};
+ghost use Rattle.percent_encoding.specs.Iter.{decoded_bytes};
 ghost use Rattle.schema_rules.specs.Fragments.{after_hash, behind, fragment, identifier, spelled, without_hash};
 
 use doc_tree::Tree;
-use percent_encoding::{DecodeError, percent_decode};
+use percent_encoding::{PercentDecode, percent_decode};
 use std::alloc::{AllocError, Global};
 
 /// The fragment of a reference to the whole schema, or to a part of it. `None` if it leads elsewhere.
@@ -56,14 +58,41 @@ fn without_hash(identifier: &str) -> &str
     }
 }
 
-/// The text that a fragment spells. `None` if its bytes are no UTF-8. An error means that memory ran out; none is taken
-/// if the fragment has no escape.
+/// The text that a fragment spells. `None` if its bytes are no UTF-8, for which no memory is taken: an error means that
+/// memory ran out for a text.
 pub(crate) fn spelled(fragment: &str, alloc: Global) -> Result<Option<String>, AllocError>
-    ensures { IfOk result (λ found. option_map string_bytes found ≡ spelled fragment.now) }
+    ensures found { IfOk result (λ found. option_map string_bytes found ≡ spelled fragment.now) }
+    ensures memory { OnErr result (is_some (spelled fragment.now) ≡ true) }
 {
-    match percent_decode(fragment.as_bytes()).decode_utf8(alloc) {
-        Ok(text) => Ok(Some(text.into_owned(alloc)?)),
-        Err(DecodeError::Utf8(_)) => Ok(None),
-        Err(DecodeError::OutOfMemory) => Err(AllocError),
+    let bytes = percent_decode(fragment.as_bytes());
+    if !is_text(bytes) {
+        return Ok(None);
     }
+    match bytes.decode_utf8(alloc) {
+        Ok(text) => Ok(Some(text.into_owned(alloc)?)),
+        Err(_) => Err(AllocError),
+    }
+}
+
+// The most bytes of a character.
+const MOST: usize = 4;
+
+// Whether the bytes are UTF-8. Takes no memory.
+fn is_text(bytes: PercentDecode<'_>) -> bool
+    ensures { result ≡ is_utf8 (decoded_bytes bytes.entry) }
+{
+    // The bytes that came since the last whole character.
+    let mut begun = [0; MOST];
+    let mut len = 0;
+    for byte in bytes {
+        if len == MOST {
+            return false;
+        }
+        begun[len] = byte;
+        len += 1;
+        if str::from_utf8(&begun[..len]).is_ok() {
+            len = 0;
+        }
+    }
+    len == 0
 }

@@ -7,6 +7,7 @@
 #![tactic(auto)]
 
 mod anchors;
+mod escapes;
 mod fragments;
 pub mod laws;
 mod pointers;

@@ -13,10 +13,10 @@ returns-in-Some c =
     let r = view c.args.root.now in
     let t = c.args.text.now in
     none_read c.walk.result c.is_none.result _ c.is_none.ensures
-    (c.walk.ensures ∙ ap (λ ks. walk One ks (view c.tree.result.now)) c.tokens.ensures ∙ ap (λ x. walk One c.in-Some.pointer (view x)) c.tree.ensures ∙ ap (λ o. reached r o (Some t)) (sym c.in-Some.is ∙ c.in_ok-pointer.ensures))
+    (c.walk.ensures ∙ ap (λ ks. walk One ks (view c.tree.result.now)) c.tokens.ensures ∙ ap (λ x. walk One c.in-Some.pointer (view x)) c.tree.ensures ∙ ap (λ o. reached r o (Some t)) (sym c.in-Some.is ∙ c.in_ok-pointer.ensures.found))
 
 pub returns-in-None : goal.returns-in-None
 returns-in-None c =
     let r = view c.args.root.now in
     let t = c.args.text.now in
-    ap not c.has_anchor.ensures ∙ not_some (with_anchor t (schemas r)) ∙ ap (λ o. is_none (reached r o (Some t))) (sym c.in-None.is ∙ c.in_ok-pointer.ensures)
+    ap not c.has_anchor.ensures ∙ not_some (with_anchor t (schemas r)) ∙ ap (λ o. is_none (reached r o (Some t))) (sym c.in-None.is ∙ c.in_ok-pointer.ensures.found)
