@@ -1,13 +1,7 @@
--- Schemas of documents that are read again, one after another.
-use Rattle.std.proofs.Common.{◌≡◌, inl, inr, ℕ, zero, suc, ◌≤◌, List, [], ◌∷◌, None, Some, sym, ◌∙◌, subst, length, drop, slice_get, arith, add-one, ◌+◌}
+-- Documents, one after another.
+use Rattle.std.proofs.Common.{◌≡◌, ℕ, zero, suc, ◌≤◌, List, [], ◌∷◌, Some, sym, subst, length, drop, slice_get, arith, add-one, ◌+◌}
 use Rattle.std.specs.List.{AllByRecursion}
-use Rattle.doc_tree.specs.Doc.{Doc}
-use Rattle.doc_schema.specs.Faults.{IsFaultless, IsFaultOf}
-use Rattle.doc_schema.specs.declared.fault.SchemaFault.{SchemaFault}
-use Rattle.refusals.specs.declared.numbers.TheConstants.{MEMORY}
-use Rattle.schema_rules.specs.declared.profile.Profile.{Profile}
 use Rattle.doc_changes.specs.State.{Document}
-use Rattle.doc_changes.proofs.Schemas.{FaultsAreFound, NoneIsFound}
 
 -- what holds of a document and of those behind it
 more : (P : Document → Type 0) (ds : List Document) (i : ℕ) (d : Document) → slice_get ds i ≡ Some d → P d → AllByRecursion P (drop (suc i) ds) → AllByRecursion P (drop i ds)
@@ -29,11 +23,3 @@ pub all_at : (P : Document → Type 0) (ds : List Document) (i : ℕ) (d : Docum
 all_at P [] i d at all = absurd (cc at)
 all_at P (x ∷ xs) zero d at all = let same : x ≡ d = cc in subst P same all.0
 all_at P (x ∷ xs) (suc i) d at all = all_at P xs i d at all.1
-
-some_not_none : (n : ℕ) → Some n ≡ None → ⊥
-some_not_none n e = cc e
-
--- a fault that isn't want of memory is one of the schema
-pub has_fault : (profile : Profile) → FaultsAreFound profile → NoneIsFound profile → (s : Doc) (fault : SchemaFault) → IsFaultOf profile s fault → (fault.number ≡ MEMORY → ⊥) → IsFaultless profile s → ⊥
-has_fault profile faults none s fault (inl f) other faultless = some_not_none fault.number (sym ((faults s fault.number).1 f) ∙ (none s).1 faultless)
-has_fault profile faults none s fault (inr memory) other faultless = other memory

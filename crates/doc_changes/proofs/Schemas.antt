@@ -70,14 +70,6 @@ as_refused profile found (Ok a) fault s P f is = absurd is
 as_refused profile found (Err y) fault s P (inl f) is = inr (refused_by profile found s fault.number f ∙ ap Some (sym is))
 as_refused profile found (Err y) fault s P (inr memory) is = inl (is ∙ ap plain memory)
 
--- a schema whose reading is refused for another reason than memory has a fault
-pub as_newer : (profile : Profile) → FaultsAreFound profile → NoneIsFound profile → (s : Doc) (fault : SchemaFault) → IsFaultOf profile s fault → (fault.number ≡ MEMORY → ⊥) → IsFaultless profile s → ⊥
-as_newer profile found none s fault (inl f) other faultless =
-    let told : first_fault profile s ≡ Some fault.number = (found s fault.number).1 f in
-    let nothing : first_fault profile s ≡ None = (none s).1 faultless in
-    absurd (cc)
-as_newer profile found none s fault (inr memory) other faultless = other memory
-
 -- ---- the limits of schemas
 
 below_or_not : (a b : ℕ) → (a < b) ⊎ (b ≤ a)

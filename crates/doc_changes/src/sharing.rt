@@ -82,7 +82,7 @@ impl<'m> Documents<'m> {
     }
 
     // What is kept at that place, and its name.
-    fn stored_at(&self, place: usize) -> (&'m str, &'m Stored)
+    pub(crate) fn stored_at(&self, place: usize) -> (&'m str, &'m Stored)
         requires { place < length self.now.documents }
         ensures { slice_get self.now.documents place ≡ Some (named result.0.now result.1.now) }
     {

@@ -8,6 +8,7 @@ pub mod Fuel
 mod EarlierPlaces
 mod ProfileRows
 mod Offered
+mod Earlier
 pub mod FirstProfile
 pub mod Lifted
 pub mod Located

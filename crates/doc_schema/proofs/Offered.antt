@@ -144,6 +144,10 @@ module _ (profile : Profile) (root : Doc) where
         let at = subst (λ l. In h.0 l) (sym same_positions) h.1 in
         (h.0, at, ap (λ b. lacks_form d h.0.schema || b) (some_same d (is_root h.0.location) (members_in h.0.schema) (kept_at none named h.0 at)) ∙ h.2)
 
+    defect_back : (d : Defect) → HasDefect profile d root → HasDefect Three d root
+    defect_back d h =
+        (h.0, subst (λ l. In h.0 l) same_positions h.1, sym (ap (λ b. lacks_form d h.0.schema || b) (some_same d (is_root h.0.location) (members_in h.0.schema) (kept_at none named h.0 h.1))) ∙ h.2)
+
     pub texts_same : offered_texts profile root ≡ pattern_texts root
     texts_same =
         let ps = offered_positions profile root in
@@ -168,6 +172,12 @@ module _ (profile : Profile) (s : Doc) (none : HasDefect profile Omitted s → �
   malformed_stays : IsMalformed Three s → IsMalformed profile s
   malformed_stays h = ⊎_elim (λ a. inl (defect_same profile s none named Form a)) (λ b. inr (fit_same profile s none named ∙ b)) h
 
+  large_back : IsTooLarge profile s → IsTooLarge Three s
+  large_back h = ⊎_elim (λ a. inl a) (λ b. inr (sym (ap are_too_large (texts_same profile s none named)) ∙ b)) h
+
+  malformed_back : IsMalformed profile s → IsMalformed Three s
+  malformed_back h = ⊎_elim (λ a. inl (defect_back profile s none named Form a)) (λ b. inr (sym (fit_same profile s none named) ∙ b)) h
+
 pub checked_stays : (profile : Profile) (s : Doc) → IsChecked profile s → IsChecked Three s
 checked_stays profile s c = record {
   size = λ h. c.size (large_stays profile s c.keywords c.references h);
@@ -182,6 +192,16 @@ faultless_stays profile s f = record {
   form = λ h. f.form (malformed_stays profile s f.keywords f.references h);
   keywords = λ h. f.keywords (defect_same profile s f.keywords f.references Omitted h);
   references = λ h. f.references (defect_same profile s f.keywords f.references Reference h);
+  loops = f.loops;
+}
+
+-- and back, if the profile leaves out none of its keywords, and each reference names a schema there
+pub faultless_back : (profile : Profile) (s : Doc) → IsFaultless Three s → (HasDefect profile Omitted s → ⊥) → (HasDefect profile Reference s → ⊥) → IsFaultless profile s
+faultless_back profile s f none named = record {
+  size = λ h. f.size (large_back profile s none named h);
+  form = λ h. f.form (malformed_back profile s none named h);
+  keywords = none;
+  references = named;
   loops = f.loops;
 }
 

@@ -5,7 +5,7 @@ ghost use Rattle.doc_tree.specs.Doc.{Doc};
 ghost use Rattle.doc_tree.specs.Place.{place_of};
 ghost use Rattle.doc_tree.specs.Sound.{IsSound};
 ghost use Rattle.doc_tree.specs.TreeView.{view};
-ghost use Rattle.doc_schema.specs.Checked.{IsChecked};
+ghost use Rattle.doc_schema.specs.Checked.{IsChecked, IsEarlier};
 ghost use Rattle.doc_schema.specs.Faults.{IsFaultless, IsFaultOf, IsTooLong, MayHaveLargePatterns};
 ghost use Rattle.doc_schema.specs.Judge.{Judges};
 ghost use Rattle.schema_changes.specs.Agree.{AgreeButShifted, AgreeOff, AgreeOffEach};
@@ -39,16 +39,19 @@ pub struct Schema {
     source: Tree,
     nodes: Compiled,
     patterns: Vec<Pattern>,
+    /// Profile 2 accepts it too.
+    earlier: bool,
 }
 
 impl Model for Schema {
-    ghost use Rattle.doc_schema.specs.Faults.{IsSchema};
+    ghost use Rattle.doc_schema.specs.Faults.{IsFaultless, IsSchema};
     ghost use Rattle.doc_tree.specs.TreeView as seen;
     ghost use Rattle.schema_levels.specs.Counters.{AreCounted};
     ghost use Rattle.schema_nodes.specs.Compiled.{IsCompiled};
     ghost use Rattle.schema_pattern.specs.Tables.{pattern_sources};
     ghost use Rattle.schema_rules.specs.PatternTexts.{pattern_texts};
-    ghost use Rattle.std.specs.Prelude.{◌≡◌};
+    ghost use Rattle.schema_rules.specs.declared.profile.Profile.TheVariants as profiles;
+    ghost use Rattle.std.specs.Prelude.{◌≡◌, ◌↔◌, true};
     ghost use Rattle.doc_tree.specs.contracts.tree.Tree as tree;
     ghost use Rattle.doc_tree.specs.declared.tree.Tree.{Tree};
 
@@ -58,7 +61,8 @@ impl Model for Schema {
 
     ghost view = { λ s. s.source };
 
-    ghost invariant = { λ s. IsSchema s.source × IsCompiled (seen.view s.source) s.nodes.nodes.items s.nodes.whole × AreCounted s.nodes.nodes.items s.nodes.counters × (pattern_sources s.patterns.items ≡ pattern_texts (seen.view s.source)) };
+    ghost invariant = { λ s. IsSchema s.source × IsCompiled (seen.view s.source) s.nodes.nodes.items s.nodes.whole × AreCounted s.nodes.nodes.items s.nodes.counters × (pattern_sources s.patterns.items ≡ pattern_texts (seen.view s.source))
+        × ((s.earlier ≡ true) ↔ IsFaultless profiles.Two (seen.view s.source)) };
 }
 
 impl Schema {
@@ -112,7 +116,11 @@ impl Schema {
         ensures sound { IfOk result (λ found. IfSome found (λ s. IsSound (view s))) }
         ensures err { IfErr result (IsFaultOf profile (view source.now)) }
     {
-        let Checked { texts, patterns } = check(profile, source, alloc)?;
+        let Checked {
+            texts,
+            patterns,
+            earlier,
+        } = check(profile, source, alloc)?;
         let source = source.copy(alloc)?;
         match nodes_of(&source, &texts, alloc)? {
             Some(nodes) => match patterns {
@@ -120,12 +128,23 @@ impl Schema {
                     source,
                     nodes,
                     patterns,
+                    earlier,
                 })),
                 None => Ok(None),
             },
             None => Err(SchemaFault {
                 number: SCHEMA_LOOP,
             }),
+        }
+    }
+
+    /// Whether the profile accepts it, so that it has no fault there. Takes no memory.
+    pub fn is_in(&self, profile: Profile) -> bool
+        ensures { (result ≡ true) ↔ IsFaultless profile (view self.now) }
+    {
+        match profile {
+            Profile::Two => self.earlier,
+            Profile::Three => true,
         }
     }
 
@@ -298,6 +317,8 @@ struct Checked<'s> {
     texts: Vec<&'s str>,
     // None if they are too large.
     patterns: Option<Vec<Pattern>>,
+    // Profile 2 has its keywords and references.
+    earlier: bool,
 }
 
 // The nodes of a schema; none if it leads back to itself. There are at most a third as many as bytes of its text, and
@@ -315,6 +336,7 @@ fn check<'s>(profile: Profile, source: &'s Tree, alloc: Global) -> Result<Checke
     ensures ok { IfOk result (λ _. IsChecked profile (view source.now)) }
     ensures texts { IfOk result (λ c. map (λ s. s.now) c.texts.items ≡ offered_texts profile (view source.now)) }
     ensures patterns { IfOk result (λ c. MatchOption c.patterns (0 < length (offered_texts profile (view source.now))) (λ ps. pattern_sources ps.items ≡ offered_texts profile (view source.now))) }
+    ensures earlier { IfOk result (λ c. (c.earlier ≡ true) ↔ IsEarlier (view source.now)) }
     ensures err { IfErr result (IsFaultOf profile (view source.now)) }
 {
     if is_too_long(source) {
@@ -348,7 +370,22 @@ fn check<'s>(profile: Profile, source: &'s Tree, alloc: Global) -> Result<Checke
     if some_position_has(profile, Defect::Reference, &whole, alloc)? {
         return Err(SchemaFault { number: SCHEMA_REF });
     }
-    Ok(Checked { texts, patterns })
+    let earlier = is_earlier(&whole, alloc)?;
+    Ok(Checked {
+        texts,
+        patterns,
+        earlier,
+    })
+}
+
+// Whether profile 2 leaves out none of its keywords, and each reference names a schema there.
+fn is_earlier(whole: &Whole<'_>, alloc: Global) -> Result<bool, AllocError>
+    ensures { IfOk result (λ b. (b ≡ true) ↔ IsEarlier (view whole.now)) }
+{
+    if some_position_has(Profile::Two, Defect::LeftOut, whole, alloc)? {
+        return Ok(false);
+    }
+    Ok(!some_position_has(Profile::Two, Defect::Reference, whole, alloc)?)
 }
 
 // Whether two anchors that the profile offers are equal.

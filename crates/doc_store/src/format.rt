@@ -309,8 +309,8 @@ impl<D: SectorDevice> Store<D> {
         Ok(())
     }
 
-    /// The bytes of the snapshot in format 2, if a store in it may hold the documents: else `TOO_MANY` or `NEWER_SCHEMA`, and
-    /// `MEMORY` may come in place of the latter. It only reads.
+    /// The bytes of the snapshot in format 2, if a store in it may hold the documents: else `TOO_MANY` or `NEWER_SCHEMA`,
+    /// for which it takes no memory. It only reads.
     pub(crate) fn snapshot_in_profile_2(&self) -> Result<Vec<u8>, Refusal>
         ensures frames { IfOk result (λ frames. frames.items ≡ snapshot_bytes false self.now.account.state.documents self.now.account.state.marks) }
         ensures within { OnOk result (AreWithin Two self.now.account.state.documents) }

@@ -1,9 +1,11 @@
 use Rattle.std.proofs.Common.{◌≡◌, refl, inl, inr, ⊎_elim, map, true, false, not, ◌&&◌, Result, Ok, Err, IfErr, IsErrAnd, sym, ap, subst, ◌∙◌, length}
+use Rattle.std.specs.Prelude.{◌↔◌}
 use Rattle.std.proofs.lemmas.List.{length-map}
 use Rattle.doc_tree.specs.TreeView.{view}
 use Rattle.schema_pattern.specs.Tables.{are_patterns}
 use Rattle.schema_rules.specs.Anchors.{are_different, offered_anchors}
 use Rattle.schema_rules.specs.PatternTexts.{offered_texts}
+use Rattle.doc_schema.specs.Checked.{IsEarlier}
 use Rattle.doc_schema.specs.Faults.{IsFaultOf, IsMalformed, IsTooLarge, are_too_large, is_marred, texts_fit, too_large, malformed, left_out, dangling}
 use Rattle.doc_schema.specs.declared.defects.Defect.TheVariants.{Form, LeftOut, Reference}
 use Rattle.doc_schema.proofs.Anywhere.{told, untold}
@@ -88,3 +90,6 @@ pub returns-clause-patterns : goal.returns-clause-patterns
 returns-clause-patterns c =
     let same = ap (map (λ s. s.now)) c.deref-2.ensures.value ∙ c.in_ok-texts.ensures in
     found_of c.in_ok-patterns.patterns _ _ _ _ (sym (length-map c.deref-2.result.now (λ s. s.now)) ∙ ap length same) same c.in_ok-patterns.ensures.found
+
+pub returns-clause-earlier : goal.returns-clause-earlier
+returns-clause-earlier c = subst (λ s. (c.in_ok-earlier.earlier ≡ true) ↔ IsEarlier (view s)) c.in_ok-whole.ensures c.in_ok-earlier.ensures

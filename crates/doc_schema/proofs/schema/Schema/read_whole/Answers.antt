@@ -4,6 +4,7 @@ use Rattle.doc_schema.specs.Checked.{IsChecked}
 use Rattle.doc_schema.specs.Faults.{IsFaultless, IsFirstFault}
 use Rattle.refusals.specs.declared.numbers.TheConstants.{SCHEMA_LOOP}
 use Rattle.schema_rules.specs.PatternTexts.{pattern_texts}
+use Rattle.doc_schema.proofs.Earlier.{accepted_by}
 use Rattle.doc_schema.proofs.Offered.{checked_stays, faultless_stays, texts_same}
 use Rattle.doc_schema.proofs.Reading.{leads_back, compiled_is, counted_is, faultless}
 use Rattle.doc_schema.proofs.Rooms.{some_of, sources_of}
@@ -18,6 +19,7 @@ invariant_of-result c =
       compiled_is s c.in_ok-nodes.field-0 c.in-Some.nodes c.in_ok-nodes.ensures c.in-Some.is,
       counted_is s c.in_ok-nodes.field-0 c.in-Some.nodes c.in_ok-nodes.ensures c.in-Some.is,
       sources ∙ texts_same c.args.profile (view c.args.source.now) c.in_ok-texts.ensures.ok.keywords c.in_ok-texts.ensures.ok.references ∙ ap pattern_texts (sym c.in_ok-source.ensures.same),
+      accepted_by (view c.args.source.now) s c.in_ok-texts.field-0.earlier c.in_ok-source.ensures.same (faultless_stays c.args.profile s (faultless c.args.profile s c.in_ok-nodes.field-0 c.in-Some.nodes checked c.in_ok-nodes.ensures c.in-Some.is)) c.in_ok-texts.ensures.earlier,
     )
 
 pub returns-in-Some-patterns-clause-ok : goal.returns-in-Some-patterns-clause-ok
