@@ -30,7 +30,7 @@ use Rattle.doc_machine.specs.Transaction.{Transaction}
 use Rattle.protocol.specs.Changes.{changes_reply, gone_reply, transaction_objects}
 use Rattle.store_commits.specs.Run.{Event}
 use Rattle.store_commits.specs.declared.event.Reply.{Reply}
-use Rattle.protocol.specs.declared.limits.TheConstants.{REPLY_BYTES}
+use Rattle.protocol.specs.declared.limits.TheConstants.{LINE_BYTES, REPLY_BYTES}
 use Rattle.protocol.specs.Request.{Request, Asks, IsAskedBy, IsInRange, change, get, get_schema, rev, mark, query, changes, list, status, snapshot, pump, seal, object_of}
 use Rattle.protocol.specs.Reply.{change_reply, mark_reply, names_reply, node_object, nodes_reply, other_mark_reply, refusal_reply, revision_reply, texts, told_by, value_or_null, value_reply, with_number}
 use Rattle.serve_lines.specs.Kept.{AsksFor, Has, HaveOwnNames, IsRefusal, IsWithinReply, Known, LineTells, Refuses, Shows, Tells, known_of}
@@ -266,12 +266,12 @@ request_tells old new (changes from most) events said reply h = told_after_chang
 request_tells old new list events said reply h = inl h.0
 request_tells old new status events said reply h = inl (ap (resolve (codes "seq" ∷ [])) h.0 ∙ tells_seq (status_of old.account) (id_of (status_of old.account)), ap (resolve (codes "documents" ∷ [])) h.0)
 
-memory_tells : (s : Known) (line : List ℕ) (reply : Doc) → reply ≡ refusal_reply (plain MEMORY) → LineTells s line reply
-memory_tells s line reply is = inr (inr (inl (refuses_by reply (plain MEMORY) is)))
+memory_tells : (s : Known) (line : List ℕ) (reply : Doc) → reply ≡ refusal_reply (plain MEMORY) → length line ≤ LINE_BYTES → LineTells s line reply
+memory_tells s line reply is short = inr (inr (inl (refuses_by reply (plain MEMORY) is, short)))
 
 -- what a line by itself is answered
 pub other_tells : (old new : Recorded) (line : List ℕ) (events : List Event) (said : List Reply) (reply : Doc) → AnswersOther old line events said reply new → LineTells (known_of old) line reply
-other_tells old new line events said reply (inl memory) = memory_tells (known_of old) line reply memory.0
+other_tells old new line events said reply (inl memory) = memory_tells (known_of old) line reply memory.0 memory.1
 other_tells old new line events said reply (inr (Ok request, asks, is)) = inl (request, asks_for line request asks, request_tells old new request events said reply is)
 other_tells old new line events said reply (inr (Err number, asks, is)) = inr (inl (is_refusal reply (plain number) is.0, asks_none line number asks))
 
@@ -329,5 +329,5 @@ request_not_done s status seq tells = ⊎_elim (not_shown s.state status seq) (�
 pub not_done : (s : Known) (line : List ℕ) (seq : ℕ) → LineTells s line (change_reply seq) → ⊥
 not_done s line seq (inl asked) = request_not_done s asked.0 seq asked.2
 not_done s line seq (inr (inl none)) = not_refused seq none.0
-not_done s line seq (inr (inr (inl memory))) = not_refused seq (MEMORY, memory)
+not_done s line seq (inr (inr (inl memory))) = not_refused seq (MEMORY, memory.0)
 not_done s line seq (inr (inr (inr broken))) = not_refused seq (BROKEN, broken)

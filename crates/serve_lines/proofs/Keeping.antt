@@ -171,7 +171,7 @@ quiet_request old new asked.list events said reply h = quiet_none old new events
 quiet_request old new asked.status events said reply h = quiet_none old new events said h.1.0 h.1.1 h.1.2
 
 quiet_line : (old new : Recorded) (line : List ℕ) (events : List Event) (said : List Reply) (reply : Doc) → AnswersOther old line events said reply new → Quiet old new events said
-quiet_line old new line events said reply (inl memory) = quiet_none old new events said memory.1.0 memory.1.1 memory.1.2
+quiet_line old new line events said reply (inl memory) = quiet_none old new events said memory.2.0 memory.2.1 memory.2.2
 quiet_line old new line events said reply (inr (Ok request, asks, is)) = quiet_request old new request events said reply is
 quiet_line old new line events said reply (inr (Err number, asks, is)) = quiet_none old new events said is.1.0 is.1.1 is.1.2
 

@@ -94,4 +94,4 @@ batch_unmade s [] [] asks = no_line s
 batch_unmade s [] (t ∷ ts) asks = absurd asks
 batch_unmade s (line ∷ lines) [] asks = absurd asks
 batch_unmade s (line ∷ lines) (t ∷ ts) asks =
-    was_told s line (refusal_reply (plain MEMORY)) lines (map (λ _. refusal_reply (plain MEMORY)) ts) [] [] (inr (inr (inl (refuses (plain MEMORY))))) (batch_unmade s lines ts asks.1)
+    was_told s line (refusal_reply (plain MEMORY)) lines (map (λ _. refusal_reply (plain MEMORY)) ts) [] [] (inr (inr (inl (refuses (plain MEMORY), (asks_for line (change t) asks.0).0)))) (batch_unmade s lines ts asks.1)

@@ -1,5 +1,5 @@
 -- A reply that is shown, or want of memory for it.
-use Rattle.std.proofs.Common.{◌≡◌, ◌⊎◌, inl, inr, refl, ℕ, List, [], ◌∷◌, ◌++◌, Result, Ok, Err}
+use Rattle.std.proofs.Common.{◌≡◌, ◌⊎◌, ◌≤◌, inl, inr, refl, ℕ, List, [], ◌∷◌, ◌++◌, length, Result, Ok, Err}
 use Rattle.sector_device.specs.Disk.{Disk}
 use Rattle.doc_tree.specs.Doc.{Doc}
 use Rattle.doc_changes.specs.Refusals.{plain}
@@ -16,6 +16,7 @@ use Rattle.store_commits.specs.Run.{Event, reply_of, Ran}
 use Rattle.store_commits.specs.declared.event.Reply.TheVariants.{Snapped, Pumped, Sealed, Refused}
 use Rattle.protocol.specs.Request.{Request, Asks, snapshot, pump, seal}
 use Rattle.protocol.specs.Reply.{refusal_reply}
+use Rattle.protocol.specs.declared.limits.TheConstants.{LINE_BYTES}
 use Rattle.serve_lines.specs.Session.{AnswersOther, Follows, HasDone, Replies, shown_reply}
 use Rattle.protocol.specs.Says.{Says}
 use Rattle.serve_lines.specs.LineReplies.{AnswersRequest, IsAnsweredAlone, LineIsAnswered, RequestIsAnswered}
@@ -108,6 +109,11 @@ is_seal_event disk old new (Ok done) answers kept ran = λ options.
 is_seal_event disk old new (Err refusal) answers kept ran = λ options.
     one_event disk options old new seal (shown_reply (reply_of {A = Unit {0}} (λ done. Sealed) (Err refusal))) store.seal (Refused refusal) (λ none. absurd (cc none)) (Err refusal, answers, kept, refl, refl, refl) ran
 
+-- a line that asks for a request isn't too long
+asked_short : (line : List ℕ) (request : Request) → Asks line (Ok request) → length line ≤ LINE_BYTES
+asked_short line request (inl long) = absurd (cc long.1)
+asked_short line request (inr is) = is.0
+
 -- a line that asks for a request, no change, is answered as the request is
 pub asks_so : {D : Type 0} (disk : D → Disk) (options : Options) (old new : RecordedView D) (line : List ℕ) (request : Request) (reply : Doc) → Asks line (Ok request)
     → RequestIsAnswered disk options old request reply new → LineIsAnswered disk options old line reply new
@@ -122,7 +128,7 @@ asks_so disk options old new line request reply asks h = record {
       reply,
       refl,
       elim h.answers [
-        | inl memory ↦ inl memory
+        | inl memory ↦ inl (memory.0, asked_short line request asks, memory.1)
         | inr replies ↦ inr (Ok request, asks, replies)
       ],
     );

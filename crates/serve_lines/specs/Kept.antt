@@ -100,11 +100,11 @@ Tells k seal reply = (resolve (codes "seq" ∷ []) reply ≡ None) ⊎ IsRefusal
 Tells k (changes from most) reply = TellsAfter k from most reply
 Tells k question reply = Shows k.state question reply ⊎ (IsRefusal reply × ((shown : Doc) → Shows k.state question shown → ⊥))
 
--- The same of a line. One that asks for nothing is refused, and any line may be: out of memory, or since the store is broken.
+-- The same of a line. One that asks for nothing is refused, and any line may be since the store is broken, and any that isn't too long out of memory.
 abbrev pub LineTells : Known → List ℕ → Doc → Type 0
 LineTells k line reply =
     ((request : Request) × AsksFor line request × Tells k request reply) ⊎ (IsRefusal reply × ((request : Request) → AsksFor line request → ⊥))
-    ⊎ Refuses reply MEMORY ⊎ Refuses reply BROKEN
+    ⊎ (Refuses reply MEMORY × (length line ≤ LINE_BYTES)) ⊎ Refuses reply BROKEN
 
 -- Lines and their replies, one to each, in order, from a state; with the transactions that were done, and those that a fault of the device hit.
 pub data Replied : Known → List (List ℕ) → List Doc → (done hit : List Transaction) → Type 0 where

@@ -1,5 +1,5 @@
 -- The answers to a request or a line, for private clauses.
-use Rattle.std.specs.Prelude.{◌≡◌, ◌⊎◌, ◌<◌, List, [], ◌∷◌, ◌++◌, length, ℕ, Option, String, option_map, string_bytes, Result, ⊤}
+use Rattle.std.specs.Prelude.{◌≡◌, ◌⊎◌, ◌<◌, ◌≤◌, List, [], ◌∷◌, ◌++◌, length, ℕ, Option, String, option_map, string_bytes, Result, Err, ⊤}
 use Rattle.std.specs.Global.{Global}
 use Rattle.sector_device.specs.Disk.{Disk}
 use Rattle.doc_tree.specs.Doc.{Doc}
@@ -15,12 +15,18 @@ use Rattle.store_commits.specs.Run.{Event, Ran, reply_of}
 use Rattle.store_commits.specs.Copying.{PumpAnswers}
 use Rattle.store_commits.specs.declared.pump.Pump.{Pump}
 use Rattle.protocol.specs.Request.{Request}
+use Rattle.protocol.specs.declared.limits.TheConstants.{LINE_BYTES}
+use Rattle.protocol.specs.declared.request.Request.{Request as ReadRequest}
 use Rattle.protocol.specs.Reply.{refusal_reply}
 use Rattle.protocol.specs.Says.{Says}
 use Rattle.protocol.specs.declared.reply.Reply.{Reply}
 use Rattle.protocol.specs.declared.reply.Reply.TheVariants.{Changed, Snapshot, Pumped, Sealed, Refused}
 use Rattle.serve_lines.specs.Session.{AnswersBatch, ChangesNothing, Does, Follows, HasDone, Replies, WantsStep, alone}
 use Rattle.serve_lines.specs.declared.options.Options.{Options}
+
+-- Memory ran out for no line that is too long.
+abbrev pub IsWithinIfMemory : List ℕ → Result ReadRequest Refusal → Type 0
+IsWithinIfMemory line asked = asked ≡ Err (plain MEMORY) → length line ≤ LINE_BYTES
 
 -- From old, a request was given this reply, or memory ran out, and led to new.
 abbrev pub AnswersRequest : Recorded → Request → List Event → List StoreReply → Doc → Recorded → Type 0

@@ -28,7 +28,7 @@ use Rattle.store_commits.specs.declared.event.Reply.{Reply}
 use Rattle.store_commits.specs.declared.event.Reply.TheVariants.{Done, Snapped, Pumped, Sealed, Refused}
 use Rattle.doc_store.specs.Formats.{status_of}
 use Rattle.store_commits.specs.declared.pump.Pump.{Pump}
-use Rattle.protocol.specs.declared.limits.TheConstants.{REPLY_BYTES}
+use Rattle.protocol.specs.declared.limits.TheConstants.{LINE_BYTES, REPLY_BYTES}
 use Rattle.protocol.specs.Request.{Request, change, get, get_schema, rev, mark, query, changes as changes_after, list, status, snapshot, pump, seal, Asks}
 use Rattle.protocol.specs.Changes.{changes_reply, gone_reply}
 use Rattle.change_history.specs.History.{first_within, since}
@@ -124,10 +124,10 @@ RepliesTo old (Ok request) events said reply new = Replies old request events sa
 RepliesTo old (Err number) events said reply new = (reply ≡ refusal_reply (plain number)) × ChangesNothing old events said new
 
 -- From old, a line by itself was given this reply and led to new, by these events and their replies: it is no
--- transaction. That memory ran out may be answered to any line before the store is asked.
+-- transaction. That memory ran out may be answered to any line within the limit before the store is asked.
 abbrev pub AnswersOther : Recorded → List ℕ → List Event → List Reply → Doc → Recorded → Type 0
 AnswersOther old line events said reply new =
-    ((reply ≡ refusal_reply (plain MEMORY)) × ChangesNothing old events said new)
+    ((reply ≡ refusal_reply (plain MEMORY)) × (length line ≤ LINE_BYTES) × ChangesNothing old events said new)
     ⊎ ((asked : Result Request ℕ) × Asks line asked × RepliesTo old asked events said reply new)
 
 -- the lines ask for these transactions

@@ -4,7 +4,7 @@ ghost use Rattle.doc_tree.specs.Doc.{Doc};
 ghost use Rattle.doc_changes.specs.Refusals.{plain};
 ghost use Rattle.protocol.specs.Read.{asked_by, IsNoChange, ReadsRequest};
 ghost use Rattle.protocol.specs.Says.{Says};
-ghost use Rattle.serve_lines.specs.LineReplies.{AnswersRequest, IsAnsweredAlone, LineIsAnswered};
+ghost use Rattle.serve_lines.specs.LineReplies.{AnswersRequest, IsAnsweredAlone, IsWithinIfMemory, LineIsAnswered};
 ghost use Rattle.protocol.specs.Request as asked;
 ghost use Rattle.protocol.specs.Reply.{line_of, refusal_reply};
 ghost use Rattle.path_eval.specs.NodeView.{listed_of};
@@ -41,7 +41,7 @@ pub(crate) fn answer<D: SectorDevice>(
     asked: Result<Request, Refusal>,
 ) -> Reply
     requires { IfOk asked (λ request. IsNoChange (asked_by request)) }
-    ensures { (options : Options) (line : List ℕ) → ReadsRequest line asked
+    ensures { (options : Options) (line : List ℕ) → ReadsRequest line asked → IsWithinIfMemory line asked
         → (reply : Doc) × Says result reply × LineIsAnswered D.disk options store.old line reply store.new }
 {
     match asked {

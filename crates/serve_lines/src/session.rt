@@ -7,6 +7,7 @@ ghost use Rattle.protocol.specs.LineBuffer.{Holds};
 ghost use Rattle.protocol.specs.Lines.{line_feed, HasNoBreak};
 ghost use Rattle.protocol.specs.Read.{asked_by, IsNoChange, ReadsRequest};
 ghost use Rattle.protocol.specs.Request.{Asks, change};
+ghost use Rattle.serve_lines.specs.LineReplies.{IsWithinIfMemory};
 ghost use Rattle.serve_lines.specs.Session.{most_of};
 
 use crate::answer::answer;
@@ -194,7 +195,7 @@ impl Session {
     )
         requires taken { self.old.ready.items ≡ [] }
         requires other { IfOk asked (λ request. IsNoChange (asked_by request)) }
-        ensures ends { (line : List ℕ) → ReadsRequest line asked → LineEnds D.disk line store.old self.old store.new self.new }
+        ensures ends { (line : List ℕ) → ReadsRequest line asked → IsWithinIfMemory line asked → LineEnds D.disk line store.old self.old store.new self.new }
         ensures same { KeepsInput self.old self.new }
         ensures held { held_in self.new ≤ held_in self.old + 1 }
     {
@@ -210,9 +211,11 @@ impl Session {
     }
 }
 
-// What the line asks for that has ended.
+// What the line asks for that has ended. One that is too long takes no memory. Whether another is a document, and a
+// request's, only its tree shows, and that takes memory: so `MEMORY` may come in place of these refusals.
 fn read_line(alloc: Global, line: &Line) -> Result<Request, Refusal>
-    ensures { (so_far : List ℕ) → Holds line.now so_far → ReadsRequest so_far result }
+    ensures reads { (so_far : List ℕ) → Holds line.now so_far → ReadsRequest so_far result }
+    ensures within { (so_far : List ℕ) → Holds line.now so_far → IsWithinIfMemory so_far result }
 {
     match line.text() {
         Some(text) => read_request(alloc, text),
