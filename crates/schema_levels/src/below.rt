@@ -103,13 +103,8 @@ fn number_named(named: &BTreeMap<String, usize>, name: &str) -> Option<usize>
     }
 }
 
-// Adds the nodes that the asked ones ask of the child, and answers whether they ask any.
-pub(crate) fn collect(
-    nodes: &[Node],
-    asked: &[u64],
-    spot: ChildPlace<'_>,
-    found: &mut [u64],
-) -> bool
+/// Adds the nodes that the asked ones ask of the child, and answers whether they ask any.
+pub fn collect(nodes: &[Node], asked: &[u64], spot: ChildPlace<'_>, found: &mut [u64]) -> bool
     requires short { length asked.now < 2 ^ 32 }
     requires known { KnowsAsked nodes.now asked.now spot }
     ensures found { found.new ≡ collect asked.now (seen spot.entry) 0 nodes.now found.old }

@@ -5,8 +5,8 @@ ghost use Rattle.schema_levels.specs.Closure.{close, mark_rules, mark_rule};
 use crate::bits::{last, mark_each, write};
 use crate::node::{Node, Rule};
 
-// Adds all nodes that asked ones lead to at the same value.
-pub(crate) fn close(nodes: &[Node], asked: &mut [u64])
+/// Adds all nodes that asked ones lead to at the same value.
+pub fn close(nodes: &[Node], asked: &mut [u64])
     requires { length asked.old < 2 ^ 32 }
     ensures { asked.new ≡ close nodes.now (length nodes.now) asked.old }
 {

@@ -100,7 +100,7 @@ pub fn find(searches: &mut [Search<'_>], sought: u64, name: &str) -> u64
 }
 
 /// The same of the patterns that the asked nodes have, whose numbers `sought` has: nodes and set are for the clauses alone.
-pub(crate) fn find_for(
+pub fn find_for(
     _nodes: &[Node],
     _asked: &[u64],
     searches: &mut [Search<'_>],

@@ -14,7 +14,10 @@ mod named;
 mod node;
 mod run;
 
+pub use below::collect;
+pub use closure::close;
 pub use counters::{Counters, counters_of};
+pub use found::find_for;
 pub use levels::judge_instance;
 pub use node::{ChildPlace, NamePattern, Node, Rule};
 pub use run::{MOST_WORDS, passes};
