@@ -28,7 +28,7 @@ class JpstoreError(Exception):
 
 
 class JpstoreWarning(UserWarning):
-    """The store accepts this, but perhaps it is not what was meant."""
+    """The store accepts this, but perhaps it is not what was meant; or it says this of itself."""
 
 
 class AccessError(JpstoreError, OSError):

@@ -84,7 +84,8 @@ class Changes:
 class Status:
     """The status of a store; `used` and `capacity` are bytes of one half, a sector has 512 bytes.
 
-    `id` is the identity of a store in format 3, in hexadecimal, which no other store has.
+    `id` is the identity of a store in format 3, in hexadecimal, which no other store has. `slots` is what the slots of
+    such a store said when `check_file` opened it: `whole`, `mended` or `cut-off`; so did `copy_file`, if not `whole`.
     """
 
     broken: bool
@@ -96,6 +97,7 @@ class Status:
     seq: int
     used: int
     id: Optional[str] = None
+    slots: Optional[str] = None
 
     @property
     def format(self) -> int:
@@ -110,7 +112,8 @@ class Status:
     @classmethod
     def of(cls, reply: Dict[str, Any]) -> "Status":
         """The status in a reply."""
-        return cls(**{field.name: reply[field.name] for field in fields(cls) if field.name != "id"}, id=reply.get("id"))
+        told = {field.name: reply[field.name] for field in fields(cls) if field.name not in ("id", "slots")}
+        return cls(**told, id=reply.get("id"), slots=reply.get("slots"))
 
 
 @dataclass(frozen=True)

@@ -6,6 +6,7 @@ from ..dump import LoadStopped
 from ..errors import Invalid
 from ..explain import first_reason
 from ..results import Node, Status
+from ..wire.program import SAID_BY_SLOTS
 
 __all__ = ["members_of", "printable", "shown", "shown_error", "shown_node", "shown_status"]
 
@@ -52,6 +53,9 @@ def shown_status(status: Status) -> str:
     if status.format == 2:
         rows.append(["format", "2; `jpstore upgrade FILE` brings it to 3, which tells damage, and has marks and "
                                "patterns"])
+    if status.slots:
+        meaning = SAID_BY_SLOTS.get(status.slots)
+        rows.append(["slots", f"{status.slots}: {meaning}" if meaning else status.slots])
     if status.broken:
         rows.append(["broken", "the device failed: end the program and open the store again"])
     return "\n".join(f"{what:<10} {said}" for what, said in rows)

@@ -3,17 +3,18 @@ import json
 import os
 import shutil
 import subprocess
+import warnings
 from typing import Any, Dict, List, Optional, Sequence, Union
 
-from ..errors import Ended, JpstoreError, TimedOut, accessing
+from ..errors import Ended, JpstoreError, JpstoreWarning, TimedOut, accessing
 from ..results import Status
 from .forks import Descriptor, in_each_child, while_none_forks
 from .store_file import format_kept
 from .stream import PIECE, Lines, StreamEnded, StreamSilent
 
 __all__ = [
-    "BATCH", "Path", "Program", "Started", "check_file", "copy_file", "ended_program", "find_program", "format_file",
-    "path_word", "serve_words", "upgrade_file", "version_of",
+    "BATCH", "Path", "Program", "SAID_BY_SLOTS", "Started", "check_file", "copy_file", "ended_program", "find_program",
+    "format_file", "path_word", "serve_words", "upgrade_file", "version_of",
 ]
 
 _HOW_TO_GET = ("it is in the Debian package jpstore, and `./build` of a clone puts it into `crates/jpstore/out`; "
@@ -25,6 +26,13 @@ Path = Union[str, "os.PathLike[str]"]
 #: How many changes that are sent together share a sync of the disk at most, unless a caller says another number. More
 #: are hardly faster, and as many of the longest documents take 200 MB until they are stored.
 BATCH = 64
+
+#: What the slots of a store in format 3 say when it is opened, unless they are whole.
+SAID_BY_SLOTS = {
+    "mended": "a copy of the last commit was damaged, and nothing is lost",
+    "cut-off": "a commit was under way at a stop, and was never answered; or both copies of the last one are damaged, "
+               "and it is lost",
+}
 
 
 def find_program(program: Optional[Path] = None) -> str:
@@ -150,6 +158,18 @@ def _shown(words: List[str]) -> Dict[str, Any]:
     if ended.returncode:
         raise ended_program(words, ended.returncode, ended.stderr)
     shown: Dict[str, Any] = json.loads(ended.stdout)
+    for line in ended.stderr.splitlines():
+        if line.startswith(b'{"slots":'):
+            shown.update(json.loads(line))
+    return shown
+
+
+def _shown_of_opened(words: List[str]) -> Dict[str, Any]:
+    """The same, of a program that opens a store; what its slots say is a warning, unless they are whole."""
+    shown = _shown(words)
+    said = shown.get("slots")
+    if said in SAID_BY_SLOTS:
+        warnings.warn(f"{words[2]}: its slots are {said}: {SAID_BY_SLOTS[said]}", JpstoreWarning, stacklevel=3)
     return shown
 
 
@@ -179,12 +199,12 @@ def copy_file(file: Path, new: Path, sectors: int, program: Optional[Path] = Non
     The copy has the documents with their schemas and revisions, and the counts of changes and openings; it is in format
     2 or 3 by `version`, and without it in that of `file`. In format 3 it gets another identity, as by `format_file`.
     After a stop `new` holds no store, or all of this; if the program fails it removes `new`. It counts as an opening of
-    `file`.
+    `file`. If the slots of `file` aren't whole, `slots` of the status says so, and a `JpstoreWarning`.
     """
     kept = format_kept(os.fspath(file)) if version is None else version
     # Each program makes format 2 without this word, also one that doesn't know it.
     options = _options(sectors=sectors, format=None if kept == 2 else kept, id=identity)
-    return Status.of(_shown([find_program(program), "copy", path_word(file), path_word(new), *options]))
+    return Status.of(_shown_of_opened([find_program(program), "copy", path_word(file), path_word(new), *options]))
 
 
 def upgrade_file(file: Path, version: int = 3, program: Optional[Path] = None, *,
@@ -192,8 +212,9 @@ def upgrade_file(file: Path, version: int = 3, program: Optional[Path] = None, *
     """Brings the store in `file` to format 3 or 2, and returns the number of the format that it was in.
 
     The documents, their revisions and the count of changes stay, also after a stop at any moment. It counts as an
-    opening. A store that comes to format 3 gets an identity, as by `format_file`.
+    opening. A store that comes to format 3 gets an identity, as by `format_file`. A `JpstoreWarning` says if its slots
+    aren't whole.
     """
     options = _options(format=version, id=identity)
-    before: int = _shown([find_program(program), "upgrade", path_word(file), *options])["from"]
+    before: int = _shown_of_opened([find_program(program), "upgrade", path_word(file), *options])["from"]
     return before

@@ -2,9 +2,10 @@
 import os
 import socket
 import threading
+import warnings
 
 import pytest
-from jpstore import JpstoreError, Store, check_file
+from jpstore import JpstoreError, JpstoreWarning, Store, check_file, copy_file, upgrade_file
 from jpstore.replica.copying import copy_of, receive_copy
 from jpstore.wire.store_file import committed_in, format_of
 from support import raised
@@ -92,3 +93,39 @@ def test_a_slot_whose_twin_is_damaged_is_read(place):
             file.write(kept)
             file.flush()
     assert check_file(place.file, place.program).seq == seq
+
+
+def slots_of(place, damaged):
+    """Zeros that many slots of the last commit."""
+    with open(place.file, "r+b") as file:
+        content = file.read()
+        numbers = [int.from_bytes(content[at + 16:at + 24], "big") for at in range(0, 65536, 16384)]
+        newest = [slot for slot in range(4) if numbers[slot] == max(numbers)]
+        for slot in newest[:damaged]:
+            file.seek(16384 * slot)
+            file.write(bytes(16384))
+
+
+@pytest.mark.parametrize("said, damaged", [("whole", 0), ("mended", 1), ("cut-off", 2)])
+def test_what_the_slots_say_is_told(place, said, damaged):
+    def opened_by(call, *words, **named):
+        filled(place, 3)
+        slots_of(place, damaged)
+        with warnings.catch_warnings(record=True) as told:
+            warnings.simplefilter("always", JpstoreWarning)
+            answer = call(*words, **named)
+        os.unlink(place.file)
+        return answer, [str(each.message).startswith(f"{place.file}: its slots are {said}: ") for each in told]
+
+    warned = [True] * bool(damaged)
+    checked, none = opened_by(check_file, place.file, place.program)
+    assert (checked.slots, none) == (said, [])
+    copied, told = opened_by(copy_file, place.file, place.path("new"), SECTORS, place.program)
+    assert (copied.slots, told) == (said if damaged else None, warned)
+    before, told = opened_by(upgrade_file, place.file, 2, place.program)
+    assert (before, told) == (3, warned)
+    shown = opened_by(place.run, "check", place.file)[0]
+    assert f"\nslots      {said}".encode() in shown.stdout
+    for words in (["copy", place.file, place.path("other")], ["upgrade", place.file, "--format", "2"]):
+        errors = opened_by(place.run, *words)[0].stderr
+        assert errors.startswith(f"warning: {place.file}: its slots are {said}".encode()) == bool(damaged), errors
