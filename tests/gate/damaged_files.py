@@ -88,8 +88,13 @@ def make(program, file, version, sectors):
 def make_killed(program, file, version, sectors):
     """The same of a server that is killed when it has answered the last change: no seal is made."""
     run(program, "format", file, "--sectors", str(sectors), "--format", str(version))
+    return served_and_killed(program, file, CHANGES)
+
+
+def served_and_killed(program, file, changes):
+    """The bytes of a store after these changes, of a server that is then killed."""
     with subprocess.Popen([program, "serve", file], stdin=subprocess.PIPE, stdout=subprocess.PIPE, text=True) as server:
-        for change in CHANGES:
+        for change in changes:
             server.stdin.write(text_of(change) + "\n")
             server.stdin.flush()
             if '"ok":true' not in server.stdout.readline():
@@ -97,6 +102,12 @@ def make_killed(program, file, version, sectors):
         server.kill()
     with open(file, "rb") as opened:
         return opened.read()
+
+
+def end_of_report(content, count):
+    """The last line of `check --deep`: it says where blocks have no checksums, which is where no sector is one of a slot."""
+    sums = {} if b"JPSTORE1\0\0\0\3" in content[:16 * BLOCK] else {"checksums": False}
+    return {**sums, "damages": count, "ok": count == 0}
 
 
 def newest_slots(content):
@@ -163,17 +174,17 @@ class Tests:
 
     def _is_whole(self, content, documents, seq):
         deep = self._ask(content, "check", "--deep")
-        expect("check --deep of a whole store", (deep.returncode, deep.stdout, deep.stderr), (0, '{"damages":0,"ok":true}\n', ""))
+        expect("check --deep of a whole store", (deep.returncode, deep.stdout, deep.stderr), (0, text_of(end_of_report(content, 0)) + "\n", ""))
         for words in (["dump", "--read-only"], ["salvage"]):
             said = self._ask(content, *words)
             expect(f"{words} of a whole store", (said.returncode, said.stdout, said.stderr), (0, dump_of(documents, seq), ""))
 
-    def _is_told(self, content, *kinds):
-        """Damages of each of these kinds are told, and the last line counts them."""
+    def _is_told(self, content, *kinds, whole=None):
+        """Damages of each of these kinds are told, and the last line counts them; `whole` is the content before."""
         deep = self._ask(content, "check", "--deep")
         lines = [json.loads(line) for line in deep.stdout.splitlines()]
         expect("the end of check --deep", (deep.returncode, deep.stderr, lines[-1]),
-               (1, "jpstore: damage\n", {"damages": len(lines) - 1, "ok": False}))
+               (1, "jpstore: damage\n", end_of_report(whole or content, len(lines) - 1)))
         told = [line["damage"] for line in lines[:-1]]
         if not set(kinds) <= set(told):
             raise Wrong(f"check --deep told {told}, and not {kinds}")
@@ -212,6 +223,39 @@ class Tests:
                 lines = self._is_told(harmed, "slot")
                 expect("the slot", lines[0], {"damage": "slot", "sector": 32 * slot, "sectors": 32, "slot": name})
                 self._salvages(harmed, after(CHANGES), len(CHANGES), 0)
+
+    def a_lost_write_of_a_copy_is_told_as_check_tells_it(self):
+        """One slot of the last commit holds the one before: `check` says `mended`, and `check --deep` which slot it is."""
+        names = ["A", "A'", "B", "B'"]
+        before, content = self._killed_after(len(CHANGES) - 2), self._killed_after(len(CHANGES))
+        expect("the pair of the last commit", newest_slots(before), newest_slots(content))
+        for slot in range(4):
+            begin, end = 4 * BLOCK * slot, 4 * BLOCK * (slot + 1)
+            harmed = content[:begin] + before[begin:end] + content[end:]
+            deep = [json.loads(line) for line in self._ask(harmed, "check", "--deep").stdout.splitlines()]
+            old = [{"damage": "old-slot", "sector": 32 * slot, "sectors": 32, "slot": names[slot]}]
+            expect(f"what is damaged, {names[slot]}", deep[:-1], old if slot in newest_slots(content) else [])
+            said = json.loads(run(self.program, "check", self.file).stdout)["slots"]
+            expect(f"what the slots say, {names[slot]}", said, "mended" if slot in newest_slots(content) else "whole")
+
+    def _killed_after(self, count):
+        """The bytes of a store whose server is killed after that many changes; its identity is always the same."""
+        if os.path.exists(self.file):
+            os.unlink(self.file)
+        run(self.program, "format", self.file, "--sectors", "256", "--format", "3", "--id", "0" * 31 + "7")
+        return served_and_killed(self.program, self.file, CHANGES[:count])
+
+    def of_a_file_that_was_cut_or_padded_that_part_is_told(self):
+        for version in (2, 3):
+            content = self.made(version)
+            for sectors in (150, 255):
+                lines = self._is_told(content[:sectors * SECTOR], "unopened", "missing", whole=content)
+                expect("what is missing", [line for line in lines if line.get("damage") == "missing"],
+                       [{"damage": "missing", "sector": sectors, "sectors": 256 - sectors}])
+            lines = self._is_told(content + bytes(3 * SECTOR), "unopened", "surplus")
+            expect("what is too much", [line for line in lines if line.get("damage") == "surplus"],
+                   [{"damage": "surplus", "sector": 256, "sectors": 3}])
+            expect("nothing else", [line["damage"] for line in lines[:-1]], ["unopened", "surplus"])
 
     def of_two_damaged_copies_the_commit_before_is_left(self):
         content = self.made(3, make_killed)

@@ -15,7 +15,7 @@ import subprocess
 import sys
 import tempfile
 
-from damaged_files import BLOCK, SECTOR, Wrong, after, ask, create, damaged, expect, put, run, text_of
+from damaged_files import BLOCK, SECTOR, Wrong, after, ask, create, damaged, end_of_report, expect, put, run, text_of
 from standing_changes import runs_of, standing
 
 SLOT, HALF = 32 * SECTOR, 128 * SECTOR
@@ -83,7 +83,7 @@ class Tests:
         said = ask(self.program, self.file, content, "check", self.file, "--deep")
         lines = [json.loads(line) for line in said.stdout.splitlines()]
         expect(f"what check --deep tells, {what}", sorted({line["damage"] for line in lines[:-1]}), sorted(kinds))
-        expect(f"the end of check --deep, {what}", (said.returncode, lines[-1]), (int(bool(kinds)), {"damages": len(lines) - 1, "ok": not kinds}))
+        expect(f"the end of check --deep, {what}", (said.returncode, lines[-1]), (int(bool(kinds)), end_of_report(content, len(lines) - 1)))
 
     def _stores(self, version, killed=False):
         for count in COUNTS:
@@ -103,7 +103,7 @@ class Tests:
                 for how, harmed in (("cut", content[:-SECTOR]), ("longer", content + bytes(SECTOR)), ("padded", content + bytes((1 << 20) - len(content)))):
                     end = self._salvages(f"{what}, {how}", harmed, after(changes), 1)
                     expect("its number", end["seq"], len(changes))
-                    self._deep(f"{what}, {how}", harmed, "unopened")
+                    self._deep(f"{what}, {how}", harmed, "missing" if how == "cut" else "surplus", "unopened")
 
     def a_file_that_ends_within_the_slots(self):
         for what, _, content in self._stores(3):

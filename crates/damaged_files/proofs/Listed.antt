@@ -41,6 +41,10 @@ heard_more xs ys x first before now F (inr more) heard none = push_some xs x (sy
 pub in_order : (a b c d e : List ℕ) → (((a ++ b) ++ c) ++ d) ++ e ≡ a ++ (b ++ (c ++ (d ++ e)))
 in_order a b c d e = append_assoc ((a ++ b) ++ c) d e ∙ append_assoc (a ++ b) c (d ++ e) ∙ append_assoc a b (c ++ (d ++ e))
 
+-- six
+pub in_order_six : (a b c d e f : List ℕ) → ((((a ++ b) ++ c) ++ d) ++ e) ++ f ≡ a ++ (b ++ (c ++ (d ++ (e ++ f))))
+in_order_six a b c d e f = in_order (a ++ b) c d e f ∙ append_assoc a b (c ++ (d ++ (e ++ f)))
+
 -- no element is at that place, or this one
 pub none_there : {T : Type 0} (xs items : List T) (i : ℕ) → xs ≡ items → length xs ≤ i → slice_get items i ≡ None
 none_there xs items i same past = subst (λ l. slice_get l i ≡ None) same (slice_get_past xs i past)

@@ -1,8 +1,9 @@
 -- The damages of a store, and their lines.
-use Rattle.std.specs.Prelude.{◌≡◌, ◌<◌, ◌+◌, ◌*◌, ◌/◌, ℕ, List, [], ◌∷◌, ◌++◌, Bool, true, false, Option, Some, None, IfSome, codes, decimal, length, map, min, nat_eq, slice_get, if◌then◌else◌}
+use Rattle.std.specs.Prelude.{◌≡◌, ◌<◌, ◌+◌, ◌-◌, ◌*◌, ◌/◌, ℕ, List, [], ◌∷◌, ◌++◌, Bool, true, false, Option, Some, None, IfNone, IfSome, codes, decimal, length, map, min, nat_eq, nat_lt, slice_get, if◌then◌else◌}
 use Rattle.std.specs.List.{AllByRecursion}
 use Rattle.commit_slots.specs.declared.slot.Slot.{Slot}
 use Rattle.doc_changes.specs.State.{Good}
+use Rattle.half_journal.specs.Layout.{IsHalfSized}
 use Rattle.refusals.specs.Names.{name_of}
 use Rattle.store_parts.specs.Parts.{AreParts}
 use Rattle.store_parts.specs.declared.checking.Check.{Check}
@@ -19,7 +20,7 @@ use Rattle.damaged_files.specs.declared.damage.Span.{Span}
 use Rattle.damaged_files.specs.declared.damage.Lost.{Lost as LostRest}
 use Rattle.damaged_files.specs.declared.damage.Refused.{Refused as RefusedRest}
 use Rattle.damaged_files.specs.declared.damage.Damage.{Damage}
-use Rattle.damaged_files.specs.declared.damage.Damage.TheVariants.{Unopened, NoCommit, Slot as BadSlot, Checksum, Lost, Refused, Unread}
+use Rattle.damaged_files.specs.declared.damage.Damage.TheVariants.{Unopened, NoCommit, Missing, Surplus, Slot as BadSlot, OldSlot, Checksum, Lost, Refused, Unread}
 use Rattle.damaged_files.specs.declared.examined.Examined.{Examined}
 use Rattle.damaged_files.specs.declared.showing.Condition.{Condition}
 use Rattle.damaged_files.specs.declared.showing.Condition.TheVariants.{Whole, Damaged}
@@ -27,6 +28,8 @@ use Rattle.damaged_files.specs.declared.showing.Condition.TheVariants.{Whole, Da
 -- what was found on a device that has this number of sectors
 pub record IsExaminedOn (sectors : ℕ) (examined : Examined) : Type 0 where
   pub parts : IfSome examined.found (λ f. AreParts sectors f.parts.items)
+  pub size : IfSome examined.found (λ f. f.sectors ≡ sectors)
+  pub none : IfNone examined.found (IsHalfSized sectors → ⊥)
   pub good : IfSome examined.made (λ m. Good m.machine)
   pub unread : AllByRecursion (λ at. at < sectors) examined.unread.items
 
@@ -49,19 +52,34 @@ abbrev pub seq_damages : Option ℕ → List Damage
 seq_damages None = NoCommit ∷ []
 seq_damages (Some seq) = []
 
--- the slot at a place holds no valid commit
-abbrev pub slot_damage : ℕ → Option Slot → List Damage
-slot_damage place None = BadSlot place (slot_start place) ∷ []
-slot_damage place (Some slot) = []
+-- a device of `sectors` sectors is cut or padded: its store has `size`
+abbrev pub size_damage : ℕ → ℕ → Option Damage
+size_damage sectors size =
+    if nat_lt sectors size
+    then Some (Missing (record { sector = sectors; sectors = size - sectors }))
+    else if nat_lt size sectors then Some (Surplus (record { sector = size; sectors = sectors - size })) else None
+
+abbrev pub listed : Option Damage → List Damage
+listed None = []
+listed (Some damage) = damage ∷ []
+
+abbrev pub size_damages : ℕ → ℕ → List Damage
+size_damages sectors size = listed (size_damage sectors size)
+
+-- the slot at a place holds no valid commit, or is an old one
+abbrev pub slot_damage : ℕ → Option Slot → Bool → List Damage
+slot_damage place None old = BadSlot place (slot_start place) ∷ []
+slot_damage place (Some slot) true = OldSlot place (slot_start place) ∷ []
+slot_damage place (Some slot) false = []
 
 -- those of the slots from a place on
 abbrev pub slot_damages : ℕ → List SlotCopy → List Damage
 slot_damages place [] = []
-slot_damages place (c ∷ cs) = slot_damage place c.slot ++ slot_damages (place + 1) cs
+slot_damages place (c ∷ cs) = slot_damage place c.slot c.old ++ slot_damages (place + 1) cs
 
 -- of the commits
 abbrev pub commit_damages : Findings → List Damage
-commit_damages found = seq_damages found.seq ++ slot_damages 0 found.copies.items
+commit_damages found = seq_damages found.seq ++ size_damages found.sectors found.size ++ slot_damages 0 found.copies.items
 
 -- bytes of a part that are in no document
 abbrev pub damage_of : Part → Doubt → Damage
@@ -121,6 +139,9 @@ text_of_refused refused = codes "\"damage\":\"refused\",\"number\":" ++ decimal 
 abbrev pub text_of_damage : Damage → List ℕ
 text_of_damage (Unopened number) = codes "{\"damage\":\"unopened\",\"error\":\"" ++ name_of number ++ codes "\",\"number\":" ++ decimal number ++ codes "}"
 text_of_damage NoCommit = codes "{\"damage\":\"no-commit\"}"
+text_of_damage (Missing span) = codes "{\"damage\":\"missing\"," ++ text_of_span span ++ codes "}"
+text_of_damage (Surplus span) = codes "{\"damage\":\"surplus\"," ++ text_of_span span ++ codes "}"
+text_of_damage (OldSlot place sector) = codes "{\"damage\":\"old-slot\",\"sector\":" ++ (decimal sector ++ (codes ",\"sectors\":32,\"slot\":\"" ++ (slot_name place ++ codes "\"}")))
 text_of_damage (BadSlot place sector) = codes "{\"damage\":\"slot\",\"sector\":" ++ (decimal sector ++ (codes ",\"sectors\":32,\"slot\":\"" ++ (slot_name place ++ codes "\"}")))
 text_of_damage (Checksum half span) = codes "{\"damage\":\"checksum\",\"half\":" ++ decimal half ++ codes "," ++ text_of_span span ++ codes "}"
 text_of_damage (Lost byte rest) = codes "{\"byte\":" ++ (decimal byte ++ (codes "," ++ (text_of_lost rest ++ codes "}")))
@@ -139,14 +160,27 @@ abbrev pub word_for : Bool → List ℕ
 word_for true = codes "true"
 word_for false = codes "false"
 
--- how many there are, and whether all is well
-abbrev pub last_line : ℕ → Bool → List ℕ
-last_line count well = codes "{\"damages\":" ++ decimal count ++ codes ",\"ok\":" ++ word_for well ++ codes "}\n"
+-- The blocks have checksums: it is format 3. Of what is no store nothing is said.
+abbrev pub has_checksums : Option Findings → Bool
+has_checksums None = true
+has_checksums (Some found) = nat_eq found.format 3
+
+abbrev pub head_for : Bool → List ℕ
+head_for true = codes "{"
+head_for false = codes "{\"checksums\":false,"
+
+-- that they have none, how many damages there are, and whether all is well
+abbrev pub last_line : Bool → ℕ → Bool → List ℕ
+last_line checksums count well = head_for checksums ++ codes "\"damages\":" ++ decimal count ++ codes ",\"ok\":" ++ word_for well ++ codes "}\n"
 
 abbrev pub is_none_of : List Damage → Bool
 is_none_of [] = true
 is_none_of (d ∷ ds) = false
 
 -- all lines
-abbrev pub report_of : List Damage → List ℕ
-report_of damages = lines_of_damages damages ++ last_line (length damages) (is_none_of damages)
+abbrev pub report_of : Bool → List Damage → List ℕ
+report_of checksums damages = lines_of_damages damages ++ last_line checksums (length damages) (is_none_of damages)
+
+-- of what was found on a device on which an opening would be refused by that number
+abbrev pub report_on : Option ℕ → Examined → List ℕ
+report_on refused examined = report_of (has_checksums examined.found) (damages_of refused examined)

@@ -1,5 +1,5 @@
 -- The condition of a store that was salvaged: anything is lost, or nothing.
-use Rattle.std.specs.Prelude.{ℕ, List, [], ◌∷◌, Bool, true, false, ◌&&◌, ◌||◌, not, Option, Some, None, is_some, slice_get, if◌then◌else◌}
+use Rattle.std.specs.Prelude.{ℕ, List, [], ◌∷◌, Bool, true, false, ◌&&◌, ◌||◌, not, nat_eq, Option, Some, None, is_some, slice_get, if◌then◌else◌}
 use Rattle.sector_device.specs.Disk.{Image}
 use Rattle.store_parts.specs.Parts.{HaveTails}
 use Rattle.store_salvage.specs.Making.{IsMade}
@@ -42,7 +42,7 @@ is_empty (x ∷ xs) = false
 -- a commit counts, the device has as many sectors as it says, no later one may be missing, and all of its bytes were read and are in the documents
 abbrev pub is_whole : Findings → Made → Bool
 is_whole found made =
-    is_some found.seq && found.fits && not (is_cut_off found.copies.items) && not (has_failed made.check) && is_empty made.doubts.items && is_empty made.unread.items
+    is_some found.seq && nat_eq found.size found.sectors && not (is_cut_off found.copies.items) && not (has_failed made.check) && is_empty made.doubts.items && is_empty made.unread.items
 
 abbrev pub salvaged_condition : Findings → Made → Condition
 salvaged_condition found made = if is_whole found made then Whole else Damaged

@@ -12,8 +12,14 @@ pub enum Damage {
     Unopened { number: u16 },
     /// No commit is valid.
     NoCommit,
+    /// The file ends before these sectors of the store.
+    Missing { span: Span },
+    /// The store ends before these sectors of the file.
+    Surplus { span: Span },
     /// The slot of that place, from A to B', holds no valid commit: 32 sectors from that one on.
     Slot { place: u64, sector: u64 },
+    /// The slot of that place is valid, but doesn't hold the last commit, as the other one of its pair does.
+    OldSlot { place: u64, sector: u64 },
     /// The bytes that a commit counts in a half don't have its checksum.
     Checksum { half: u32, span: Span },
     /// Bytes from that byte of a sector on are no frame.
@@ -68,11 +74,20 @@ impl Display for Damage {
                 )
             }
             Damage::NoCommit => f.write_str("{\"damage\":\"no-commit\"}"),
+            Damage::Missing { span } => write!(f, "{{\"damage\":\"missing\",{span}}}"),
+            Damage::Surplus { span } => write!(f, "{{\"damage\":\"surplus\",{span}}}"),
             Damage::Slot { place, sector } => {
                 let name = slot_name(*place);
                 write!(
                     f,
                     "{{\"damage\":\"slot\",\"sector\":{sector},\"sectors\":32,\"slot\":\"{name}\"}}"
+                )
+            }
+            Damage::OldSlot { place, sector } => {
+                let name = slot_name(*place);
+                write!(
+                    f,
+                    "{{\"damage\":\"old-slot\",\"sector\":{sector},\"sectors\":32,\"slot\":\"{name}\"}}"
                 )
             }
             Damage::Checksum { half, span } => {

@@ -1,11 +1,10 @@
 //! The damages of what was found.
 ghost use Rattle.std.specs.Prelude.{◌≡◌, ◌++◌, ◌∷◌, [], IfOk, map};
-ghost use Rattle.damaged_files.specs.Damages.{checksum_damages, commit_damages, counted_damages, damage_of, damages_of, found_damages, opening_damages, part_damages, seq_damages, slot_damage, slot_damages, unread_damages};
+ghost use Rattle.damaged_files.specs.Damages.{checksum_damages, commit_damages, counted_damages, damage_of, damages_of, found_damages, opening_damages, part_damages, seq_damages, size_damage, size_damages, slot_damage, slot_damages, unread_damages};
 
 use crate::damage::{Damage, Lost, Refused, Span, Spot, slot_start};
 use crate::examined::Examined;
 use crate::place::{Place, place_of};
-use commit_slots::Slot;
 use sector_device::SECTOR_BYTES;
 use std::alloc::{AllocError, Global};
 use store_parts::{Check, Findings, Part, SlotCopy};
@@ -54,7 +53,41 @@ fn with_found(
 fn with_commits(damages: Vec<Damage>, found: &Findings) -> Result<Vec<Damage>, AllocError>
     ensures { IfOk result (λ more. more.items ≡ damages.items ++ commit_damages found.now) }
 {
-    with_slots(with_seq(damages, found.seq)?, &found.copies)
+    let sized = with_size(with_seq(damages, found.seq)?, found.sectors, found.size)?;
+    with_slots(sized, &found.copies)
+}
+
+// The damages, and after them the one that a device of `sectors` sectors is cut or padded, if its store has another size.
+fn with_size(damages: Vec<Damage>, sectors: u64, size: u64) -> Result<Vec<Damage>, AllocError>
+    ensures { IfOk result (λ more. more.items ≡ damages.items ++ size_damages sectors size) }
+{
+    match size_damage(sectors, size) {
+        None => Ok(damages),
+        Some(damage) => with_one(damages, damage),
+    }
+}
+
+// The damage that it is cut or padded.
+fn size_damage(sectors: u64, size: u64) -> Option<Damage>
+    ensures { result ≡ size_damage sectors size }
+{
+    if sectors < size {
+        Some(Damage::Missing {
+            span: Span {
+                sector: sectors,
+                sectors: size - sectors,
+            },
+        })
+    } else if size < sectors {
+        Some(Damage::Surplus {
+            span: Span {
+                sector: size,
+                sectors: sectors - size,
+            },
+        })
+    } else {
+        None
+    }
 }
 
 // The damages, and after them the one that no commit is valid, if none is.
@@ -73,28 +106,25 @@ fn with_slots(damages: Vec<Damage>, copies: &[SlotCopy]) -> Result<Vec<Damage>, 
 {
     let mut all = damages;
     for place in 0..copies.len() {
-        all = with_slot(all, place as u64, copies[place].slot)?;
+        all = with_slot(all, place as u64, copies[place])?;
     }
     Ok(all)
 }
 
-// The damages, and after them the one that the slot at a place holds no valid commit, if it doesn't.
-fn with_slot(
-    damages: Vec<Damage>,
-    place: u64,
-    slot: Option<Slot>,
-) -> Result<Vec<Damage>, AllocError>
-    ensures { IfOk result (λ more. more.items ≡ damages.items ++ slot_damage place slot) }
+// The damages, and after them the one that the slot at a place holds no valid commit, or an old one, if so.
+fn with_slot(damages: Vec<Damage>, place: u64, copy: SlotCopy) -> Result<Vec<Damage>, AllocError>
+    ensures { IfOk result (λ more. more.items ≡ damages.items ++ slot_damage place copy.slot copy.old) }
 {
-    match slot {
-        Some(_) => Ok(damages),
-        None => with_one(
-            damages,
-            Damage::Slot {
-                place,
-                sector: slot_start(place),
-            },
-        ),
+    let sector = slot_start(place);
+    match copy.slot {
+        None => with_one(damages, Damage::Slot { place, sector }),
+        Some(_) => {
+            if copy.old {
+                with_one(damages, Damage::OldSlot { place, sector })
+            } else {
+                Ok(damages)
+            }
+        }
     }
 }
 

@@ -1,8 +1,9 @@
 //! All that is read of a device, and what was found.
-ghost use Rattle.std.specs.Prelude.{◌≡◌, ◌<◌, ◌⊎◌, ◌++◌, ◌∷◌, [], IfOk, IfSome};
+ghost use Rattle.std.specs.Prelude.{◌≡◌, ◌≤◌, ◌<◌, ◌⊎◌, ◌++◌, ◌∷◌, [], IfOk, IfSome};
 ghost use Rattle.std.specs.List.{AllByRecursion};
 ghost use Rattle.sector_device.specs.Charges.{IsSameRead};
 ghost use Rattle.doc_changes.specs.State.{Good};
+ghost use Rattle.store_parts.specs.Copies.{AreToldOn};
 ghost use Rattle.store_parts.specs.Parts.{AreParts};
 ghost use Rattle.damaged_files.specs.Damages.{IsExaminedOn};
 
@@ -28,7 +29,9 @@ pub(crate) fn examine_all<D: SectorDevice>(
     device: &mut D,
 ) -> Result<Examined, AllocError>
     ensures same { IsSameRead (D.disk device.old) (D.disk device.new) }
+    ensures later { (D.disk device.old).failures ≤ (D.disk device.new).failures }
     ensures found { IfOk result (IsExaminedOn (D.disk device.old).sectors) }
+    ensures copies { (D.disk device.new).honest → IfOk result (λ examined. IfSome examined.found (AreToldOn (D.disk device.old).seen)) }
 {
     let found = examine(alloc, device)?;
     let made = made_of(alloc, device, &found)?;
@@ -48,6 +51,7 @@ fn made_of<D: SectorDevice>(
 ) -> Result<Option<Made>, AllocError>
     requires { IfSome found.now (λ f. AreParts (D.disk device.old).sectors f.parts.items) }
     ensures same { IsSameRead (D.disk device.old) (D.disk device.new) }
+    ensures later { (D.disk device.old).failures ≤ (D.disk device.new).failures }
     ensures good { IfOk result (λ made. IfSome made (λ m. Good m.machine)) }
 {
     match found {
@@ -59,6 +63,7 @@ fn made_of<D: SectorDevice>(
 // The sectors that the device doesn't read: if there is none, no read failed.
 fn unread_sectors<D: SectorDevice>(alloc: Global, device: &mut D) -> Result<Vec<u64>, AllocError>
     ensures same { IsSameRead (D.disk device.old) (D.disk device.new) }
+    ensures later { (D.disk device.old).failures ≤ (D.disk device.new).failures }
     ensures within { IfOk result (λ unread. AllByRecursion (λ at. at < (D.disk device.old).sectors) unread.items) }
     ensures heard { IfOk result (λ unread. unread.items ≡ [] → (D.disk device.new).failures ≡ (D.disk device.old).failures) }
 {
@@ -77,6 +82,7 @@ fn with_sector<D: SectorDevice>(
 ) -> Result<Vec<u64>, AllocError>
     requires { at < (D.disk device.old).sectors }
     ensures same { IsSameRead (D.disk device.old) (D.disk device.new) }
+    ensures later { (D.disk device.old).failures ≤ (D.disk device.new).failures }
     ensures told { IfOk result (λ more. ((more.items ≡ unread.items) × ((D.disk device.new).failures ≡ (D.disk device.old).failures)) ⊎ ((more.items ≡ unread.items ++ at ∷ []) × (((D.disk device.old).failures < (D.disk device.new).failures) ⊎ (D.disk device.old).failures_saturated))) }
 {
     let mut more = unread;

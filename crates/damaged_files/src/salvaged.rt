@@ -75,7 +75,7 @@ fn is_whole(found: &Findings, made: &Made) -> bool
     ensures { result ≡ is_whole found.now made.now }
 {
     found.seq.is_some()
-        && found.fits
+        && found.size == found.sectors
         && !is_cut_off(&found.copies)
         && made.check != Check::Failed
         && made.doubts.is_empty()

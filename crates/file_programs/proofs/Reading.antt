@@ -22,7 +22,7 @@ use Rattle.doc_store.specs.declared.opening.Strictness.{Strictness}
 use Rattle.doc_store.specs.declared.opening.Strictness.TheVariants.{AnyState, RefusesCutOff}
 use Rattle.doc_store.proofs.Strict.{untaken}
 use Rattle.refusals.specs.declared.numbers.TheConstants.{CUT_OFF, MEMORY}
-use Rattle.damaged_files.specs.Damages.{IsExaminedOn, condition_of, damages_of, report_of}
+use Rattle.damaged_files.specs.Damages.{IsExaminedOn, condition_of, damages_of, report_on}
 use Rattle.damaged_files.specs.declared.report.Told.{Told}
 use Rattle.damaged_files.specs.declared.showing.ShowFault.{ShowFault}
 use Rattle.damaged_files.specs.declared.showing.ShowFault.TheVariants.{Writer}
@@ -91,13 +91,13 @@ found_on held sectors device later (Err number) same is = read_on held sectors d
 -- the report of a device of that size on which an opening is refused by that number
 pub told_of : (result : Result Told ShowFault) (sectors later : ℕ) (refused wanted : Option ℕ) (before after : Option (List ℕ)) → later ≡ sectors → refused ≡ wanted
     → IfOk result (λ told. IsExaminedOn sectors told.examined) → IfOk result (λ told. told.condition ≡ condition_of (damages_of refused told.examined))
-    → MatchResult result (λ told. Appends before after (report_of (damages_of refused told.examined))) (λ fault. fault ≢ Writer → after ≡ before)
-    → MatchResult result (λ told. IsExaminedOn later told.examined × (told.condition ≡ condition_of (damages_of wanted told.examined)) × Appends before after (report_of (damages_of wanted told.examined)))
+    → MatchResult result (λ told. Appends before after (report_on refused told.examined)) (λ fault. fault ≢ Writer → after ≡ before)
+    → MatchResult result (λ told. IsExaminedOn later told.examined × (told.condition ≡ condition_of (damages_of wanted told.examined)) × Appends before after (report_on wanted told.examined))
     (λ fault. fault ≢ Writer → after ≡ before)
 told_of (Ok told) sectors later refused wanted before after size same examined condition shown = (
   subst (λ n. IsExaminedOn n told.examined) (sym size) examined,
   subst (λ (number : Option ℕ). told.condition ≡ condition_of (damages_of number told.examined)) same condition,
-  subst (λ (number : Option ℕ). Appends before after (report_of (damages_of number told.examined))) same shown,
+  subst (λ (number : Option ℕ). Appends before after (report_on number told.examined)) same shown,
 )
 told_of (Err fault) sectors later refused wanted before after size same examined condition shown = shown
 

@@ -18,7 +18,7 @@ use Rattle.doc_store.specs.Opening.{LacksRoom}
 use Rattle.doc_store.specs.Strict.{IsCutOff, IsSaidOf, IsTaken}
 use Rattle.doc_store.specs.declared.opening.Strictness.{Strictness}
 use Rattle.doc_store.specs.declared.opening.Strictness.TheVariants.{AnyState, RefusesCutOff}
-use Rattle.damaged_files.specs.Damages.{IsExaminedOn, condition_of, damages_of, report_of}
+use Rattle.damaged_files.specs.Damages.{IsExaminedOn, condition_of, damages_of, report_on}
 use Rattle.damaged_files.specs.Dump.{dump_of}
 use Rattle.damaged_files.specs.Frames.{ShowsParts}
 use Rattle.damaged_files.specs.Salvaged.{IsSalvagedOf, salvaged_condition}
@@ -126,7 +126,7 @@ pub record IsExaminedIn (held : Snapshot Held) (examined : Examined) (before aft
   pub found : (sectors : ℕ) × IsFoundIn held sectors examined.device examined.found
   pub told : MatchResult examined.told (λ told. IsExaminedOn (file_disk examined.device).sectors told.examined
       × (told.condition ≡ condition_of (damages_of (refused_by examined.found) told.examined))
-      × Appends before after (report_of (damages_of (refused_by examined.found) told.examined)))
+      × Appends before after (report_on (refused_by examined.found) told.examined))
       (λ fault. fault ≢ Writer → after ≡ before)
 
 -- documents were salvaged, and their lines shown: if all reads gave what the device held, they are made of frames that it held

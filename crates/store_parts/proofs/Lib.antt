@@ -1,3 +1,4 @@
+mod Commits
 pub mod Keeps
 mod Sectors
 mod Tails

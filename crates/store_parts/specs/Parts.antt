@@ -3,12 +3,10 @@ use Rattle.std.specs.Prelude.{◌≡◌, ◌≢◌, ◌≤◌, ◌<◌, ◌+◌,
 use Rattle.std.specs.List.{AllByRecursion}
 use Rattle.checksum.specs.Crc.{crc_of}
 use Rattle.commit_slots.specs.Sealed.{Verifies, beginning}
-use Rattle.commit_slots.specs.Slots.{IsSlotOf}
 use Rattle.sector_device.specs.Disk.{Image}
 use Rattle.sector_device.specs.Sectors.{byte_at}
 use Rattle.store_parts.specs.declared.checking.Check.{Check}
 use Rattle.store_parts.specs.declared.checking.Check.TheVariants.{Held as CheckHeld, Failed, Unknown}
-use Rattle.store_parts.specs.declared.findings.Held.{Held}
 use Rattle.store_parts.specs.declared.part.Part.{Part}
 
 -- a device of `sectors` sectors has the part
@@ -19,12 +17,6 @@ pub record HasPart (sectors : ℕ) (part : Part) : Type 0 where
 -- it has each of them
 abbrev pub AreParts : ℕ → List Part → Type 0
 AreParts sectors parts = AllByRecursion (HasPart sectors) parts
-
--- the commit is one of a device of `sectors` sectors, in one of the four slots
-pub record IsHeldOn (sectors : ℕ) (held : Held) : Type 0 where
-  pub tail : List ℕ
-  pub of : IsSlotOf sectors held.slot tail
-  pub place : held.place < 4
 
 -- the byte `i` of the tail that is in the slot which begins with that sector: after the numbers, 484 bytes in each sector
 abbrev pub slot_byte : Image → ℕ → ℕ → ℕ

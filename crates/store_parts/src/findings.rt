@@ -4,11 +4,12 @@ ghost use Rattle.sector_device.specs.Disk.{Image};
 ghost use Rattle.sector_device.specs.Charges.{IsSameRead};
 ghost use Rattle.sector_device.specs.Sectors.{KeepsImages};
 ghost use Rattle.half_journal.specs.Layout.{IsHalfSized, IsOf, half_size};
-ghost use Rattle.store_parts.specs.Parts.{AreParts, AreSlotsOf, BeginSlots, HasPart, HasSealed, HasTail, HaveTails, IsHeldOn, IsMarkedSlots, IsSectorOrZeros};
+ghost use Rattle.store_parts.specs.Parts.{AreParts, AreSlotsOf, BeginSlots, HasPart, HasSealed, HasTail, HaveTails, IsMarkedSlots, IsSectorOrZeros};
+ghost use Rattle.store_parts.specs.Copies.{AreTold, AreToldOn, IsBestOf, IsFoundAt, IsHeldIn, IsNotOf3, IsSeqOf, IsTold, LacksTwin};
 
 use crate::part::{Part, within};
 use crate::pieces::{CountedSlot, content, with_pieces};
-use commit_slots::{BLOCK_BYTES, SLOT_SECTORS, Slot, begins_slot, is_sealed, slot_in};
+use commit_slots::{BLOCK_BYTES, SLOT_SECTORS, Slot, begins_slot, holds_copy, is_sealed, slot_in};
 use half_journal::Commit;
 use half_journal::geometry::{MAX_SECTORS, MIN_SECTORS, half_size, half_start};
 use half_journal::layout::{commit_in, has_magic};
@@ -24,6 +25,8 @@ pub struct SlotCopy {
     pub slot: Option<Slot>,
     /// It begins as a slot does.
     pub begun: bool,
+    /// It is valid, and in the pair of the commit that counts, but it doesn't hold that commit: a write of it was lost.
+    pub old: bool,
 }
 
 /// What was found on a device.
@@ -35,8 +38,10 @@ pub struct Findings {
     pub format: u32,
     /// The number of changes of the commit that counts, if one does.
     pub seq: Option<u64>,
-    /// The device has as many sectors as the commit says, if one does.
-    pub fits: bool,
+    /// The sectors of the device.
+    pub sectors: u64,
+    /// As many sectors as the commit that counts says that there are, or else those of the device.
+    pub size: u64,
     /// The slots A, A', B and B', if it is format 3.
     pub copies: Vec<SlotCopy>,
     /// The parts that may hold frames: first that of the commit that counts, if one does, and last the pieces of slots.
@@ -51,10 +56,13 @@ pub fn examine<D: SectorDevice>(
     device: &mut D,
 ) -> Result<Option<Findings>, AllocError>
     ensures same { IsSameRead (D.disk device.old) (D.disk device.new) }
+    ensures later { (D.disk device.old).failures ≤ (D.disk device.new).failures }
     ensures unwritten { (D.disk device.new).honest → KeepsImages (D.disk device.old) (D.disk device.new) }
     ensures parts { IfOk result (λ found. IfSome found (λ f. AreParts (D.disk device.old).sectors f.parts.items)) }
     ensures none { IfOk result (λ found. IfNone found (IsHalfSized (D.disk device.old).sectors → ⊥)) }
     ensures tails { (D.disk device.new).honest → IfOk result (λ found. IfSome found (λ f. HaveTails (D.disk device.old).seen f.parts.items)) }
+    ensures copies { (D.disk device.new).honest → IfOk result (λ found. IfSome found (AreToldOn (D.disk device.old).seen)) }
+    ensures sectors { IfOk result (λ found. IfSome found (λ f. f.sectors ≡ (D.disk device.old).sectors)) }
 {
     let sectors = device.sectors();
     if sectors < MIN_SECTORS || MAX_SECTORS < sectors {
@@ -94,6 +102,7 @@ fn size_in(first: &[u8; 512], sectors: u64) -> u64
 fn sector_or_zeros<D: SectorDevice>(device: &mut D, at: u64) -> [u8; 512]
     requires { at < (D.disk device.old).sectors }
     ensures same { IsSameRead (D.disk device.old) (D.disk device.new) }
+    ensures later { (D.disk device.old).failures ≤ (D.disk device.new).failures }
     ensures unwritten { (D.disk device.new).honest → KeepsImages (D.disk device.old) (D.disk device.new) }
     ensures read { (D.disk device.new).honest → IsSectorOrZeros (D.disk device.old).seen at result }
     ensures told { (D.disk device.new).honest → (result ≡ slice_index_or (D.disk device.old).seen at []) ⊎ ((D.disk device.old).failures < (D.disk device.new).failures) ⊎ (D.disk device.old).failures_saturated }
@@ -108,6 +117,7 @@ fn sector_or_zeros<D: SectorDevice>(device: &mut D, at: u64) -> [u8; 512]
 // The sectors of the four slots: zeros are in the place of those that the device doesn't have.
 fn read_slots<D: SectorDevice>(alloc: Global, device: &mut D) -> Result<Vec<[u8; 512]>, AllocError>
     ensures same { IsSameRead (D.disk device.old) (D.disk device.new) }
+    ensures later { (D.disk device.old).failures ≤ (D.disk device.new).failures }
     ensures unwritten { (D.disk device.new).honest → KeepsImages (D.disk device.old) (D.disk device.new) }
     ensures whole { IfOk result (λ slots. length slots.items ≡ 128) }
     ensures slots { (D.disk device.new).honest → IfOk result (λ slots. AreSlotsOf (D.disk device.old).seen slots.items) }
@@ -122,6 +132,7 @@ fn read_slots<D: SectorDevice>(alloc: Global, device: &mut D) -> Result<Vec<[u8;
 // The sector, or zeros if the device doesn't have it or read it.
 fn sector_if_there<D: SectorDevice>(device: &mut D, at: u64) -> [u8; 512]
     ensures same { IsSameRead (D.disk device.old) (D.disk device.new) }
+    ensures later { (D.disk device.old).failures ≤ (D.disk device.new).failures }
     ensures unwritten { (D.disk device.new).honest → KeepsImages (D.disk device.old) (D.disk device.new) }
     ensures read { (D.disk device.new).honest → IsSectorOrZeros (D.disk device.old).seen at result }
 {
@@ -178,6 +189,9 @@ fn in_halves(
     requires of { IfSome commit (IsOf size) }
     ensures parts { IfOk result (λ found. AreParts sectors found.parts.items) }
     ensures tails { (image : Image) → IfOk result (λ found. HaveTails image found.parts.items) }
+    ensures format { IfOk result IsNotOf3 }
+    ensures sectors { IfOk result (λ found. found.sectors ≡ sectors) }
+    ensures size { IfOk result (λ found. found.size ≡ size) }
 {
     let mut parts = Vec::new(alloc);
     let (active, used) = match commit {
@@ -211,7 +225,8 @@ fn in_halves(
         marked,
         format: commit.map_or(2, |commit| commit.format),
         seq: commit.map(|commit| commit.seq),
-        fits: size == sectors,
+        sectors,
+        size,
         copies: Vec::new(alloc),
         parts,
     })
@@ -256,25 +271,110 @@ fn in_slots(alloc: Global, sectors: u64, slots: &[[u8; 512]]) -> Result<Findings
     ensures parts { IfOk result (λ found. AreParts sectors found.parts.items) }
     ensures tails { IfOk result (λ found. HaveTails slots.now found.parts.items) }
     ensures format { IfOk result (λ found. found.format ≡ 3) }
+    ensures copies { IfOk result (λ found. AreTold found.size slots.now found.copies.items) }
+    ensures seq { IfOk result (λ found. IsSeqOf found.size slots.now found.seq) }
+    ensures sectors { IfOk result (λ found. found.sectors ≡ sectors) }
 {
     let size = size_of(alloc, slots, sectors)?;
-    let mut copies = Vec::new(alloc);
-    let mut best: Option<Held> = None;
-    for place in 0..4 {
-        let held = held_in(alloc, slots, place, size)?;
-        copies.push(copy_of(&slots[SLOT_SECTORS * place as usize], &held))?;
-        best = higher(best, held);
-    }
-    let seq = best.as_ref().map(|held| held.slot.seq);
+    let best = best_in(alloc, slots, size)?;
+    let copies = copies_in(alloc, slots, size, &best)?;
+    let seq = seq_of(&best);
     let parts = slot_parts(alloc, sectors, size, slots, best)?;
     Ok(Findings {
         marked: true,
         format: 3,
         seq,
-        fits: size == sectors,
+        sectors,
+        size,
         copies,
         parts,
     })
+}
+
+// The commit that counts: that of the highest number, in the first slot that holds it.
+fn best_in(alloc: Global, slots: &[[u8; 512]], size: u64) -> Result<Option<Held>, AllocError>
+    requires most { size ≤ 2 ^ 32 }
+    requires whole { length slots.now ≡ 128 }
+    ensures { IfOk result (IsBestOf size slots.now 4) }
+{
+    let mut best: Option<Held> = None;
+    for place in 0..4 {
+        best = higher(best, held_in(alloc, slots, place, size)?);
+    }
+    Ok(best)
+}
+
+// The number of changes of that commit.
+fn seq_of(best: &Option<Held>) -> Option<u64>
+    ensures { (size : ℕ) (slots : Image) → IsBestOf size slots 4 best.now → IsSeqOf size slots result }
+{
+    match best {
+        None => None,
+        Some(held) => Some(held.slot.seq),
+    }
+}
+
+// The slots from A to B', of which that one holds the commit that counts.
+fn copies_in(
+    alloc: Global,
+    slots: &[[u8; 512]],
+    size: u64,
+    best: &Option<Held>,
+) -> Result<Vec<SlotCopy>, AllocError>
+    requires most { size ≤ 2 ^ 32 }
+    requires whole { length slots.now ≡ 128 }
+    requires best { IsBestOf size slots.now 4 best.now }
+    ensures { IfOk result (λ copies. AreTold size slots.now copies.items) }
+{
+    let mut copies = Vec::new(alloc);
+    for place in 0..4 {
+        copies.push(copy_at(alloc, slots, size, place, best)?)?;
+    }
+    Ok(copies)
+}
+
+// The slot at a place.
+fn copy_at(
+    alloc: Global,
+    slots: &[[u8; 512]],
+    size: u64,
+    place: u64,
+    best: &Option<Held>,
+) -> Result<SlotCopy, AllocError>
+    requires most { size ≤ 2 ^ 32 }
+    requires whole { length slots.now ≡ 128 }
+    requires place { place < 4 }
+    requires best { IsBestOf size slots.now 4 best.now }
+    ensures { IfOk result (IsTold size slots.now place) }
+{
+    let begun = begins_slot(&slots[SLOT_SECTORS * place as usize]);
+    match held_in(alloc, slots, place, size)? {
+        None => Ok(SlotCopy {
+            slot: None,
+            begun,
+            old: false,
+        }),
+        Some(held) => Ok(SlotCopy {
+            slot: Some(held.slot),
+            begun,
+            old: lacks_twin(slots, place, best),
+        }),
+    }
+}
+
+// Whether the slot is in the pair of the commit that counts, and doesn't hold it.
+fn lacks_twin(slots: &[[u8; 512]], place: u64, best: &Option<Held>) -> bool
+    requires whole { length slots.now ≡ 128 }
+    requires fits { IfSome best.now (λ held. length held.tail.items ≤ 15428) }
+    ensures { IsTrue result ↔ LacksTwin slots.now place best.now }
+{
+    match best {
+        None => false,
+        Some(held) => {
+            held.slot.number % 2 == place / 2
+                && !holds_copy(slots, &held.slot, &held.tail, place % 2)
+        }
+    }
 }
 
 // How many sectors the store has: those of the device, if a slot is valid for these, or else as many as the slot of the
@@ -311,7 +411,7 @@ fn slot_parts(
     requires most { sectors ≤ 2 ^ 32 }
     requires size { size ≤ 2 ^ 32 }
     requires whole { length slots.now ≡ 128 }
-    requires held { IfSome best (IsHeldOn size) }
+    requires held { IfSome best (IsHeldIn size slots.now) }
     ensures parts { IfOk result (λ parts. AreParts sectors parts.items) }
     ensures tails { IfOk result (λ parts. HaveTails slots.now parts.items) }
 {
@@ -323,7 +423,7 @@ fn slot_parts(
                 number: held.slot.number,
                 slot: SLOT_SECTORS as u64 * held.place,
             };
-            parts.push(within(sectors, counted_part(alloc, size, slots, held)?))?;
+            parts.push(within(sectors, counted_part(alloc, size, slots, &held)?))?;
             (half, blocks, Some(counted))
         }
         None => (0, 0, None),
@@ -335,10 +435,11 @@ fn slot_parts(
     with_pieces(alloc, parts, sectors, slots, counted)
 }
 
-// A valid copy of a commit, and the slot that it is in.
-#[derive(Clone, Copy)]
+// A valid copy of a commit, with its tail, and the slot that it is in.
+#[derive(Drop)]
 struct Held {
     slot: Slot,
+    tail: Vec<u8>,
     place: u64,
 }
 
@@ -352,27 +453,25 @@ fn held_in(
     requires whole { length slots.now ≡ 128 }
     requires place { place < 4 }
     requires most { sectors ≤ 2 ^ 32 }
-    ensures { IfOk result (λ held. IfSome held (IsHeldOn sectors)) }
+    ensures { IfOk result (IsFoundAt sectors slots.now place) }
 {
     let first = SLOT_SECTORS * place as usize;
     match slot_in(alloc, &slots[first..first + SLOT_SECTORS], sectors)? {
-        Some((slot, _)) if slot.number % 2 == place / 2 => Ok(Some(Held { slot, place })),
-        _ => Ok(None),
+        None => Ok(None),
+        Some((slot, tail)) => {
+            if slot.number % 2 == place / 2 {
+                Ok(Some(Held { slot, tail, place }))
+            } else {
+                Ok(None)
+            }
+        }
     }
 }
 
-// The slot that begins with that sector.
-fn copy_of(first: &[u8; 512], held: &Option<Held>) -> SlotCopy {
-    SlotCopy {
-        slot: held.as_ref().map(|held| held.slot),
-        begun: begins_slot(first),
-    }
-}
-
-// The one of the higher number, or the first.
+// The one of the higher number, or the first: the second is in the slot after those of the first.
 fn higher(one: Option<Held>, other: Option<Held>) -> Option<Held>
     ensures newest { IfSome result (λ held. IfSome one (λ h. h.slot.number ≤ held.slot.number) × IfSome other (λ h. h.slot.number ≤ held.slot.number)) }
-    ensures held { (sectors : ℕ) → IfSome one (IsHeldOn sectors) → IfSome other (IsHeldOn sectors) → IfSome result (IsHeldOn sectors) }
+    ensures best { (sectors : ℕ) (slots : Image) (places : ℕ) → IsBestOf sectors slots places one → IsFoundAt sectors slots places other → IsBestOf sectors slots (places + 1) result }
 {
     match (one, other) {
         (one, None) => one,
@@ -392,11 +491,11 @@ fn counted_part(
     alloc: Global,
     size: u64,
     slots: &[[u8; 512]],
-    held: Held,
+    held: &Held,
 ) -> Result<Part, AllocError>
     requires most { size ≤ 2 ^ 32 }
     requires whole { length slots.now ≡ 128 }
-    requires held { IsHeldOn size held }
+    requires held { IsHeldIn size slots.now held.now }
     ensures { IfOk result (λ part. HasTail slots.now part) }
 {
     let slot = held.slot;

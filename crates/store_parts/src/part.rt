@@ -59,6 +59,7 @@ pub fn read_part<D: SectorDevice>(
 ) -> Result<PartBytes, AllocError>
     requires { HasPart (D.disk device.old).sectors part.now }
     ensures same { IsSameRead (D.disk device.old) (D.disk device.new) }
+    ensures later { (D.disk device.old).failures ≤ (D.disk device.new).failures }
     ensures unwritten { (D.disk device.new).honest → KeepsImages (D.disk device.old) (D.disk device.new) }
     ensures read { (D.disk device.new).honest → IfOk result (λ read. HasBytes (D.disk device.old).seen part.now read.unread.items read.bytes.items) }
 {
@@ -84,6 +85,7 @@ fn read_around<D: SectorDevice>(
     requires room { 512 * first + len ≤ 512 * (D.disk device.old).sectors }
     requires small { 512 * first + len < 2 ^ 60 }
     ensures same { IsSameRead (D.disk device.old) (D.disk device.new) }
+    ensures later { (D.disk device.old).failures ≤ (D.disk device.new).failures }
     ensures unwritten { (D.disk device.new).honest → KeepsImages (D.disk device.old) (D.disk device.new) }
     ensures read { (D.disk device.new).honest → IfOk result (λ read. IsReadBut (D.disk device.old).seen first len read.unread.items read.bytes.items) }
 {

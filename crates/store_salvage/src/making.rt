@@ -43,6 +43,7 @@ pub fn salvage<D: SectorDevice>(
 ) -> Result<Option<Made>, AllocError>
     requires parts { AreParts (D.disk device.old).sectors found.now.parts.items }
     ensures same { IsSameRead (D.disk device.old) (D.disk device.new) }
+    ensures later { (D.disk device.old).failures ≤ (D.disk device.new).failures }
     ensures unwritten { (D.disk device.new).honest → KeepsImages (D.disk device.old) (D.disk device.new) }
     ensures good { IfOk result (λ made. IfSome made (λ m. Good m.machine)) }
     ensures made { (D.disk device.new).honest → IfOk result (λ made. IfSome made (IsMade (D.disk device.old).seen found.now)) }
@@ -68,6 +69,7 @@ fn newest<D: SectorDevice>(
     requires parts { AreParts (D.disk device.old).sectors found.now.parts.items }
     requires none { found.now.seq ≡ None }
     ensures same { IsSameRead (D.disk device.old) (D.disk device.new) }
+    ensures later { (D.disk device.old).failures ≤ (D.disk device.new).failures }
     ensures unwritten { (D.disk device.new).honest → KeepsImages (D.disk device.old) (D.disk device.new) }
     ensures good { IfOk result (λ made. IfSome made (λ m. Good m.machine)) }
     ensures made { (D.disk device.new).honest → IfOk result (λ made. IfSome made (IsMade (D.disk device.old).seen found.now)) }
@@ -93,6 +95,7 @@ fn with_part<D: SectorDevice>(
     requires there { slice_get found.now.parts.items place ≡ Some part.now }
     requires best { IfSome best (λ m. Good m.machine) }
     ensures same { IsSameRead (D.disk device.old) (D.disk device.new) }
+    ensures later { (D.disk device.old).failures ≤ (D.disk device.new).failures }
     ensures unwritten { (D.disk device.new).honest → KeepsImages (D.disk device.old) (D.disk device.new) }
     ensures good { IfOk result (λ made. IfSome made (λ m. Good m.machine)) }
     ensures made { (D.disk device.new).honest → IfSome best (IsMade (D.disk device.old).seen found.now) → IfOk result (λ made. IfSome made (IsMade (D.disk device.old).seen found.now)) }
@@ -114,6 +117,7 @@ fn made_of<D: SectorDevice>(
 ) -> Result<Made, AllocError>
     requires part { HasPart (D.disk device.old).sectors part.now }
     ensures same { IsSameRead (D.disk device.old) (D.disk device.new) }
+    ensures later { (D.disk device.old).failures ≤ (D.disk device.new).failures }
     ensures unwritten { (D.disk device.new).honest → KeepsImages (D.disk device.old) (D.disk device.new) }
     ensures good { IfOk result (λ made. Good made.machine) }
     ensures place { IfOk result (λ made. made.part ≡ place) }

@@ -18,6 +18,7 @@ loop-at-preserved g c =
     let lt : at < old.sectors = omega (arith, test, end) in
     record {
       same = read_joined old mid new inv.same c.with_sector.ensures.same;
+      later = let more = c.with_sector.ensures.later in omega (arith, inv.later, more);
       within = within_more (λ n. n < old.sectors) xs ys at _ _ c.in_ok-unread.ensures.told inv.within lt;
       heard = heard_more xs ys at old.failures mid.failures new.failures _ c.in_ok-unread.ensures.told inv.heard;
     }

@@ -13,6 +13,7 @@ loop-at-init g c =
     let disk = g.D.SectorDevice.disk in
     record {
       same = read_none (disk device);
+      later = omega arith;
       keeps = λ h. keeps_none (disk device) (g.met.D.SectorDevice.coherent device h);
       long = ap length c.new-slots.ensures.items;
       slots = λ h. λ k lt. absurd (let long = ap length c.new-slots.ensures.items in omega (arith, long, lt));
@@ -28,6 +29,7 @@ loop-at-preserved g c =
     let read = c.sector_if_there.ensures in
     record {
       same = read_joined old mid new inv.same read.same;
+      later = omega (arith, inv.later, read.later);
       keeps = λ h. keeps_joined old mid new (inv.keeps (read.same.honest h)) (read.unwritten h);
       long = omega (arith, ap length c.in_ok-push.ensures.items, length_push c.loop-at.slots.items c.sector_if_there.result, inv.long);
       slots = λ h.

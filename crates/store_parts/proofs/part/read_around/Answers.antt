@@ -2,7 +2,7 @@ use Rattle.std.proofs.Common.{◌≡◌, ◌∙◌, ◌<◌, ◌+◌, ◌*◌, �
 use Rattle.sector_device.specs.Disk.{Image}
 use Rattle.sector_device.specs.Sectors.{IsRead}
 use Rattle.store_parts.specs.Parts.{IsReadBut}
-use Rattle.store_parts.proofs.Keeps.{keeps_joined}
+use Rattle.store_parts.proofs.Keeps.{keeps_joined, read_later}
 use Rattle.store_parts.proofs.Sectors.{read_more, skip_more, zeros}
 use Rattle.store_parts.proofs.part.read_around.Goals.{in-Ok+in_ok-extend_from_slice-in-Ok, in-Err-Device+in_ok-push-in-Err-Device+in_ok-extend_from_slice-in-Err-Device}
 use Rattle.store_parts.proofs.part.read_around.Goals as goal
@@ -19,6 +19,7 @@ loop-k-preserved g c =
     let lt : 512 * k < c.args.len = let test = c.loop-k-test.true in omega (arith, test) in
     record {
       same = record { size = read.same.size ∙ inv.same.size; honest = λ h. inv.same.honest (read.same.honest h) };
+      later = let more = read_later mid new _ c.read_bytes.result read.charges in omega (arith, inv.later, more);
       keeps = λ h. keeps_joined old mid new (inv.keeps (read.same.honest h)) (read.images h);
       read = λ h. elim c.match-read_bytes.branch [
         | in-Ok+in_ok-extend_from_slice-in-Ok w ↦

@@ -1,4 +1,4 @@
-use Rattle.std.proofs.Common.{◌≡◌, ◌+◌, ◌∷◌, IfSome, drop, subst, sym}
+use Rattle.std.proofs.Common.{◌≡◌, ◌+◌, ◌∷◌, IfSome, drop, subst, sym, arith}
 use Rattle.sector_device.specs.Disk.{Image}
 use Rattle.sector_device.proofs.Charges.{read_joined}
 use Rattle.store_parts.specs.Parts.{HasPart}
@@ -17,6 +17,7 @@ loop-place-preserved g c =
     let made = c.in_ok-best.ensures in
     record {
       same = read_joined old mid new inv.same made.same;
+      later = omega (arith, inv.later, made.later);
       keeps = λ h. keeps_joined old mid new (inv.keeps (made.same.honest h)) (made.unwritten h);
       parts = all_later (HasPart old.sectors) c.deref-part-items.result.now c.loop-place.place inv.parts;
       good = made.good;

@@ -1,4 +1,4 @@
-use Rattle.std.proofs.Common.{IfSome, drop}
+use Rattle.std.proofs.Common.{◌≤◌, IfSome, drop}
 use Rattle.doc_changes.specs.State.{Good}
 use Rattle.sector_device.specs.Charges.{IsSameRead}
 use Rattle.sector_device.specs.Sectors.{KeepsImages}
@@ -11,6 +11,7 @@ invariant-loop-place g l =
     let disk = g.D.SectorDevice.disk in
     record {
       same : IsSameRead (disk l.fn.device) (disk l.device);
+      later : (disk l.fn.device).failures ≤ (disk l.device).failures;
       keeps : (disk l.device).honest → KeepsImages (disk l.fn.device) (disk l.device);
       parts : AreParts (disk l.fn.device).sectors (drop l.place l.part-items);
       good : IfSome l.best (λ m. Good m.machine);
