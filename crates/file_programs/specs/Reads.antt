@@ -1,5 +1,5 @@
 -- The programs that only read a file.
-use Rattle.std.specs.Prelude.{◌≡◌, ◌≢◌, ◌⊎◌, ℕ, List, Bool, true, false, Option, Some, None, Result, Ok, Err, IfOk, IfSome, MatchOption, MatchResult}
+use Rattle.std.specs.Prelude.{◌≡◌, ◌≢◌, ◌⊎◌, ◌<◌, ◌-◌, ◌^◌, ℕ, List, Bool, true, false, Option, Some, None, Result, Ok, Err, IfOk, IfSome, MatchOption, MatchResult}
 use Rattle.std.specs.declared.snapshot.Snapshot.{Snapshot}
 use Rattle.std.specs.Io.KnownBytes.{Appends}
 use Rattle.sector_device.specs.declared.history.Held.{Held}
@@ -12,6 +12,7 @@ use Rattle.store_journal.specs.Layout.{IsSized}
 use Rattle.store_journal.specs.Opening.{IsLikeStore}
 use Rattle.store_journal.specs.Outdated.{IsOutdated}
 use Rattle.sector_device.specs.Disk.{Disk, Image}
+use Rattle.store_parts.specs.Copies.{AreToldOn}
 use Rattle.store_parts.specs.declared.findings.Findings.{Findings}
 use Rattle.doc_changes.specs.State.{Good, State}
 use Rattle.doc_store.specs.Opening.{LacksRoom}
@@ -81,16 +82,20 @@ end_of_shown (Err fault) = Err (told_of_show fault)
 abbrev pub IsReadIn : Snapshot Held → FileDevice → State → Type 0
 IsReadIn held device state = (file_disk device).honest → Stands state held.value.seen.items
 
--- If all reads gave what the file held, why an opening of that on a device of this many sectors is refused by that number; that a call failed, none of them shows.
-abbrev pub IsRefusedFor : Type 0 → Image → ℕ → ℕ → Type 0
-IsRefusedFor honest image sectors number =
-    ((number ≡ NOT_A_STORE) × (honest → (IsSized false sectors → ⊥) ⊎ (IsLikeStore image → ⊥))) ⊎ ((number ≡ DAMAGED) × (honest → (IsLikeStore image × StandsForNothing image) ⊎ IsOutdated image))
-    ⊎ ((number ≡ NO_ROOM) × (honest → LacksRoom image)) ⊎ (number ≡ DEVICE)
+-- a call of a device failed after these failures, or their count was at its end
+abbrev pub HasFailed : ℕ → FileDevice → Type 0
+HasFailed failures device = (failures < (file_disk device).failures) ⊎ (failures ≡ 2 ^ 64 - 1)
 
--- what an opening would find there, or why it would be refused
+-- If all reads gave what the file held, why an opening of that on a device of this many sectors is refused by that number; or a call failed.
+abbrev pub IsRefusedFor : Type 0 → Type 0 → Image → ℕ → ℕ → Type 0
+IsRefusedFor honest failed image sectors number =
+    ((number ≡ NOT_A_STORE) × (honest → (IsSized false sectors → ⊥) ⊎ (IsLikeStore image → ⊥))) ⊎ ((number ≡ DAMAGED) × (honest → (IsLikeStore image × StandsForNothing image) ⊎ IsOutdated image))
+    ⊎ ((number ≡ NO_ROOM) × (honest → LacksRoom image)) ⊎ ((number ≡ DEVICE) × failed)
+
+-- what an opening would find there, or why it would be refused, of a device on which that many calls had failed before
 abbrev pub IsFoundIn : Snapshot Held → ℕ → FileDevice → Result State ℕ → Type 0
-IsFoundIn held sectors device found =
-    MatchResult found (λ state. IsReadIn held device state × Good state) (λ number. IsRefusedFor ((file_disk device).honest) held.value.seen.items sectors number)
+IsFoundIn held failures device found =
+    MatchResult found (λ state. IsReadIn held device state × Good state) (λ number. IsRefusedFor ((file_disk device).honest) (HasFailed failures device) held.value.seen.items (file_disk device).sectors number)
 
 -- Why no documents are looked for on a device: as no store is opened there; or a commit was cut off in it, and that is refused.
 abbrev pub IsNotLooked : Strictness → Disk → Disk → ℕ → Type 0
@@ -123,7 +128,8 @@ refused_by (Err number) = Some number
 
 -- all of a file that held this was read, and its damages reported
 pub record IsExaminedIn (held : Snapshot Held) (examined : Examined) (before after : Option (List ℕ)) : Type 0 where
-  pub found : (sectors : ℕ) × IsFoundIn held sectors examined.device examined.found
+  pub found : IsFoundIn held 0 examined.device examined.found
+  pub copies : (file_disk examined.device).honest → IfOk examined.told (λ told. IfSome told.examined.found (AreToldOn held.value.seen.items))
   pub told : MatchResult examined.told (λ told. IsExaminedOn (file_disk examined.device).sectors told.examined
       × (told.condition ≡ condition_of (damages_of (refused_by examined.found) told.examined))
       × Appends before after (report_on (refused_by examined.found) told.examined))

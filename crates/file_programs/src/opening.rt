@@ -175,6 +175,9 @@ pub(crate) fn look_on(
     ensures taken { IfOk result (λ looked. IsTaken strictness looked.notice) }
     ensures good { IfOk result (λ looked. Good looked.machine) }
     ensures refused { IfErr result (λ fault. IsNotLooked strictness (file_disk device) (file_disk fault.device) fault.number) }
+    ensures seen { IfOk result (λ looked. (file_disk looked.device).honest → (file_disk looked.device).seen ≡ (file_disk device).seen) }
+    ensures seen_err { IfErr result (λ fault. (file_disk fault.device).honest → (file_disk fault.device).seen ≡ (file_disk device).seen) }
+    ensures size_err { IfErr result (λ fault. (file_disk fault.device).honest → (file_disk fault.device).sectors ≡ (file_disk device).sectors) }
 {
     let device = match newest(alloc, device) {
         Err(fault) => return Err(fault),

@@ -55,7 +55,8 @@ pub fn check_deep<R: Files<File = File>, O: Write>(
 
 // What an opening finds on the device of a file of which nothing was read yet. `Err`: memory was refused.
 fn find(alloc: Global, device: FileDevice) -> Result<(FileDevice, Result<Machine, u16>), Unopened>
-    ensures found { (held : Snapshot Held) → device.history ≡ Opened held → IfOk result (λ found. IsFoundIn held (file_disk device).sectors found.0 found.1) }
+    ensures found { (held : Snapshot Held) → device.history ≡ Opened held → IfOk result (λ found. IsFoundIn held (file_disk device).failures found.0 found.1) }
+    ensures seen { (held : Snapshot Held) → device.history ≡ Opened held → IfOk result (λ found. (file_disk found.0).honest → (file_disk found.0).seen ≡ held.value.seen.items) }
     ensures refused { (held : Snapshot Held) → device.history ≡ Opened held → IfErr result (IsUnlookedOn AnyState held (file_disk device).sectors (file_disk device).failures) }
 {
     match look_on(alloc, device, Strictness::AnyState) {

@@ -1,7 +1,9 @@
-use Rattle.std.proofs.Common.{ℕ, subst}
+use Rattle.std.proofs.Common.{ℕ, IfOk, IfSome, subst}
+use Rattle.sector_device.specs.Disk.{Image}
+use Rattle.store_parts.specs.Copies.{AreToldOn}
 use Rattle.std.proofs.lemmas.Result.{err_from_is_err_and}
 use Rattle.doc_store.specs.declared.opening.Strictness.TheVariants.{AnyState}
-use Rattle.file_programs.specs.Reads.{IsUnlookedOn, refused_by}
+use Rattle.file_programs.specs.Reads.{IsFoundIn, IsUnlookedOn, refused_by}
 use Rattle.file_programs.proofs.Reading.{found_on, told_of, unlooked_in}
 use Rattle.file_programs.proofs.programs.deep.check_deep.Goals as goal
 
@@ -13,7 +15,8 @@ returns-clause-examined g c =
     let is = c.in_ok-device-2.ensures.found c.args.held c.in_ok-device.ensures.history in
     let told = c.tell_damages-told.ensures in
     record {
-      found = (first.sectors, found_on c.args.held first.sectors device c.tell_damages-told.new.device found told.same is);
+      found = found_on c.args.held 0 device c.tell_damages-told.new.device found told.same told.later (subst (λ (n : ℕ). IsFoundIn c.args.held n device found) c.in_ok-device.ensures.failures is);
+      copies = λ h. subst (λ (image : Image). IfOk c.tell_damages-told.result (λ t. IfSome t.examined.found (AreToldOn image))) (c.in_ok-device-2.ensures.seen c.args.held c.in_ok-device.ensures.history (told.same.honest h)) (told.copies h);
       told = told_of c.tell_damages-told.result _ _ c.refused_by.result (refused_by found) _ _ told.same.size c.refused_by.ensures told.examined told.condition told.shown;
     }
 
