@@ -50,39 +50,48 @@ module _ (sectors : ℕ) (slots : Image) where
       ap (λ (s : Slot). s.number) (one_commit place other h.slot rest h.tail.items is (subst (λ (n : ℕ). IsCommitAt sectors slots n h.slot h.tail.items) found.1 found.0.commit))
 
   pub best_first : (places : ℕ) (c : Held) → IsBestOf sectors slots places None → IsFoundAt sectors slots places (Some c) → IsBestOf sectors slots (places + 1) (Some c)
-  best_first places c none found = (found.0, record {
-    commit = found.0.commit;
-    within = omega (arith, found.1);
-    highest = λ at other rest lt is. elim (cases_lt at places) [
-      | inl low ↦ absurd (none at low other rest is)
-      | inr high ↦
-          let same : at ≡ places = omega (arith, lt, high) in
-          inr (same_number places c found other rest (subst (λ (n : ℕ). IsCommitAt sectors slots n other rest) same is), omega (arith, high, found.1))
-    ];
-  })
+  best_first places c none found = (
+    found.0,
+    record {
+      commit = found.0.commit;
+      within = omega (arith, found.1);
+      highest = λ at other rest lt is. elim (cases_lt at places) [
+        | inl low ↦ absurd (none at low other rest is)
+        | inr high ↦
+            let same : at ≡ places = omega (arith, lt, high) in
+            inr (same_number places c found other rest (subst (λ (n : ℕ). IsCommitAt sectors slots n other rest) same is), omega (arith, high, found.1))
+      ];
+    },
+  )
 
   pub best_other : (places : ℕ) (b c : Held) → b.slot.number < c.slot.number → IsBestOf sectors slots places (Some b) → IsFoundAt sectors slots places (Some c) → IsBestOf sectors slots (places + 1) (Some c)
-  best_other places b c more best found = (found.0, record {
-    commit = found.0.commit;
-    within = omega (arith, found.1);
-    highest = λ at other rest lt is. elim (cases_lt at places) [
-      | inl low ↦ elim (best.1.highest at other rest low is) [
-        | inl less ↦ inl (omega (arith, less, more))
-        | inr same ↦ inl (omega (arith, same.0, more))
-      ]
-      | inr high ↦
-          let same : at ≡ places = omega (arith, lt, high) in
-          inr (same_number places c found other rest (subst (λ (n : ℕ). IsCommitAt sectors slots n other rest) same is), omega (arith, high, found.1))
-    ];
-  })
+  best_other places b c more best found = (
+    found.0,
+    record {
+      commit = found.0.commit;
+      within = omega (arith, found.1);
+      highest = λ at other rest lt is. elim (cases_lt at places) [
+        | inl low ↦ elim (best.1.highest at other rest low is) [
+          | inl less ↦ inl (omega (arith, less, more))
+          | inr same ↦ inl (omega (arith, same.0, more))
+        ]
+        | inr high ↦
+            let same : at ≡ places = omega (arith, lt, high) in
+            inr (same_number places c found other rest (subst (λ (n : ℕ). IsCommitAt sectors slots n other rest) same is), omega (arith, high, found.1))
+      ];
+    },
+  )
 
   pub best_stays : (places : ℕ) (b c : Held) → c.slot.number ≤ b.slot.number → IsBestOf sectors slots places (Some b) → IsFoundAt sectors slots places (Some c) → IsBestOf sectors slots (places + 1) (Some b)
-  best_stays places b c less best found = (best.0, last_more places b.place b.slot b.tail.items best.1 (λ other rest is.
-      let same = same_number places c found other rest is in
-      elim (cases_lt c.slot.number b.slot.number) [
-        | inl lower ↦ inl (omega (arith, same, lower))
-        | inr equal ↦ inr (omega (arith, same, equal, less), omega (arith, best.1.within))
-      ]))
+  best_stays places b c less best found = (
+    best.0,
+    last_more places b.place b.slot b.tail.items best.1 (λ other rest is.
+        let same = same_number places c found other rest is in
+        elim (cases_lt c.slot.number b.slot.number) [
+          | inl lower ↦ inl (omega (arith, same, lower))
+          | inr equal ↦ inr (omega (arith, same, equal, less), omega (arith, best.1.within))
+        ]),
+  )
 
   -- where a slot holds a commit, it is old if it is in the pair of the last one, and doesn't hold that
   pub old_of : (place : ℕ) (best : Option Held) (other : Slot) (rest : List ℕ) → IsBestOf sectors slots 4 best → IsCommitAt sectors slots place other rest → LacksTwin slots place best → IsOldAt sectors slots place

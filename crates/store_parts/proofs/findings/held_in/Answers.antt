@@ -20,11 +20,13 @@ returns-then-slot-place c =
     let part = take (32 * place + 32 - 32 * place) (drop (32 * place) slots) in
     let width : 32 * place + 32 - 32 * place ≡ 32 = omega arith in
     let found = some_is c.in_ok-slot_in.field-0 (c.in-Some.slot, c.in-Some.tail) ((one : Slot) (rest : List ℕ) → IsSlotOf c.args.sectors one rest → IsHeld one rest 0 part → ⊥)
-    (λ held. IsSlotOf c.args.sectors held.0 held.1.items × IsHeld held.0 held.1.items 0 part) c.in_ok-slot_in.ensures c.in-Some.is in
-    (record {
-      commit = commit_in c.args.sectors slots part place (ap (λ (n : ℕ). take n (drop (32 * place) slots)) width) c.in-Some.slot c.in-Some.tail.items found.0 found.1 c.if-slot-place.true;
-      place = c.requires.place;
-    }, refl)
+    (λ held. IsSlotOf c.args.sectors held.0 held.1.items × IsHeld held.0 held.1.items 0 part) c.in_ok-slot_in.ensures c.in-Some.is in (
+      record {
+        commit = commit_in c.args.sectors slots part place (ap (λ (n : ℕ). take n (drop (32 * place) slots)) width) c.in-Some.slot c.in-Some.tail.items found.0 found.1 c.if-slot-place.true;
+        place = c.requires.place;
+      },
+      refl,
+    )
 
 pub returns-else-slot-place : goal.returns-else-slot-place
 returns-else-slot-place c =
