@@ -8,8 +8,8 @@ use Rattle.command_line.proofs.Walks.{IsPlain, gone, goes, standing}
 use Rattle.command_line.proofs.Readings.{IsChecked, Read, built_for, checked, flag_row, given, met, number, option_words, plain, plain_step, read_by, value_step}
 use Rattle.command_line.proofs.Serves.{batch_first_read, pump_first_read}
 use Rattle.command_line.specs.declared.limits.TheConstants.{MIN_SECTORS, MAX_SECTORS, MAX_MEMORY_SECTORS, MIN_FORMAT, MAX_FORMAT, MAX_BATCH, MAX_PUMP, MAX_HISTORY}
-use Rattle.command_line.specs.Call.{Asked, format, serve, check, repair, copy, upgrade, mem, deep, salvage, dump, InRange, IsGiven, IsHistoryGiven, IsIdentityGiven, IsModeGiven, IsRowOf, flag_words}
-use Rattle.command_line.specs.Options.{app, HoldsFile, HoldsFlag, HoldsHistory, HoldsIdentity, HoldsMode, HoldsNew, MayHold, Means, MeansWhy}
+use Rattle.command_line.specs.Call.{Asked, format, serve, check, repair, copy, upgrade, mem, deep, salvage, dump, InRange, IsFormatAsked, IsFormatNumber, IsGiven, IsHistoryGiven, IsIdentityGiven, IsModeGiven, IsRowOf, flag_words}
+use Rattle.command_line.specs.Options.{app, HoldsFile, HoldsFlag, HoldsFormat, HoldsHistory, HoldsIdentity, HoldsMode, HoldsNew, MayHold, Means, MeansWhy}
 
 abbrev format_built : Shape
 format_built = built_for (codes "format")
@@ -445,6 +445,24 @@ optional flag id default least most n words low high short (inr absent) = record
   held = λ rows one first. inr (absent.0, first);
 }
 
+-- the words of a format, of which there may be none
+record IsFormatFound (version : Option ℕ) (words : List Text) : Type 0 where
+  text : Option Text
+  is : words ≡ option_words (codes "--format") text
+  fits : IfSome text (IsChecked MIN_FORMAT MAX_FORMAT)
+  held : (rows : List Row) → one_of (codes "format") rows ≡ text → first_of (codes "format") rows ≡ text → HoldsFormat version rows
+
+format_found : (version : Option ℕ) (words : List Text) → IfSome version IsFormatNumber → IsFormatAsked version words → IsFormatFound version words
+format_found None words range absent = record { text = None; is = absent; fits = tt; held = λ rows one first. first }
+format_found (Some version) words range some =
+    let read = number version MIN_FORMAT MAX_FORMAT (decimal version) range.0 range.1 (omega arith) refl in
+    record {
+      text = Some (decimal version);
+      is = some;
+      fits = checked version MIN_FORMAT MAX_FORMAT (decimal version) read;
+      held = λ rows one first. (decimal version, one, read.spells);
+    }
+
 -- the words of a mode, which may be absent
 record IsModeFound (mode : ℕ) (words : List Text) : Type 0 where
   text : Option Text
@@ -550,7 +568,7 @@ read_as_row (repair file) why words range row =
     rw row.1 meant
 read_as_row (copy file new n version identity strict) why words range (h, k, formats, identities, v, d, row) =
     let sectors = number n MIN_SECTORS MAX_SECTORS (decimal n) range.0.0 range.0.1 (omega arith) refl in
-    let chosen = optional (codes "--format") (codes "format") 2 MIN_FORMAT MAX_FORMAT version formats (λ one. range.1.0) range.1.1 (omega arith) v in
+    let chosen = format_found version formats range.1 v in
     let named = identity_found identity identities d in
     let read = copy_read file new (decimal n) chosen.text named.text strict why (plain file h) (plain new k) (checked n MIN_SECTORS MAX_SECTORS (decimal n) sectors) chosen.fits named.fits in
     let held = read.holds in

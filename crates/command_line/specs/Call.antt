@@ -1,5 +1,5 @@
 -- Calls: what one asks for, in which range its numbers are, and which words are its row.
-use Rattle.std.specs.Prelude.{◌≡◌, ◌≢◌, ◌≤◌, ◌⊎◌, ℕ, Bool, false, if◌then◌else◌, Option, None, Some, Ok, List, [], ◌∷◌, ◌++◌, codes, decimal, get_or}
+use Rattle.std.specs.Prelude.{◌≡◌, ◌≢◌, ◌≤◌, ◌⊎◌, ℕ, Bool, false, if◌then◌else◌, IfSome, Option, None, Some, Ok, List, [], ◌∷◌, ◌++◌, codes, decimal, get_or}
 use Rattle.std.specs.Str.Parse.{IsNumeral, digits_value, without_leading_plus}
 use Rattle.std.specs.Int.{w128, from_be_bytes}
 use Rattle.hex.specs.Hex.{decode_sized}
@@ -9,14 +9,14 @@ use Rattle.command_line.specs.declared.limits.TheConstants.{MIN_SECTORS, MAX_SEC
 
 -- A call, with the names of its files as texts. Making a file, with its sectors, its format and its mode, whether its blocks are left to be allocated as
 -- they are written, and its identity if that isn't to be drawn. Serving, with the most changes of one commit, the sectors that a step of a copy writes after a change, of which 0 are none, the bytes of the newest transactions that are kept, of which 0 keep none, and whether a store whose last commit may be lost is
--- refused, as each call that opens a store has it. Copying a file to a new one, with its sectors, its format and its identity. Bringing a file to a format, with an identity.
+-- refused, as each call that opens a store has it. Copying a file to a new one, with its sectors, its format if it isn't to be the file's, and its identity. Bringing a file to a format, with an identity.
 -- Reading all of a file. Salvaging, the documents or else the frames. Dumping a file that is only read.
 pub data Asked : Type 0 where
   format : List ℕ → ℕ → ℕ → ℕ → Bool → Option ℕ → Asked
   serve : List ℕ → ℕ → ℕ → ℕ → Bool → Asked
   check : List ℕ → Bool → Asked
   repair : List ℕ → Asked
-  copy : List ℕ → List ℕ → ℕ → ℕ → Option ℕ → Bool → Asked
+  copy : List ℕ → List ℕ → ℕ → Option ℕ → Option ℕ → Bool → Asked
   upgrade : List ℕ → ℕ → Option ℕ → Bool → Asked
   mem : ℕ → ℕ → Asked
   deep : List ℕ → Asked
@@ -35,15 +35,19 @@ asked_of (Deep file) = deep file.now
 asked_of (Salvage file frames) = salvage file.now frames
 asked_of (Dump file strict) = dump file.now strict
 
+-- there is such a format
+abbrev pub IsFormatNumber : ℕ → Type 0
+IsFormatNumber version = (MIN_FORMAT ≤ version) × (version ≤ MAX_FORMAT)
+
 -- each number lies in the range of its option
 abbrev pub InRange : Asked → Type 0
 InRange (format file sectors version mode sparse identity) =
-    ((MIN_SECTORS ≤ sectors) × (sectors ≤ MAX_SECTORS)) × ((MIN_FORMAT ≤ version) × (version ≤ MAX_FORMAT)) × (mode ≤ MAX_MODE)
+    ((MIN_SECTORS ≤ sectors) × (sectors ≤ MAX_SECTORS)) × IsFormatNumber version × (mode ≤ MAX_MODE)
 InRange (serve file batch pump history strict) = ((1 ≤ batch) × (batch ≤ MAX_BATCH)) × (pump ≤ MAX_PUMP) × (history ≤ MAX_HISTORY)
 InRange (check file strict) = Unit {0}
 InRange (repair file) = Unit {0}
-InRange (copy file new sectors version identity strict) = ((MIN_SECTORS ≤ sectors) × (sectors ≤ MAX_SECTORS)) × ((MIN_FORMAT ≤ version) × (version ≤ MAX_FORMAT))
-InRange (upgrade file version identity strict) = (MIN_FORMAT ≤ version) × (version ≤ MAX_FORMAT)
+InRange (copy file new sectors version identity strict) = ((MIN_SECTORS ≤ sectors) × (sectors ≤ MAX_SECTORS)) × IfSome version IsFormatNumber
+InRange (upgrade file version identity strict) = IsFormatNumber version
 InRange (mem sectors history) = ((MIN_SECTORS ≤ sectors) × (sectors ≤ MAX_MEMORY_SECTORS)) × (history ≤ MAX_HISTORY)
 InRange (deep file) = Unit {0}
 InRange (salvage file frames) = Unit {0}
@@ -56,6 +60,11 @@ IsNoOption text = get_or text 0 0 ≢ 45
 -- the words give the option this number, which is 1 at least, in plain decimal; or there are none, which give it its default
 abbrev pub IsGiven : List ℕ → ℕ → ℕ → List (List ℕ) → Type 0
 IsGiven option default n words = ((1 ≤ n) × (words ≡ option ∷ decimal n ∷ [])) ⊎ ((n ≡ default) × (words ≡ []))
+
+-- the words ask for the format in plain decimal; or there are none, and they ask for none
+abbrev pub IsFormatAsked : Option ℕ → List (List ℕ) → Type 0
+IsFormatAsked None words = words ≡ []
+IsFormatAsked (Some version) words = words ≡ codes "--format" ∷ decimal version ∷ []
 
 -- the words give the bytes of the newest transactions in plain decimal; or there are none, and it is the default
 abbrev pub IsHistoryGiven : ℕ → List (List ℕ) → Type 0
@@ -100,7 +109,7 @@ IsRowOf words (serve file batch pump history strict) why =
 IsRowOf words (check file strict) why = IsNoOption file × (words ≡ codes "check" ∷ file ∷ flag_words (codes "--strict") strict ++ flag_words (codes "--why") why)
 IsRowOf words (repair file) why = IsNoOption file × (words ≡ codes "repair" ∷ file ∷ flag_words (codes "--why") why)
 IsRowOf words (copy file new sectors version identity strict) why =
-    IsNoOption file × IsNoOption new × (formats identities : List (List ℕ)) × IsGiven (codes "--format") 2 version formats × IsIdentityGiven identity identities
+    IsNoOption file × IsNoOption new × (formats identities : List (List ℕ)) × IsFormatAsked version formats × IsIdentityGiven identity identities
     × (words ≡ codes "copy" ∷ file ∷ new ∷ codes "--sectors" ∷ decimal sectors ∷ formats ++ identities ++ flag_words (codes "--strict") strict ++ flag_words (codes "--why") why)
 IsRowOf words (upgrade file version identity strict) why =
     IsNoOption file × (formats identities : List (List ℕ)) × IsGiven (codes "--format") 3 version formats × IsIdentityGiven identity identities

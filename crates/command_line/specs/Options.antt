@@ -134,6 +134,11 @@ HoldsNumber option n options = (text : Text) × (one_of option options ≡ Some 
 abbrev pub MayHold : Text → ℕ → ℕ → List Row → Type 0
 MayHold option default n options = ((1 ≤ n) × HoldsNumber option n options) ⊎ ((n ≡ default) × (first_of option options ≡ None))
 
+-- the options ask for the format by its number, or they ask for none
+abbrev pub HoldsFormat : Option ℕ → List Row → Type 0
+HoldsFormat None options = first_of (codes "format") options ≡ None
+HoldsFormat (Some version) options = HoldsNumber (codes "format") version options
+
 -- the options give the bytes of the newest transactions by their number, or they give none, and it is the default
 abbrev pub HoldsHistory : ℕ → List Row → Type 0
 HoldsHistory n options = HoldsNumber (codes "history") n options ⊎ ((n ≡ HISTORY) × (first_of (codes "history") options ≡ None))
@@ -168,7 +173,7 @@ Holds (serve file batch pump history strict) options =
 Holds (check file strict) options = HoldsFile file options × HoldsFlag (codes "strict") strict options × HoldsFlag (codes "deep") false options
 Holds (repair file) options = HoldsFile file options
 Holds (copy file new sectors version identity strict) options =
-    HoldsFile file options × HoldsNew new options × HoldsNumber (codes "sectors") sectors options × MayHold (codes "format") 2 version options × HoldsIdentity identity options
+    HoldsFile file options × HoldsNew new options × HoldsNumber (codes "sectors") sectors options × HoldsFormat version options × HoldsIdentity identity options
     × HoldsFlag (codes "strict") strict options
 Holds (upgrade file version identity strict) options =
     HoldsFile file options × MayHold (codes "format") 3 version options × HoldsIdentity identity options × HoldsFlag (codes "strict") strict options

@@ -2,8 +2,8 @@
 ghost use Rattle.std.specs.Prelude.{◌≡◌, ◌⊎◌, ◌≤◌, ◌<◌, ◌^◌, ℕ, Bool, List, Option, IfOk, IfErr, IfSome, IsSomeAnd, Some, codes, map, option_map, MatchResult};
 ghost use Rattle.clap.specs.Words.{fault_of, first_of, found_of, HasKind, IsAmong, kind_of, rows_of, subcommand_of, subcommand_rows_of};
 ghost use Rattle.clap.specs.declared.error.kind.ErrorKind.TheVariants.{InvalidValue, OutOfMemory};
-ghost use Rattle.command_line.specs.Call.{Asked, InRange, IsRowOf, SpellsIdentity, SpellsMode, asked_of, check, copy, deep, dump, format, mem, repair, salvage, serve, upgrade};
-ghost use Rattle.command_line.specs.Options.{app, Holds, HoldsFlag, HoldsHistory, HoldsIdentity, HoldsMode, HoldsNumber, IsMet, MayHold, Means, MeansWhy};
+ghost use Rattle.command_line.specs.Call.{Asked, InRange, IsFormatNumber, IsRowOf, SpellsIdentity, SpellsMode, asked_of, check, copy, deep, dump, format, mem, repair, salvage, serve, upgrade};
+ghost use Rattle.command_line.specs.Options.{app, Holds, HoldsFlag, HoldsFormat, HoldsHistory, HoldsIdentity, HoldsMode, HoldsNumber, IsMet, MayHold, Means, MeansWhy};
 ghost use Rattle.command_line.specs.declared.limits.TheConstants.{MAX_BATCH, MAX_FORMAT, MAX_HISTORY, MAX_MODE, MAX_PUMP, MIN_FORMAT, MIN_SECTORS};
 
 use crate::command::program;
@@ -50,12 +50,12 @@ pub enum Call<'a> {
         file: &'a str,
     },
     /// Copy the store in a file, `strict` or not, into a new file of that many sectors, in that format, 2 or 3, with this
-    /// identity.
+    /// identity. `None`: in the format that it has, and with an identity that is to be drawn.
     Copy {
         file: &'a str,
         new: &'a str,
         sectors: u64,
-        format: u64,
+        format: Option<u64>,
         identity: Option<u128>,
         strict: bool,
     },
@@ -100,7 +100,7 @@ pub struct Order<'a> {
 /// Reads the words after the program's name.
 ///
 /// The call is what the words mean to `clap`, however they are written: `--sectors=16`, or an option before FILE. If
-/// `--format` is absent, its number is 2 for a new file or a copy and 3 for an upgrade, that of `--batch` is 1, that of `--pump`
+/// `--format` is absent, its number is 2 for a new file and 3 for an upgrade, and a copy asks for none; the number of an absent `--batch` is 1, that of `--pump`
 /// 0, that of `--history` 16,777,216, and the mode is 0600. Refuses, by `clap`'s own errors, what is no call, an option or a flag that is given twice,
 /// a number out of the range of its option, a mode that is no octal number up to 0777, an identity that isn't 32 hexadecimal digits, a dump that isn't to be only
 /// read, and a request for help; it also fails if memory runs out. Words that are a call's row fail only if memory runs out; in a row no file begins with a
@@ -270,13 +270,13 @@ fn repair_in<'a>(options: &ArgMatches<'a>) -> Option<Call<'a>>
 fn copy_in<'a>(options: &ArgMatches<'a>) -> Option<Call<'a>>
     ensures in_range { IfSome result (λ call. InRange (asked_of call)) }
     ensures sound { IfSome result (λ call. IsMet (codes "copy") (rows_of (found_of options.now)) (asked_of call)) }
-    ensures meant { (file new : List ℕ) (sectors version : ℕ) (identity : Option ℕ) (strict : Bool) → InRange (copy file new sectors version identity strict)
+    ensures meant { (file new : List ℕ) (sectors : ℕ) (version identity : Option ℕ) (strict : Bool) → InRange (copy file new sectors version identity strict)
         → Holds (copy file new sectors version identity strict) (rows_of (found_of options.now)) → option_map asked_of result ≡ Some (copy file new sectors version identity strict) }
 {
     let file = file_in(options)?;
     let new = new_in(options)?;
     let sectors = sectors_in(options, MAX_SECTORS)?;
-    let format = format_number(options, MIN_FORMAT)?;
+    let format = format_asked(options)?;
     let identity = identity_in(options)?;
     let strict = flag_in(options, "strict")?;
     Some(Call::Copy {
@@ -378,6 +378,18 @@ fn format_number(options: &ArgMatches, default: u64) -> Option<u64>
     match options.get_str("format") {
         Some(_) => number_in(options, "format", MIN_FORMAT, MAX_FORMAT),
         None => Some(default),
+    }
+}
+
+// The number of the format that the options ask for, if it is in the range, or that they ask for none.
+fn format_asked(options: &ArgMatches) -> Option<Option<u64>>
+    ensures in_range { IfSome result (λ format. IfSome format IsFormatNumber) }
+    ensures sound { IfSome result (λ format. HoldsFormat format (rows_of (found_of options.now))) }
+    ensures held { (format : Option ℕ) → IfSome format IsFormatNumber → HoldsFormat format (rows_of (found_of options.now)) → result ≡ Some format }
+{
+    match options.get_str("format") {
+        Some(_) => Some(Some(number_in(options, "format", MIN_FORMAT, MAX_FORMAT)?)),
+        None => Some(None),
     }
 }
 

@@ -314,7 +314,7 @@ fn copy_command<'a>(alloc: Global) -> Result<Command<'a>, Error>
         .arg(file_sectors(alloc))?
         .arg(format_option(
             alloc,
-            "Format of the new file, 2 or 3; 2 if absent. Format 3 takes 160 sectors at least",
+            "Format of the new file, 2 or 3; that of FILE if absent. Format 3 takes 160 sectors at least",
         ))?
         .arg(identity_option(alloc))?
         .arg(strict_flag(alloc))?

@@ -1,5 +1,5 @@
 -- The result of `copy`: a new file with a copy of a store.
-use Rattle.std.specs.Prelude.{◌≡◌, ◌⊎◌, ℕ, List, length, false, Option, None, Result}
+use Rattle.std.specs.Prelude.{◌≡◌, ◌⊎◌, ℕ, List, length, false, Option, None, Some, Result}
 use Rattle.sector_device.specs.Disk.{Disk, Image, LeavesOnly}
 use Rattle.file_device.specs.declared.file.FileDevice.{FileDevice}
 use Rattle.file_device.specs.File.{file_disk}
@@ -9,7 +9,7 @@ use Rattle.store_journal.specs.Models.{model}
 use Rattle.doc_changes.specs.State.{in_profile}
 use Rattle.store_commits.specs.Account.{Account}
 use Rattle.store_commits.specs.Images.{profile_in}
-use Rattle.doc_store.specs.Formats.{rides_in, status_of}
+use Rattle.doc_store.specs.Formats.{format_of, rides_in, status_of}
 use Rattle.doc_store.specs.Opening.{IsCopyOf}
 use Rattle.doc_store.specs.declared.format.Format.{Format}
 use Rattle.store_commits.specs.Snapshot.{snapshot_bytes}
@@ -17,7 +17,13 @@ use Rattle.protocol.specs.Reply.{line_of}
 use Rattle.status_lines.specs.Status.{status_reply}
 use Rattle.file_programs.specs.Identity.{IsChosen}
 use Rattle.file_programs.specs.Shown.{Shows}
+use Rattle.file_programs.specs.Upgrades.{format_numbered}
 use Rattle.file_programs.specs.declared.fault.Fault.{Fault}
+
+-- the format of a copy: that which the words ask for, or, if they ask for none, the store's
+abbrev pub format_copied : Option ℕ → Account → Format
+format_copied None a = format_of a
+format_copied (Some number) a = format_numbered number
 
 -- A file was created with `sectors` sectors, and the store copied into it, in a format: if all reads gave what the file
 -- held, each image that a crash may leave, in that format's disk model, holds the same state, opened as often, in format 3 with the identity that was asked for, or any; and what a

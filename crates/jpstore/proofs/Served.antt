@@ -5,10 +5,9 @@ use Rattle.sector_device.specs.declared.history.Held.{Held}
 use Rattle.refusals.specs.declared.numbers.TheConstants.{DEVICE}
 use Rattle.jpstore.specs.Calls.{IsRefused, IsServing}
 use Rattle.file_programs.specs.Calls.{IsUpgrading}
-use Rattle.file_programs.specs.Copies.{IsCopiedFile, ShowsCopy}
+use Rattle.file_programs.specs.Copies.{IsCopiedFile, ShowsCopy, format_copied}
 use Rattle.file_programs.specs.Files.{IsClosedIn, IsNoticedIn, IsOpenedIn, IsUnopenedBy, WentToTheEnd, fault_of}
 use Rattle.file_programs.specs.Reads.{IsDumpedIn, IsUnlookedIn}
-use Rattle.file_programs.specs.Upgrades.{format_numbered}
 use Rattle.file_programs.specs.declared.programs.copy.Ended.{Ended}
 use Rattle.file_programs.specs.declared.programs.dump.Dumped.{Dumped}
 use Rattle.jpstore.specs.Files.{IsServedIn}
@@ -31,14 +30,14 @@ serving held batch pump limit strict (Ok closed) left left_new before after serv
 serving held batch pump limit strict (Err unopened) left left_new before after served works broke closed_in kept noticed refused unread unwritten = ((refused, unwritten), unread)
 
 -- the same of what `copy FILE` ensures
-pub copied : (held : Snapshot Held) (sectors version : ℕ) (identity : Option ℕ) (strict : Bool) (r : Result Ended Unopened) (before after : Option (List ℕ))
+pub copied : (held : Snapshot Held) (sectors : ℕ) (version identity : Option ℕ) (strict : Bool) (r : Result Ended Unopened) (before after : Option (List ℕ))
     → IfOk r (λ ended. IsOpenedIn held ended.store) → IfOk r (λ ended. IsNoticedIn (strictness_of strict) held ended.store ended.notice)
-    → IfOk r (λ ended. IfOk ended.copied (IsCopiedFile sectors (format_numbered version) identity ended.store.account))
-    → IfOk r (λ ended. ShowsCopy sectors (format_numbered version) identity ended.store.account ended.copied before after)
+    → IfOk r (λ ended. IfOk ended.copied (IsCopiedFile sectors (format_copied version ended.store.account) identity ended.store.account))
+    → IfOk r (λ ended. ShowsCopy sectors (format_copied version ended.store.account) identity ended.store.account ended.copied before after)
     → IfErr r (IsUnopenedBy (strictness_of strict) held) → OnErr r (after ≡ before)
     → MatchResult r
-    (λ ended. IsOpenedIn held ended.store × IsNoticedIn (strictness_of strict) held ended.store ended.notice × IfOk ended.copied (IsCopiedFile sectors (format_numbered version) identity ended.store.account)
-    × ShowsCopy sectors (format_numbered version) identity ended.store.account ended.copied before after)
+    (λ ended. IsOpenedIn held ended.store × IsNoticedIn (strictness_of strict) held ended.store ended.notice × IfOk ended.copied (IsCopiedFile sectors (format_copied version ended.store.account) identity ended.store.account)
+    × ShowsCopy sectors (format_copied version ended.store.account) identity ended.store.account ended.copied before after)
     (λ unopened. IsRefused (strictness_of strict) held unopened before after)
 copied held sectors version identity strict (Ok ended) before after opened noticed made shown refused unwritten = (opened, noticed, made, shown)
 copied held sectors version identity strict (Err unopened) before after opened noticed made shown refused unwritten = (refused, unwritten)

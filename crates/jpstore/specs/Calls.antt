@@ -9,7 +9,7 @@ use Rattle.sector_device.specs.declared.history.Held.{Held}
 use Rattle.refusals.specs.declared.numbers.TheConstants.{DEVICE}
 use Rattle.protocol.specs.Reply.{line_of}
 use Rattle.file_programs.specs.Calls.{format_reply, IsShown, IsUpgrading}
-use Rattle.file_programs.specs.Copies.{IsCopiedFile, ShowsCopy}
+use Rattle.file_programs.specs.Copies.{IsCopiedFile, ShowsCopy, format_copied}
 use Rattle.file_programs.specs.Faults.{told_of_file, told_of_unopened}
 use Rattle.file_programs.specs.Files.{IsClosedIn, IsFormattedFile, IsOpenedIn, IsNoticedIn, IsUnopenedBy, WentToTheEnd, fault_of}
 use Rattle.jpstore.specs.Files.{IsServedIn}
@@ -18,7 +18,6 @@ use Rattle.jpstore.specs.Memory.{IsServedInMemory}
 use Rattle.file_programs.specs.Notices.{note_of, strictness_of}
 use Rattle.file_programs.specs.Reads.{IsDumpedIn, IsExaminedIn, IsSalvagedIn, IsUnlookedIn, end_of_left, end_of_shown, end_of_told}
 use Rattle.file_programs.specs.Shown.{Shows}
-use Rattle.file_programs.specs.Upgrades.{format_numbered}
 use Rattle.file_programs.specs.declared.fault.Fault.{Fault}
 use Rattle.jpstore.specs.declared.kept.Kept.{Kept}
 use Rattle.jpstore.specs.declared.kept.Kept.TheVariants.{Formatted, Served, Checked, Repaired, Copied, Upgraded, InMemory, Examined, Salvaged, Dumped}
@@ -94,8 +93,8 @@ Does held (repair file) (Repaired repaired) left left_new before after =
     MatchResult repaired (λ closed. IsShown AnyState held closed before after) (λ unopened. IsRefused AnyState held unopened before after) × (left_new ≡ left)
 Does held (copy file new sectors version identity strict) (Copied copied) left left_new before after =
     MatchResult copied
-    (λ ended. IsOpenedIn held ended.store × IsNoticedIn (strictness_of strict) held ended.store ended.notice × IfOk ended.copied (IsCopiedFile sectors (format_numbered version) identity ended.store.account)
-    × ShowsCopy sectors (format_numbered version) identity ended.store.account ended.copied before after)
+    (λ ended. IsOpenedIn held ended.store × IsNoticedIn (strictness_of strict) held ended.store ended.notice × IfOk ended.copied (IsCopiedFile sectors (format_copied version ended.store.account) identity ended.store.account)
+    × ShowsCopy sectors (format_copied version ended.store.account) identity ended.store.account ended.copied before after)
     (λ unopened. IsRefused (strictness_of strict) held unopened before after)
     × (left_new ≡ left)
 Does held (upgrade file version identity strict) (Upgraded upgraded) left left_new before after =

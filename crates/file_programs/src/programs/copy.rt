@@ -8,11 +8,10 @@ ghost use Rattle.store_commits.specs.Snapshot.{snapshot_bytes};
 ghost use Rattle.doc_store.specs.Formats.{rides_in, status_of};
 ghost use Rattle.store_commits.specs.Account.{Account};
 ghost use Rattle.file_device.specs.File.{file_disk};
-ghost use Rattle.file_programs.specs.Copies.{IsCopiedFile, IsFilled, ShowsCopy, account_copied};
+ghost use Rattle.file_programs.specs.Copies.{IsCopiedFile, IsFilled, ShowsCopy, account_copied, format_copied};
 ghost use Rattle.file_programs.specs.Files.{IsNoticedIn, IsOpenedIn, IsUnopenedBy};
 ghost use Rattle.file_programs.specs.Notices.{note_of};
 ghost use Rattle.file_programs.specs.Shown.{Shows};
-ghost use Rattle.file_programs.specs.Upgrades.{format_numbered};
 ghost use Rattle.protocol.specs.Reply.{line_of};
 ghost use Rattle.sector_device.specs.declared.history.History.{Created};
 ghost use Rattle.status_lines.specs.Status.{status_reply};
@@ -40,8 +39,8 @@ pub struct NewCopy<'a> {
     pub file: &'a str,
     /// The number of its sectors.
     pub sectors: u64,
-    /// The format of the store in it: 3 or, for any other number, 2.
-    pub format: u64,
+    /// The format of the store in it: 3 or, for any other number, 2; `None`: that of the store that is copied.
+    pub format: Option<u64>,
     /// The identity of the store in format 3; `None`: it is drawn.
     pub identity: Option<u128>,
 }
@@ -59,8 +58,8 @@ pub struct Ended {
     pub copied: Result<FileDevice, Fault>,
 }
 
-/// Opens the store in a file that holds what `held` says, so strictly, which counts as an opening, copies it into a new file,
-/// and writes the status of the copy. What its slots say is a line on `errors` before that, unless all is whole. The new file has the rights of
+/// Opens the store in a file that holds what `held` says, so strictly, which counts as an opening, copies it into a new file, in its format
+/// unless another is asked for, and writes the status of the copy. What its slots say is a line on `errors` before that, unless all is whole. The new file has the rights of
 /// the old one before its first byte, and its blocks are allocated first, while `progress` looks on. If there is a
 /// fault it is removed again, if the system does so.
 pub fn copy_file<R: Files<File = File>, O: Write, E: Write, P: Progress>(
@@ -76,8 +75,8 @@ pub fn copy_file<R: Files<File = File>, O: Write, E: Write, P: Progress>(
 ) -> Result<Ended, Unopened>
     requires most { new.sectors ≤ MAX_SECTORS }
     ensures opened { IfOk result (λ ended. IsOpenedIn held ended.store) }
-    ensures copied { IfOk result (λ ended. IfOk ended.copied (IsCopiedFile new.entry.sectors (format_numbered new.entry.format) new.entry.identity ended.store.account)) }
-    ensures shown { IfOk result (λ ended. ShowsCopy new.entry.sectors (format_numbered new.entry.format) new.entry.identity ended.store.account ended.copied (O.contents writer.old) (O.contents writer.new)) }
+    ensures copied { IfOk result (λ ended. IfOk ended.copied (IsCopiedFile new.entry.sectors (format_copied new.entry.format ended.store.account) new.entry.identity ended.store.account)) }
+    ensures shown { IfOk result (λ ended. ShowsCopy new.entry.sectors (format_copied new.entry.format ended.store.account) new.entry.identity ended.store.account ended.copied (O.contents writer.old) (O.contents writer.new)) }
     ensures noticed { IfOk result (λ ended. IsNoticedIn strictness held ended.store ended.notice) }
     ensures noted { IfOk result (λ ended. ended.noted ≡ true → Appends (E.contents errors.old) (E.contents errors.new) (note_of ended.notice)) }
     ensures whole { IfOk result (λ ended. ended.notice ≡ Whole → errors.new ≡ errors.old) }
@@ -89,7 +88,7 @@ pub fn copy_file<R: Files<File = File>, O: Write, E: Write, P: Progress>(
     let rights = device.rights()?;
     let (store, notice) = store_on(alloc, device, strictness)?;
     let noted = note(alloc, notice, errors);
-    let format = numbered(new.format);
+    let format = format_of_copy(&store, new.format);
     let copied = copy_store(rt, alloc, &store, new, format, rights, writer, progress);
     Ok(Ended {
         store,
@@ -97,6 +96,16 @@ pub fn copy_file<R: Files<File = File>, O: Write, E: Write, P: Progress>(
         noted,
         copied,
     })
+}
+
+// The format of a copy of a store: the one that was asked for, or the store's own.
+fn format_of_copy(store: &Store<FileDevice>, asked: Option<u64>) -> Format
+    ensures { result ≡ format_copied asked store.now.account }
+{
+    match asked {
+        Some(number) => numbered(number),
+        None => store.format(),
+    }
 }
 
 // Copies a store into a new file, in a format. The file is removed again if that isn't done.
