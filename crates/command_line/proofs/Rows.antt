@@ -8,11 +8,14 @@ use Rattle.command_line.proofs.Walks.{IsPlain, gone, goes, standing}
 use Rattle.command_line.proofs.Readings.{IsChecked, Read, built_for, checked, flag_row, given, met, number, option_words, plain, plain_step, read_by, value_step}
 use Rattle.command_line.proofs.Serves.{batch_first_read, pump_first_read}
 use Rattle.command_line.specs.declared.limits.TheConstants.{MIN_SECTORS, MAX_SECTORS, MAX_MEMORY_SECTORS, MIN_FORMAT, MAX_FORMAT, MAX_BATCH, MAX_PUMP, MAX_HISTORY}
-use Rattle.command_line.specs.Call.{Asked, format, serve, check, repair, copy, upgrade, mem, deep, salvage, dump, InRange, IsFormatAsked, IsFormatNumber, IsGiven, IsHistoryGiven, IsIdentityGiven, IsModeGiven, IsRowOf, flag_words}
-use Rattle.command_line.specs.Options.{app, HoldsFile, HoldsFlag, HoldsFormat, HoldsHistory, HoldsIdentity, HoldsMode, HoldsNew, MayHold, Means, MeansWhy}
+use Rattle.command_line.specs.Call.{Asked, format, fresh, serve, check, repair, copy, upgrade, mem, deep, salvage, dump, InRange, IsFormatAsked, IsFormatNumber, IsGiven, IsHistoryGiven, IsIdentityGiven, IsModeGiven, IsRowOf, IsSizeGiven, flag_words}
+use Rattle.command_line.specs.Options.{app, HoldsFile, HoldsFlag, HoldsFormat, HoldsHistory, HoldsIdentity, HoldsMode, HoldsNew, HoldsSize, MayHold, Means, MeansWhy}
 
 abbrev format_built : Shape
 format_built = built_for (codes "format")
+
+abbrev fresh_built : Shape
+fresh_built = built_for (codes "new")
 
 abbrev upgrade_built : Shape
 upgrade_built = built_for (codes "upgrade")
@@ -51,6 +54,43 @@ mem_read sectors None s n =
     let walked = goes (met mem_built (walk_from nothing_held) (codes "--sectors") refl) (goes (value_step mem_built [] (codes "sectors") 1 sectors s.0) (gone mem_built (standing [] (Some (codes "sectors", sectors ∷ [])) idle 1))) in
     let read = read_by (codes "--sectors" ∷ sectors ∷ []) (codes "mem") mem_built (standing [] (Some (codes "sectors", sectors ∷ [])) idle 1) refl refl refl walked (simp s.1) refl refl in
     record { rows = _; met = read.0; taken = read.1; holds = (refl, refl, refl) }
+
+fresh_read : (file : Text) (size identity : Option Text) (why : Bool) → IsPlain file → IfSome size IsPlain → IfSome identity IsPlain
+    → Read (codes "new" ∷ file ∷ option_words (codes "--size") size ++ option_words (codes "--id") identity ++ flag_words (codes "--why") why) (codes "new")
+    (λ rows. HoldsFile file rows × (first_of (codes "size") rows ≡ size) × (first_of (codes "id") rows ≡ identity) × HoldsFlag (codes "why") why rows)
+unfolding clap_on_literals
+fresh_read file (Some size) (Some identity) true h s d =
+    let walked = goes (plain_step fresh_built None 1 file h refl) (goes (met fresh_built (standing [] (Some (codes "file", file ∷ [])) idle 2) (codes "--size") refl) (goes (value_step fresh_built (given (codes "file") file ∷ []) (codes "size") 2 size s) (goes (met fresh_built (standing (given (codes "file") file ∷ []) (Some (codes "size", size ∷ [])) idle 2) (codes "--id") refl) (goes (value_step fresh_built (given (codes "file") file ∷ given (codes "size") size ∷ []) (codes "id") 2 identity d) (goes (met fresh_built (standing (given (codes "file") file ∷ given (codes "size") size ∷ []) (Some (codes "id", identity ∷ [])) idle 2) (codes "--why") refl) (gone fresh_built (standing (given (codes "file") file ∷ given (codes "size") size ∷ given (codes "id") identity ∷ flag_row (codes "why") true ∷ []) None idle 2))))))) in
+    let read = read_by (file ∷ codes "--size" ∷ size ∷ codes "--id" ∷ identity ∷ codes "--why" ∷ []) (codes "new") fresh_built (standing (given (codes "file") file ∷ given (codes "size") size ∷ given (codes "id") identity ∷ flag_row (codes "why") true ∷ []) None idle 2) refl refl refl walked refl refl refl in
+    record { rows = _; met = read.0; taken = read.1; holds = (refl, refl, refl, refl) }
+fresh_read file (Some size) (Some identity) false h s d =
+    let walked = goes (plain_step fresh_built None 1 file h refl) (goes (met fresh_built (standing [] (Some (codes "file", file ∷ [])) idle 2) (codes "--size") refl) (goes (value_step fresh_built (given (codes "file") file ∷ []) (codes "size") 2 size s) (goes (met fresh_built (standing (given (codes "file") file ∷ []) (Some (codes "size", size ∷ [])) idle 2) (codes "--id") refl) (goes (value_step fresh_built (given (codes "file") file ∷ given (codes "size") size ∷ []) (codes "id") 2 identity d) (gone fresh_built (standing (given (codes "file") file ∷ given (codes "size") size ∷ []) (Some (codes "id", identity ∷ [])) idle 2)))))) in
+    let read = read_by (file ∷ codes "--size" ∷ size ∷ codes "--id" ∷ identity ∷ []) (codes "new") fresh_built (standing (given (codes "file") file ∷ given (codes "size") size ∷ []) (Some (codes "id", identity ∷ [])) idle 2) refl refl refl walked refl refl refl in
+    record { rows = _; met = read.0; taken = read.1; holds = (refl, refl, refl, refl) }
+fresh_read file (Some size) None true h s d =
+    let walked = goes (plain_step fresh_built None 1 file h refl) (goes (met fresh_built (standing [] (Some (codes "file", file ∷ [])) idle 2) (codes "--size") refl) (goes (value_step fresh_built (given (codes "file") file ∷ []) (codes "size") 2 size s) (goes (met fresh_built (standing (given (codes "file") file ∷ []) (Some (codes "size", size ∷ [])) idle 2) (codes "--why") refl) (gone fresh_built (standing (given (codes "file") file ∷ given (codes "size") size ∷ flag_row (codes "why") true ∷ []) None idle 2))))) in
+    let read = read_by (file ∷ codes "--size" ∷ size ∷ codes "--why" ∷ []) (codes "new") fresh_built (standing (given (codes "file") file ∷ given (codes "size") size ∷ flag_row (codes "why") true ∷ []) None idle 2) refl refl refl walked refl refl refl in
+    record { rows = _; met = read.0; taken = read.1; holds = (refl, refl, refl, refl) }
+fresh_read file (Some size) None false h s d =
+    let walked = goes (plain_step fresh_built None 1 file h refl) (goes (met fresh_built (standing [] (Some (codes "file", file ∷ [])) idle 2) (codes "--size") refl) (goes (value_step fresh_built (given (codes "file") file ∷ []) (codes "size") 2 size s) (gone fresh_built (standing (given (codes "file") file ∷ []) (Some (codes "size", size ∷ [])) idle 2)))) in
+    let read = read_by (file ∷ codes "--size" ∷ size ∷ []) (codes "new") fresh_built (standing (given (codes "file") file ∷ []) (Some (codes "size", size ∷ [])) idle 2) refl refl refl walked refl refl refl in
+    record { rows = _; met = read.0; taken = read.1; holds = (refl, refl, refl, refl) }
+fresh_read file None (Some identity) true h s d =
+    let walked = goes (plain_step fresh_built None 1 file h refl) (goes (met fresh_built (standing [] (Some (codes "file", file ∷ [])) idle 2) (codes "--id") refl) (goes (value_step fresh_built (given (codes "file") file ∷ []) (codes "id") 2 identity d) (goes (met fresh_built (standing (given (codes "file") file ∷ []) (Some (codes "id", identity ∷ [])) idle 2) (codes "--why") refl) (gone fresh_built (standing (given (codes "file") file ∷ given (codes "id") identity ∷ flag_row (codes "why") true ∷ []) None idle 2))))) in
+    let read = read_by (file ∷ codes "--id" ∷ identity ∷ codes "--why" ∷ []) (codes "new") fresh_built (standing (given (codes "file") file ∷ given (codes "id") identity ∷ flag_row (codes "why") true ∷ []) None idle 2) refl refl refl walked refl refl refl in
+    record { rows = _; met = read.0; taken = read.1; holds = (refl, refl, refl, refl) }
+fresh_read file None (Some identity) false h s d =
+    let walked = goes (plain_step fresh_built None 1 file h refl) (goes (met fresh_built (standing [] (Some (codes "file", file ∷ [])) idle 2) (codes "--id") refl) (goes (value_step fresh_built (given (codes "file") file ∷ []) (codes "id") 2 identity d) (gone fresh_built (standing (given (codes "file") file ∷ []) (Some (codes "id", identity ∷ [])) idle 2)))) in
+    let read = read_by (file ∷ codes "--id" ∷ identity ∷ []) (codes "new") fresh_built (standing (given (codes "file") file ∷ []) (Some (codes "id", identity ∷ [])) idle 2) refl refl refl walked refl refl refl in
+    record { rows = _; met = read.0; taken = read.1; holds = (refl, refl, refl, refl) }
+fresh_read file None None true h s d =
+    let walked = goes (plain_step fresh_built None 1 file h refl) (goes (met fresh_built (standing [] (Some (codes "file", file ∷ [])) idle 2) (codes "--why") refl) (gone fresh_built (standing (given (codes "file") file ∷ flag_row (codes "why") true ∷ []) None idle 2))) in
+    let read = read_by (file ∷ codes "--why" ∷ []) (codes "new") fresh_built (standing (given (codes "file") file ∷ flag_row (codes "why") true ∷ []) None idle 2) refl refl refl walked refl refl refl in
+    record { rows = _; met = read.0; taken = read.1; holds = (refl, refl, refl, refl) }
+fresh_read file None None false h s d =
+    let walked = goes (plain_step fresh_built None 1 file h refl) (gone fresh_built (standing [] (Some (codes "file", file ∷ [])) idle 2)) in
+    let read = read_by (file ∷ []) (codes "new") fresh_built (standing [] (Some (codes "file", file ∷ [])) idle 2) refl refl refl walked refl refl refl in
+    record { rows = _; met = read.0; taken = read.1; holds = (refl, refl, refl, refl) }
 
 check_read : (file : Text) (strict why : Bool) → IsPlain file
     → Read (codes "check" ∷ file ∷ flag_words (codes "--strict") strict ++ flag_words (codes "--why") why) (codes "check")
@@ -484,6 +524,27 @@ mode_found mode words (inr absent) = record {
   held = λ rows first. inr (absent.0, first);
 }
 
+-- the words of a size, which may be absent
+record IsSizeFound (sectors : ℕ) (words : List Text) : Type 0 where
+  text : Option Text
+  is : words ≡ option_words (codes "--size") text
+  fits : IfSome text IsPlain
+  held : (rows : List Row) → first_of (codes "size") rows ≡ text → HoldsSize sectors rows
+
+size_found : (sectors : ℕ) (words : List Text) → IsSizeGiven sectors words → IsSizeFound sectors words
+size_found sectors words (inl some) = record {
+  text = Some some.0;
+  is = some.3;
+  fits = plain some.0 some.1;
+  held = λ rows first. inl (some.0, first, some.2);
+}
+size_found sectors words (inr absent) = record {
+  text = None;
+  is = absent.1;
+  fits = tt;
+  held = λ rows first. inr (absent.0, first);
+}
+
 -- the words of an identity, which may be absent
 record IsIdentityFound (identity : Option ℕ) (words : List Text) : Type 0 where
   text : Option Text
@@ -551,6 +612,14 @@ read_as_row (format file n version mode sparse identity) why words range (h, for
     let meant : IsReadAs (codes "format" ∷ file ∷ codes "--sectors" ∷ decimal n ∷ option_words (codes "--format") chosen.text ++ option_words (codes "--mode") moded.text ++ option_words (codes "--id") named.text ++ flag_words (codes "--sparse") sparse ++ flag_words (codes "--why") why) (format file n version mode sparse identity) why =
     (((read.rows, read.met, (held.0, (decimal n, held.1, sectors.spells), chosen.held read.rows held.2 held.3, moded.held read.rows held.4, held.6, named.held read.rows held.5)), (read.rows, read.met, held.7)), read.taken) in
     rw row (rw chosen.is (rw moded.is (rw named.is meant)))
+read_as_row (fresh file n identity) why words range (h, sizes, identities, s, d, row) =
+    let sized = size_found n sizes s in
+    let named = identity_found identity identities d in
+    let read = fresh_read file sized.text named.text why (plain file h) sized.fits named.fits in
+    let held = read.holds in
+    let meant : IsReadAs (codes "new" ∷ file ∷ option_words (codes "--size") sized.text ++ option_words (codes "--id") named.text ++ flag_words (codes "--why") why) (fresh file n identity) why =
+    (((read.rows, read.met, (held.0, sized.held read.rows held.1, named.held read.rows held.2)), (read.rows, read.met, held.3)), read.taken) in
+    rw row (rw sized.is (rw named.is meant))
 read_as_row (serve file batch pump history strict) why words range (h, batches, pumps, options, histories, b, p, order, n, row) =
     let first = optional (codes "--batch") (codes "batch") 1 1 MAX_BATCH batch batches (λ one. one) range.0.1 (omega arith) b in
     let second = optional (codes "--pump") (codes "pump") 0 1 MAX_PUMP pump pumps (λ one. one) range.1 (omega arith) p in

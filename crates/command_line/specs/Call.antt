@@ -4,15 +4,17 @@ use Rattle.std.specs.Str.Parse.{IsNumeral, digits_value, without_leading_plus}
 use Rattle.std.specs.Int.{w128, from_be_bytes}
 use Rattle.hex.specs.Hex.{decode_sized}
 use Rattle.command_line.specs.declared.call.Call.{Call}
-use Rattle.command_line.specs.declared.call.Call.TheVariants.{Format, Serve, Check, Repair, Copy, Upgrade, Mem, Deep, Salvage, Dump}
-use Rattle.command_line.specs.declared.limits.TheConstants.{MIN_SECTORS, MAX_SECTORS, MAX_MEMORY_SECTORS, MIN_FORMAT, MAX_FORMAT, MAX_BATCH, MAX_PUMP, MAX_HISTORY, HISTORY, MAX_MODE, OWNER_ALONE}
+use Rattle.command_line.specs.Sizes.{SpellsSize}
+use Rattle.command_line.specs.declared.call.Call.TheVariants.{Format, Fresh, Serve, Check, Repair, Copy, Upgrade, Mem, Deep, Salvage, Dump}
+use Rattle.command_line.specs.declared.limits.TheConstants.{MIN_SECTORS, MAX_SECTORS, MAX_MEMORY_SECTORS, MIN_FORMAT, MAX_FORMAT, MAX_BATCH, MAX_PUMP, MAX_HISTORY, HISTORY, MAX_MODE, NEW_SECTORS, OWNER_ALONE}
 
 -- A call, with the names of its files as texts. Making a file, with its sectors, its format and its mode, whether its blocks are left to be allocated as
--- they are written, and its identity if that isn't to be drawn. Serving, with the most changes of one commit, the sectors that a step of a copy writes after a change, of which 0 are none, the bytes of the newest transactions that are kept, of which 0 keep none, and whether a store whose last commit may be lost is
+-- they are written, and its identity if that isn't to be drawn. Making one in format 3, with its sectors and its identity. Serving, with the most changes of one commit, the sectors that a step of a copy writes after a change, of which 0 are none, the bytes of the newest transactions that are kept, of which 0 keep none, and whether a store whose last commit may be lost is
 -- refused, as each call that opens a store has it. Copying a file to a new one, with its sectors, its format if it isn't to be the file's, and its identity. Bringing a file to a format, with an identity.
 -- Reading all of a file. Salvaging, the documents or else the frames. Dumping a file that is only read.
 pub data Asked : Type 0 where
   format : List ℕ → ℕ → ℕ → ℕ → Bool → Option ℕ → Asked
+  fresh : List ℕ → ℕ → Option ℕ → Asked
   serve : List ℕ → ℕ → ℕ → ℕ → Bool → Asked
   check : List ℕ → Bool → Asked
   repair : List ℕ → Asked
@@ -25,6 +27,7 @@ pub data Asked : Type 0 where
 
 abbrev pub asked_of : Call → Asked
 asked_of (Format file sectors version mode sparse identity) = format file.now sectors version mode sparse identity
+asked_of (Fresh file sectors identity) = fresh file.now sectors identity
 asked_of (Serve file batch pump history strict) = serve file.now batch pump history strict
 asked_of (Check file strict) = check file.now strict
 asked_of (Repair file) = repair file.now
@@ -43,6 +46,7 @@ IsFormatNumber version = (MIN_FORMAT ≤ version) × (version ≤ MAX_FORMAT)
 abbrev pub InRange : Asked → Type 0
 InRange (format file sectors version mode sparse identity) =
     ((MIN_SECTORS ≤ sectors) × (sectors ≤ MAX_SECTORS)) × IsFormatNumber version × (mode ≤ MAX_MODE)
+InRange (fresh file sectors identity) = (MIN_SECTORS ≤ sectors) × (sectors ≤ MAX_SECTORS)
 InRange (serve file batch pump history strict) = ((1 ≤ batch) × (batch ≤ MAX_BATCH)) × (pump ≤ MAX_PUMP) × (history ≤ MAX_HISTORY)
 InRange (check file strict) = Unit {0}
 InRange (repair file) = Unit {0}
@@ -69,6 +73,11 @@ IsFormatAsked (Some version) words = words ≡ codes "--format" ∷ decimal vers
 -- the words give the bytes of the newest transactions in plain decimal; or there are none, and it is the default
 abbrev pub IsHistoryGiven : ℕ → List (List ℕ) → Type 0
 IsHistoryGiven n words = (words ≡ codes "--history" ∷ decimal n ∷ []) ⊎ ((n ≡ HISTORY) × (words ≡ []))
+
+-- the words give the size of a file, and it needs these sectors; or there are none, and it is 16 MiB
+abbrev pub IsSizeGiven : ℕ → List (List ℕ) → Type 0
+IsSizeGiven sectors words =
+    ((text : List ℕ) × IsNoOption text × SpellsSize text sectors × (words ≡ codes "--size" ∷ text ∷ [])) ⊎ ((sectors ≡ NEW_SECTORS) × (words ≡ []))
 
 -- the text spells the mode in octal, with or without a plus in front
 abbrev pub SpellsMode : List ℕ → ℕ → Type 0
@@ -102,6 +111,9 @@ abbrev pub IsRowOf : List (List ℕ) → Asked → Bool → Type 0
 IsRowOf words (format file sectors version mode sparse identity) why =
     IsNoOption file × (formats modes identities : List (List ℕ)) × IsGiven (codes "--format") 2 version formats × IsModeGiven mode modes × IsIdentityGiven identity identities
     × (words ≡ codes "format" ∷ file ∷ codes "--sectors" ∷ decimal sectors ∷ formats ++ modes ++ identities ++ flag_words (codes "--sparse") sparse ++ flag_words (codes "--why") why)
+IsRowOf words (fresh file sectors identity) why =
+    IsNoOption file × (sizes identities : List (List ℕ)) × IsSizeGiven sectors sizes × IsIdentityGiven identity identities
+    × (words ≡ codes "new" ∷ file ∷ sizes ++ identities ++ flag_words (codes "--why") why)
 IsRowOf words (serve file batch pump history strict) why =
     IsNoOption file × (batches pumps options histories : List (List ℕ)) × IsGiven (codes "--batch") 1 batch batches
     × IsGiven (codes "--pump") 0 pump pumps × InEitherOrder batches pumps options × IsHistoryGiven history histories

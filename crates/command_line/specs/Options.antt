@@ -5,8 +5,9 @@ use Rattle.clap.specs.Words.{App, IsAmong, Rule, Shape, Row, Text, fault_of, fir
 use Rattle.clap.specs.declared.error.kind.ErrorKind.TheVariants.{DisplayHelp, DisplayVersion}
 use Rattle.clap.specs.declared.builder.action.ArgAction.TheVariants.{Set, SetTrue}
 use Rattle.clap.specs.declared.builder.value_parser.ValueParser.TheVariants.{Unsigned}
-use Rattle.command_line.specs.Call.{Asked, SpellsIdentity, SpellsMode, format, serve, check, repair, copy, upgrade, mem, deep, salvage, dump}
-use Rattle.command_line.specs.declared.limits.TheConstants.{MIN_SECTORS, MAX_SECTORS, MAX_MEMORY_SECTORS, MIN_FORMAT, MAX_FORMAT, MAX_BATCH, MAX_PUMP, MAX_HISTORY, HISTORY, OWNER_ALONE}
+use Rattle.command_line.specs.Call.{Asked, SpellsIdentity, SpellsMode, format, fresh, serve, check, repair, copy, upgrade, mem, deep, salvage, dump}
+use Rattle.command_line.specs.Sizes.{SpellsSize}
+use Rattle.command_line.specs.declared.limits.TheConstants.{MIN_SECTORS, MAX_SECTORS, MAX_MEMORY_SECTORS, MIN_FORMAT, MAX_FORMAT, MAX_BATCH, MAX_PUMP, MAX_HISTORY, HISTORY, NEW_SECTORS, OWNER_ALONE}
 
 -- `FILE`, which must be there
 abbrev pub file_rule : Rule
@@ -44,6 +45,10 @@ history_rule = record (option_rule (codes "history")) { parser = Some (Unsigned 
 abbrev pub format_rule : Rule
 format_rule = record (option_rule (codes "format")) { parser = Some (Unsigned MIN_FORMAT MAX_FORMAT) }
 
+-- `--size SIZE`, which may be absent, with any text
+abbrev pub size_rule : Rule
+size_rule = option_rule (codes "size")
+
 -- `--mode MODE`, which may be absent, with any text
 abbrev pub mode_rule : Rule
 mode_rule = option_rule (codes "mode")
@@ -63,6 +68,9 @@ why_rule = flag_rule (codes "why")
 -- `--strict`
 abbrev pub strict_rule : Rule
 strict_rule = flag_rule (codes "strict")
+
+abbrev pub fresh_shape : Shape
+fresh_shape = (with_rule (with_rule (with_rule (with_rule (new_app (codes "new")) file_rule) size_rule) identity_rule) why_rule).top
 
 abbrev pub format_shape : Shape
 format_shape =
@@ -104,7 +112,8 @@ as_program app = record app { top = record app.top { has_version = true; no_bina
 
 abbrev pub app : App
 app =
-    let formats = with_subcommand (as_program (new_app (codes "jpstore"))) format_shape in
+    let news = with_subcommand (as_program (new_app (codes "jpstore"))) fresh_shape in
+    let formats = with_subcommand news format_shape in
     let serves = with_subcommand formats serve_shape in
     let checks = with_subcommand serves check_shape in
     let repairs = with_subcommand checks repair_shape in
@@ -151,6 +160,11 @@ flag_text set = if set then codes "true" else codes "false"
 abbrev pub HoldsFlag : Text → Bool → List Row → Type 0
 HoldsFlag flag set options = one_of flag options ≡ Some (flag_text set)
 
+-- the options give the size of a file by a text, and it needs these sectors, or they give none, and it is 16 MiB
+abbrev pub HoldsSize : ℕ → List Row → Type 0
+HoldsSize sectors options =
+    ((text : Text) × (first_of (codes "size") options ≡ Some text) × SpellsSize text sectors) ⊎ ((sectors ≡ NEW_SECTORS) × (first_of (codes "size") options ≡ None))
+
 -- the options give the mode by a text in octal, or they give it none, and it is that of a file that its owner alone may read and write
 abbrev pub HoldsMode : ℕ → List Row → Type 0
 HoldsMode mode options =
@@ -167,6 +181,7 @@ abbrev pub Holds : Asked → List Row → Type 0
 Holds (format file sectors version mode sparse identity) options =
     HoldsFile file options × HoldsNumber (codes "sectors") sectors options × MayHold (codes "format") 2 version options
     × HoldsMode mode options × HoldsFlag (codes "sparse") sparse options × HoldsIdentity identity options
+Holds (fresh file sectors identity) options = HoldsFile file options × HoldsSize sectors options × HoldsIdentity identity options
 Holds (serve file batch pump history strict) options =
     HoldsFile file options × MayHold (codes "batch") 1 batch options × MayHold (codes "pump") 0 pump options × HoldsHistory history options
     × HoldsFlag (codes "strict") strict options
@@ -185,6 +200,7 @@ Holds (dump file strict) options = HoldsFile file options × HoldsFlag (codes "r
 -- the command of a call
 abbrev pub name_of : Asked → Text
 name_of (format file sectors version mode sparse identity) = codes "format"
+name_of (fresh file sectors identity) = codes "new"
 name_of (serve file batch pump history strict) = codes "serve"
 name_of (check file strict) = codes "check"
 name_of (repair file) = codes "repair"
@@ -207,6 +223,7 @@ Means met asked = (options : List Row) × (met ≡ Some (name_of asked, options)
 abbrev pub HoldsWhy : Asked → Bool → List Row → Type 0
 HoldsWhy (mem sectors history) why options = why ≡ false
 HoldsWhy (format file sectors version mode sparse identity) why options = HoldsFlag (codes "why") why options
+HoldsWhy (fresh file sectors identity) why options = HoldsFlag (codes "why") why options
 HoldsWhy (serve file batch pump history strict) why options = HoldsFlag (codes "why") why options
 HoldsWhy (check file strict) why options = HoldsFlag (codes "why") why options
 HoldsWhy (repair file) why options = HoldsFlag (codes "why") why options

@@ -2,15 +2,16 @@
 ghost use Rattle.std.specs.Prelude.{◌≡◌, ◌⊎◌, ◌≤◌, ◌<◌, ◌^◌, ℕ, Bool, List, Option, IfOk, IfErr, IfSome, IsSomeAnd, Some, codes, map, option_map, MatchResult};
 ghost use Rattle.clap.specs.Words.{fault_of, first_of, found_of, HasKind, IsAmong, kind_of, rows_of, subcommand_of, subcommand_rows_of};
 ghost use Rattle.clap.specs.declared.error.kind.ErrorKind.TheVariants.{InvalidValue, OutOfMemory};
-ghost use Rattle.command_line.specs.Call.{Asked, InRange, IsFormatNumber, IsRowOf, SpellsIdentity, SpellsMode, asked_of, check, copy, deep, dump, format, mem, repair, salvage, serve, upgrade};
-ghost use Rattle.command_line.specs.Options.{app, Holds, HoldsFlag, HoldsFormat, HoldsHistory, HoldsIdentity, HoldsMode, HoldsNumber, IsMet, MayHold, Means, MeansWhy};
-ghost use Rattle.command_line.specs.declared.limits.TheConstants.{MAX_BATCH, MAX_FORMAT, MAX_HISTORY, MAX_MODE, MAX_PUMP, MIN_FORMAT, MIN_SECTORS};
+ghost use Rattle.command_line.specs.Call.{Asked, InRange, IsFormatNumber, IsRowOf, SpellsIdentity, SpellsMode, asked_of, check, copy, deep, dump, format, fresh, mem, repair, salvage, serve, upgrade};
+ghost use Rattle.command_line.specs.Options.{app, Holds, HoldsFlag, HoldsFormat, HoldsHistory, HoldsIdentity, HoldsMode, HoldsNumber, HoldsSize, IsMet, MayHold, Means, MeansWhy};
+ghost use Rattle.command_line.specs.declared.limits.TheConstants.{MAX_BATCH, MAX_FORMAT, MAX_HISTORY, MAX_MODE, MAX_PUMP, MAX_SECTORS, MIN_FORMAT, MIN_SECTORS};
 
 use crate::command::program;
 use crate::limits::{
     HISTORY, MAX_BATCH, MAX_FORMAT, MAX_HISTORY, MAX_MEMORY_SECTORS, MAX_MODE, MAX_PUMP,
-    MAX_SECTORS, MIN_FORMAT, MIN_SECTORS, OWNER_ALONE,
+    MAX_SECTORS, MIN_FORMAT, MIN_SECTORS, NEW_SECTORS, OWNER_ALONE,
 };
+use crate::sizes::sectors_of_size;
 use clap::error::ErrorKind;
 use clap::{ArgMatches, Error};
 use hex::FromHex;
@@ -28,6 +29,13 @@ pub enum Call<'a> {
         format: u64,
         mode: u32,
         sparse: bool,
+        identity: Option<u128>,
+    },
+    /// Make a file of that many sectors, with an empty store of format 3 in it, which its owner alone may read and write.
+    /// `None`: its identity is to be drawn.
+    Fresh {
+        file: &'a str,
+        sectors: u64,
         identity: Option<u128>,
     },
     /// Serve lines over the store in a file. One commit takes up to `batch` changes, 1 for each by itself; after a
@@ -101,8 +109,8 @@ pub struct Order<'a> {
 ///
 /// The call is what the words mean to `clap`, however they are written: `--sectors=16`, or an option before FILE. If
 /// `--format` is absent, its number is 2 for a new file and 3 for an upgrade, and a copy asks for none; the number of an absent `--batch` is 1, that of `--pump`
-/// 0, that of `--history` 16,777,216, and the mode is 0600. Refuses, by `clap`'s own errors, what is no call, an option or a flag that is given twice,
-/// a number out of the range of its option, a mode that is no octal number up to 0777, an identity that isn't 32 hexadecimal digits, a dump that isn't to be only
+/// 0, that of `--history` 16,777,216, the mode is 0600, and the size of a file that `new` makes is 16 MiB. Refuses, by `clap`'s own errors, what is no call, an option or a flag that is given twice,
+/// a number out of the range of its option, a mode that is no octal number up to 0777, a size that isn't digits with `K`, `M`, `G` or nothing after them, an identity that isn't 32 hexadecimal digits, a dump that isn't to be only
 /// read, and a request for help; it also fails if memory runs out. Words that are a call's row fail only if memory runs out; in a row no file begins with a
 /// hyphen, since such a word is read as an option.
 pub fn order_of<'a>(alloc: Global, words: &'a [&'a str]) -> Result<Order<'a>, Error>
@@ -136,6 +144,8 @@ fn wrong_text(alloc: Global, matches: &ArgMatches) -> Result<Error, Error>
 fn wrong_in(name: &str, options: &ArgMatches) -> &'static str {
     if matches!(name, "dump") {
         "'dump' lacks '--read-only'"
+    } else if size_in(options).is_none() {
+        "the value of '--size' isn't a size such as 512K, 16M or 2G, up to 2048G"
     } else if mode_in(options).is_some() {
         "the value of '--id' isn't 32 hexadecimal digits"
     } else {
@@ -188,6 +198,7 @@ fn call_in<'a>(matches: &ArgMatches<'a>) -> Option<Call<'a>>
 {
     let (name, options) = matches.subcommand()?;
     match name {
+        "new" => fresh_in(options),
         "format" => format_in(options),
         "serve" => serve_in(options),
         "check" => check_in(options),
@@ -219,6 +230,22 @@ fn format_in<'a>(options: &ArgMatches<'a>) -> Option<Call<'a>>
         format,
         mode,
         sparse,
+        identity,
+    })
+}
+
+fn fresh_in<'a>(options: &ArgMatches<'a>) -> Option<Call<'a>>
+    ensures in_range { IfSome result (λ call. InRange (asked_of call)) }
+    ensures sound { IfSome result (λ call. IsMet (codes "new") (rows_of (found_of options.now)) (asked_of call)) }
+    ensures meant { (file : List ℕ) (sectors : ℕ) (identity : Option ℕ) → InRange (fresh file sectors identity)
+        → Holds (fresh file sectors identity) (rows_of (found_of options.now)) → option_map asked_of result ≡ Some (fresh file sectors identity) }
+{
+    let file = file_in(options)?;
+    let sectors = size_in(options)?;
+    let identity = identity_in(options)?;
+    Some(Call::Fresh {
+        file,
+        sectors,
         identity,
     })
 }
@@ -365,6 +392,18 @@ fn sectors_in(options: &ArgMatches, most: u64) -> Option<u64>
     ensures held { (n : ℕ) → MIN_SECTORS ≤ n → n ≤ most → HoldsNumber (codes "sectors") n (rows_of (found_of options.now)) → result ≡ Some n }
 {
     number_in(options, "sectors", MIN_SECTORS, most)
+}
+
+// The number of sectors of the size that the options give, if it is in the range, or its default if they give none.
+fn size_in(options: &ArgMatches) -> Option<u64>
+    ensures in_range { IfSome result (λ n. (MIN_SECTORS ≤ n) × (n ≤ MAX_SECTORS)) }
+    ensures sound { IfSome result (λ n. HoldsSize n (rows_of (found_of options.now))) }
+    ensures held { (n : ℕ) → MIN_SECTORS ≤ n → n ≤ MAX_SECTORS → HoldsSize n (rows_of (found_of options.now)) → result ≡ Some n }
+{
+    match options.get_str("size") {
+        Some(text) => sectors_of_size(text),
+        None => Some(NEW_SECTORS),
+    }
 }
 
 // The number of the format that the options hold, if it is in the range, or its default if they hold none.

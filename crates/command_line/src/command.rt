@@ -3,7 +3,7 @@ ghost use Rattle.std.specs.Prelude.{◌≡◌, IfOk, IfErr, codes, false};
 ghost use Rattle.clap.specs.Words.{app_of, kind_of, rule_of, shape_of};
 ghost use Rattle.clap.specs.declared.error.kind.ErrorKind.TheVariants.{OutOfMemory};
 ghost use Rattle.clap.specs.declared.builder.command.Command.TheViews.{out-Command as fields_of};
-ghost use Rattle.command_line.specs.Options.{app, batch_rule, check_shape, copy_shape, dump_shape, file_rule, flag_rule, format_rule, format_shape, history_rule, identity_rule, mem_shape, mode_rule, option_rule, pump_rule, repair_shape, salvage_shape, sectors_up_to, serve_shape, strict_rule, target_rule, upgrade_shape, why_rule};
+ghost use Rattle.command_line.specs.Options.{app, batch_rule, check_shape, copy_shape, dump_shape, file_rule, flag_rule, format_rule, format_shape, fresh_shape, history_rule, identity_rule, mem_shape, mode_rule, option_rule, pump_rule, repair_shape, salvage_shape, sectors_up_to, serve_shape, size_rule, strict_rule, target_rule, upgrade_shape, why_rule};
 ghost use Rattle.command_line.specs.declared.limits.TheConstants.{MAX_BATCH, MAX_HISTORY, MAX_MEMORY_SECTORS, MAX_PUMP, MAX_SECTORS};
 
 use crate::limits::{
@@ -77,6 +77,18 @@ fn identity_option<'a>(alloc: Global) -> Arg<'a>
         "id",
         "HEX",
         "Identity of the store in format 3, 32 hexadecimal digits; random if absent. Format 2 has none",
+    )
+}
+
+fn size_option<'a>(alloc: Global) -> Arg<'a>
+    ensures rule { rule_of result ≡ size_rule }
+    ensures local { result.global ≡ false }
+{
+    text_option(
+        alloc,
+        "size",
+        "SIZE",
+        "Size of the file, such as 512K, 16M or 2G, in powers of 1024, or in bytes, 80K to 2048G; 16M if absent",
     )
 }
 
@@ -225,13 +237,31 @@ fn read_only_flag<'a>(alloc: Global) -> Arg<'a>
     )
 }
 
+fn new_command<'a>(alloc: Global) -> Result<Command<'a>, Error>
+    ensures shape { IfOk result (λ c. shape_of c ≡ fresh_shape) }
+    ensures local { IfOk result (λ c. (fields_of c).has_globals ≡ false) }
+    ensures memory { IfErr result (λ e. kind_of e ≡ OutOfMemory) }
+{
+    let new = Command::new(alloc, "new")
+        .about(
+            "Make a file with an empty store of format 3 in it, which its owner alone may read and write",
+        )
+        .arg(file_argument(alloc, "The file to make; it must not exist"))?
+        .arg(size_option(alloc))?
+        .arg(identity_option(alloc))?
+        .arg(why_flag(alloc))?;
+    Ok(new)
+}
+
 fn format_command<'a>(alloc: Global) -> Result<Command<'a>, Error>
     ensures shape { IfOk result (λ c. shape_of c ≡ format_shape) }
     ensures local { IfOk result (λ c. (fields_of c).has_globals ≡ false) }
     ensures memory { IfErr result (λ e. kind_of e ≡ OutOfMemory) }
 {
     let format = Command::new(alloc, "format")
-        .about("Make a file with an empty store in it")
+        .about(
+            "Make a file with an empty store of format 2 in it, or of the format that `--format` says; `new` makes one of format 3",
+        )
         .arg(file_argument(alloc, "The file to make; it must not exist"))?
         .arg(file_sectors(alloc))?
         .arg(format_option(
@@ -395,6 +425,7 @@ pub(crate) fn program<'a>(alloc: Global) -> Result<Command<'a>, Error>
         .version(VERSION)
         .no_binary_name(true)
         .subcommand_required(true)
+        .subcommand(new_command(alloc)?)?
         .subcommand(format_command(alloc)?)?
         .subcommand(serve_command(alloc)?)?
         .subcommand(check_command(alloc)?)?

@@ -8,6 +8,7 @@
 mod call;
 mod command;
 pub mod limits;
+mod sizes;
 mod version;
 
 pub use call::{Call, Order, order_of};

@@ -9,6 +9,9 @@ pub const MAX_SECTORS: u64 = 4_294_967_296;
 /// The most sectors of a device in memory.
 pub const MAX_MEMORY_SECTORS: u64 = 1_048_576;
 
+/// The sectors of a new file whose size isn't said: 16 MiB.
+pub const NEW_SECTORS: u64 = 32_768;
+
 /// The oldest format in which a file is made.
 pub const MIN_FORMAT: u64 = 2;
 

@@ -1,7 +1,7 @@
 -- The work of a program for a call, by what it kept.
 use Rattle.std.specs.Prelude.{◌≡◌, ℕ, List, [], Bool, Option, Result, Ok, Err, IfOk, MatchResult, false, true, nat_eq}
 use Rattle.std.specs.declared.snapshot.Snapshot.{Snapshot}
-use Rattle.command_line.specs.Call.{Asked, format, serve, check, repair, copy, upgrade, mem, deep, salvage, dump}
+use Rattle.command_line.specs.Call.{Asked, format, fresh, serve, check, repair, copy, upgrade, mem, deep, salvage, dump}
 use Rattle.store_journal.specs.Layout.{capacity_of}
 use Rattle.doc_store.specs.declared.opening.Strictness.{Strictness}
 use Rattle.doc_store.specs.declared.opening.Strictness.TheVariants.{AnyState}
@@ -85,6 +85,8 @@ IsRefused strictness held unopened before after = IsUnopenedBy strictness held u
 abbrev pub Does : Snapshot Held → Asked → Kept → Option (List ℕ) → Option (List ℕ) → Option (List ℕ) → Option (List ℕ) → Type 0
 Does held (format file sectors version mode sparse identity) (Formatted made) left left_new before after =
     IfOk made (IsFormattedFile sectors version identity) × Shows made (line_of (format_reply (capacity_of (nat_eq version 3) sectors) sectors)) before after × (left_new ≡ left)
+Does held (fresh file sectors identity) (Formatted made) left left_new before after =
+    IfOk made (IsFormattedFile sectors 3 identity) × Shows made (line_of (format_reply (capacity_of true sectors) sectors)) before after × (left_new ≡ left)
 Does held (serve file batch pump limit strict) (Served served) left left_new before after =
     MatchResult served (λ closed. IsServing held batch pump limit strict closed left left_new before after) (λ unopened. IsRefused (strictness_of strict) held unopened before after × (left_new ≡ left))
 Does held (check file strict) (Checked checked) left left_new before after =

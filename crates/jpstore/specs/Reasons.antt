@@ -1,6 +1,6 @@
 -- The reasons why a file is not made or opened, as a line on standard error.
 use Rattle.std.specs.Prelude.{ℕ, List, Bool, Option, Some, None, pos, codes, if◌then◌else◌, option_map}
-use Rattle.command_line.specs.Call.{Asked, format, serve, check, repair, copy, upgrade, mem, deep, salvage, dump}
+use Rattle.command_line.specs.Call.{Asked, format, fresh, serve, check, repair, copy, upgrade, mem, deep, salvage, dump}
 use Rattle.doc_tree.specs.Doc.{Doc, int, text, object, member, no_members}
 use Rattle.file_device.specs.Fault.{word_of}
 use Rattle.file_device.specs.declared.fault.SystemFault.{SystemFault}
@@ -11,6 +11,7 @@ use Rattle.file_programs.specs.declared.fault.Fault.TheVariants as told
 -- FILE of a call
 abbrev pub file_of : Asked → Option (List ℕ)
 file_of (format file sectors version mode sparse identity) = Some file
+file_of (fresh file sectors identity) = Some file
 file_of (serve file batch pump history strict) = Some file
 file_of (check file strict) = Some file
 file_of (repair file) = Some file
@@ -25,6 +26,7 @@ file_of (dump file strict) = Some file
 abbrev pub new_of : Asked → Option (List ℕ)
 new_of (copy file new sectors version identity strict) = Some new
 new_of (format file sectors version mode sparse identity) = None
+new_of (fresh file sectors identity) = None
 new_of (serve file batch pump history strict) = None
 new_of (check file strict) = None
 new_of (repair file) = None

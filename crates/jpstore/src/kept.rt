@@ -14,7 +14,7 @@ use store_parts::Findings;
 /// What a program kept, by the call that asked for it: the device or the store, as it then is, or why there is none.
 #[derive(Drop)]
 pub enum Kept {
-    /// `format`: the device of the new file.
+    /// `format` or `new`: the device of the new file.
     Formatted(Result<FileDevice, Fault>),
     /// `serve`
     Served(Result<Closed, Unopened>),

@@ -57,6 +57,7 @@ fn file_in<'a>(call: &Call<'a>) -> Option<&'a str>
 {
     match call {
         Call::Format { file, .. }
+        | Call::Fresh { file, .. }
         | Call::Serve { file, .. }
         | Call::Check { file, .. }
         | Call::Repair { file }

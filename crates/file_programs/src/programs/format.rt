@@ -1,4 +1,4 @@
-//! `format FILE --sectors N [--format N] [--mode MODE] [--id HEX] [--sparse]`
+//! `format FILE --sectors N [--format N] [--mode MODE] [--id HEX] [--sparse]`, and `new FILE [--size SIZE] [--id HEX]`
 
 ghost use Rattle.std.specs.Prelude.{◌≡◌, ◌≤◌, IfOk, nat_eq};
 ghost use Rattle.command_line.specs.declared.limits.TheConstants.{MAX_SECTORS, MIN_SECTORS};
@@ -22,7 +22,7 @@ use std::io::Write;
 use std::rt::Files;
 use store_journal::geometry::capacity;
 
-/// What `format` is to make.
+/// What `format` or `new` is to make.
 #[derive(Clone, Copy)]
 pub struct NewFile<'a> {
     /// The path, at which nothing may exist.

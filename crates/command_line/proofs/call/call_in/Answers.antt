@@ -1,10 +1,32 @@
 use Rattle.std.proofs.Common.{◌≡◌, ◌∙◌, Some, codes, option_map, refl, false}
 use Rattle.std.specs.Str.{bytes_eq}
 use Rattle.clap.specs.Words.{found_of, rows_of, subcommand_rows_of}
-use Rattle.command_line.specs.Call.{Asked, InRange, asked_of, format, serve, check, repair, copy, upgrade, mem, deep, salvage, dump}
+use Rattle.command_line.specs.Call.{Asked, InRange, asked_of, format, fresh, serve, check, repair, copy, upgrade, mem, deep, salvage, dump}
 use Rattle.command_line.specs.Options.{IsMet, Means, name_of}
 use Rattle.command_line.proofs.Meant.{differ, is_met}
 use Rattle.command_line.proofs.call.call_in.Goals as goal
+
+pub returns-in-new-clause-meant : goal.returns-in-new-clause-meant
+returns-in-new-clause-meant c = go
+  where
+    met : (asked : Asked) → Means (subcommand_rows_of c.args.matches.now) asked → IsMet c.in_ok-name.name.now (rows_of (found_of c.in_ok-name.options.now)) asked
+    met asked m = is_met _ _ _ c.in_ok-name.name.now (rows_of (found_of c.in_ok-name.options.now)) asked c.in_ok-name.ensures.name c.in_ok-name.ensures.rows m
+
+    other : {A : Type 0} (asked : Asked) → Means (subcommand_rows_of c.args.matches.now) asked → bytes_eq (name_of asked) (codes "new") ≡ false → A
+    other asked m apart = differ (name_of asked) (codes "new") apart ((met asked m).0 ∙ c.in-new.is)
+
+    go : (asked : Asked) → InRange asked → Means (subcommand_rows_of c.args.matches.now) asked → option_map asked_of c.fresh_in.result ≡ Some asked
+    go (format file n version mode sparse identity) range m = other (format file n version mode sparse identity) m refl
+    go (fresh file n identity) range m = c.fresh_in.ensures.meant file n identity range (met (fresh file n identity) m).1
+    go (serve file batch pump history strict) range m = other (serve file batch pump history strict) m refl
+    go (check file strict) range m = other (check file strict) m refl
+    go (repair file) range m = other (repair file) m refl
+    go (copy file new n version identity strict) range m = other (copy file new n version identity strict) m refl
+    go (upgrade file version identity strict) range m = other (upgrade file version identity strict) m refl
+    go (mem n history) range m = other (mem n history) m refl
+    go (deep file) range m = other (deep file) m refl
+    go (salvage file frames) range m = other (salvage file frames) m refl
+    go (dump file strict) range m = other (dump file strict) m refl
 
 pub returns-in-format-clause-meant : goal.returns-in-format-clause-meant
 returns-in-format-clause-meant c = go
@@ -17,6 +39,7 @@ returns-in-format-clause-meant c = go
 
     go : (asked : Asked) → InRange asked → Means (subcommand_rows_of c.args.matches.now) asked → option_map asked_of c.format_in.result ≡ Some asked
     go (format file n version mode sparse identity) range m = c.format_in.ensures.meant file n version mode sparse identity range (met (format file n version mode sparse identity) m).1
+    go (fresh file n identity) range m = other (fresh file n identity) m refl
     go (serve file batch pump history strict) range m = other (serve file batch pump history strict) m refl
     go (check file strict) range m = other (check file strict) m refl
     go (repair file) range m = other (repair file) m refl
@@ -38,6 +61,7 @@ returns-in-serve-clause-meant c = go
 
     go : (asked : Asked) → InRange asked → Means (subcommand_rows_of c.args.matches.now) asked → option_map asked_of c.serve_in.result ≡ Some asked
     go (format file n version mode sparse identity) range m = other (format file n version mode sparse identity) m refl
+    go (fresh file n identity) range m = other (fresh file n identity) m refl
     go (serve file batch pump history strict) range m = c.serve_in.ensures.meant file batch pump history strict range (met (serve file batch pump history strict) m).1
     go (check file strict) range m = other (check file strict) m refl
     go (repair file) range m = other (repair file) m refl
@@ -59,6 +83,7 @@ returns-in-copy-clause-meant c = go
 
     go : (asked : Asked) → InRange asked → Means (subcommand_rows_of c.args.matches.now) asked → option_map asked_of c.copy_in.result ≡ Some asked
     go (format file n version mode sparse identity) range m = other (format file n version mode sparse identity) m refl
+    go (fresh file n identity) range m = other (fresh file n identity) m refl
     go (serve file batch pump history strict) range m = other (serve file batch pump history strict) m refl
     go (check file strict) range m = other (check file strict) m refl
     go (repair file) range m = other (repair file) m refl
@@ -80,6 +105,7 @@ returns-in-upgrade-clause-meant c = go
 
     go : (asked : Asked) → InRange asked → Means (subcommand_rows_of c.args.matches.now) asked → option_map asked_of c.upgrade_in.result ≡ Some asked
     go (format file n version mode sparse identity) range m = other (format file n version mode sparse identity) m refl
+    go (fresh file n identity) range m = other (fresh file n identity) m refl
     go (serve file batch pump history strict) range m = other (serve file batch pump history strict) m refl
     go (check file strict) range m = other (check file strict) m refl
     go (repair file) range m = other (repair file) m refl
@@ -101,6 +127,7 @@ returns-in-mem-clause-meant c = go
 
     go : (asked : Asked) → InRange asked → Means (subcommand_rows_of c.args.matches.now) asked → option_map asked_of c.mem_in.result ≡ Some asked
     go (format file n version mode sparse identity) range m = other (format file n version mode sparse identity) m refl
+    go (fresh file n identity) range m = other (fresh file n identity) m refl
     go (serve file batch pump history strict) range m = other (serve file batch pump history strict) m refl
     go (check file strict) range m = other (check file strict) m refl
     go (repair file) range m = other (repair file) m refl
@@ -122,6 +149,7 @@ returns-in-check-clause-meant c = go
 
     go : (asked : Asked) → InRange asked → Means (subcommand_rows_of c.args.matches.now) asked → option_map asked_of c.check_in.result ≡ Some asked
     go (format file n version mode sparse identity) range m = other (format file n version mode sparse identity) m refl
+    go (fresh file n identity) range m = other (fresh file n identity) m refl
     go (serve file batch pump history strict) range m = other (serve file batch pump history strict) m refl
     go (check file strict) range m = c.check_in.ensures.meant file strict (met (check file strict) m).1
     go (repair file) range m = other (repair file) m refl
@@ -143,6 +171,7 @@ returns-in-salvage-clause-meant c = go
 
     go : (asked : Asked) → InRange asked → Means (subcommand_rows_of c.args.matches.now) asked → option_map asked_of c.salvage_in.result ≡ Some asked
     go (format file n version mode sparse identity) range m = other (format file n version mode sparse identity) m refl
+    go (fresh file n identity) range m = other (fresh file n identity) m refl
     go (serve file batch pump history strict) range m = other (serve file batch pump history strict) m refl
     go (check file strict) range m = other (check file strict) m refl
     go (repair file) range m = other (repair file) m refl
@@ -164,6 +193,7 @@ returns-in-dump-clause-meant c = go
 
     go : (asked : Asked) → InRange asked → Means (subcommand_rows_of c.args.matches.now) asked → option_map asked_of c.dump_in.result ≡ Some asked
     go (format file n version mode sparse identity) range m = other (format file n version mode sparse identity) m refl
+    go (fresh file n identity) range m = other (fresh file n identity) m refl
     go (serve file batch pump history strict) range m = other (serve file batch pump history strict) m refl
     go (check file strict) range m = other (check file strict) m refl
     go (repair file) range m = other (repair file) m refl
