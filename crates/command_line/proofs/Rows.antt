@@ -39,21 +39,30 @@ abbrev mem_built : Shape
 mem_built = built_for (codes "mem")
 
 -- what is found for the arguments of `mem`
-abbrev FoundMem : Text → Option Text → List Row → Type 0
-FoundMem sectors history rows =
-    (one_of (codes "sectors") rows ≡ Some sectors) × (one_of (codes "history") rows ≡ history) × (first_of (codes "history") rows ≡ history)
+abbrev FoundMem : Text → Option Text → Option Text → List Row → Type 0
+FoundMem sectors version history rows =
+    (one_of (codes "sectors") rows ≡ Some sectors) × (one_of (codes "format") rows ≡ version) × (first_of (codes "format") rows ≡ version)
+    × (one_of (codes "history") rows ≡ history) × (first_of (codes "history") rows ≡ history)
 
-mem_read : (sectors : Text) (history : Option Text) → IsChecked MIN_SECTORS MAX_MEMORY_SECTORS sectors → IfSome history (IsChecked 0 MAX_HISTORY)
-    → Read (codes "mem" ∷ codes "--sectors" ∷ sectors ∷ option_words (codes "--history") history) (codes "mem") (FoundMem sectors history)
+mem_read : (sectors : Text) (version history : Option Text) → IsChecked MIN_SECTORS MAX_MEMORY_SECTORS sectors → IfSome version (IsChecked MIN_FORMAT MAX_FORMAT) → IfSome history (IsChecked 0 MAX_HISTORY)
+    → Read (codes "mem" ∷ codes "--sectors" ∷ sectors ∷ option_words (codes "--format") version ++ option_words (codes "--history") history) (codes "mem") (FoundMem sectors version history)
 unfolding clap_on_literals
-mem_read sectors (Some history) s n =
+mem_read sectors (Some version) (Some history) s v n =
+    let walked = goes (met mem_built (walk_from nothing_held) (codes "--sectors") refl) (goes (value_step mem_built [] (codes "sectors") 1 sectors s.0) (goes (met mem_built (standing [] (Some (codes "sectors", sectors ∷ [])) idle 1) (codes "--format") (simp s.1)) (goes (value_step mem_built (given (codes "sectors") sectors ∷ []) (codes "format") 1 version v.0) (goes (met mem_built (standing (given (codes "sectors") sectors ∷ []) (Some (codes "format", version ∷ [])) idle 1) (codes "--history") (simp v.1)) (goes (value_step mem_built (given (codes "sectors") sectors ∷ given (codes "format") version ∷ []) (codes "history") 1 history n.0) (gone mem_built (standing (given (codes "sectors") sectors ∷ given (codes "format") version ∷ []) (Some (codes "history", history ∷ [])) idle 1))))))) in
+    let read = read_by (codes "--sectors" ∷ sectors ∷ codes "--format" ∷ version ∷ codes "--history" ∷ history ∷ []) (codes "mem") mem_built (standing (given (codes "sectors") sectors ∷ given (codes "format") version ∷ []) (Some (codes "history", history ∷ [])) idle 1) refl refl refl walked (simp n.1) refl refl in
+    record { rows = _; met = read.0; taken = read.1; holds = (refl, refl, refl, refl, refl) }
+mem_read sectors (Some version) None s v n =
+    let walked = goes (met mem_built (walk_from nothing_held) (codes "--sectors") refl) (goes (value_step mem_built [] (codes "sectors") 1 sectors s.0) (goes (met mem_built (standing [] (Some (codes "sectors", sectors ∷ [])) idle 1) (codes "--format") (simp s.1)) (goes (value_step mem_built (given (codes "sectors") sectors ∷ []) (codes "format") 1 version v.0) (gone mem_built (standing (given (codes "sectors") sectors ∷ []) (Some (codes "format", version ∷ [])) idle 1))))) in
+    let read = read_by (codes "--sectors" ∷ sectors ∷ codes "--format" ∷ version ∷ []) (codes "mem") mem_built (standing (given (codes "sectors") sectors ∷ []) (Some (codes "format", version ∷ [])) idle 1) refl refl refl walked (simp v.1) refl refl in
+    record { rows = _; met = read.0; taken = read.1; holds = (refl, refl, refl, refl, refl) }
+mem_read sectors None (Some history) s v n =
     let walked = goes (met mem_built (walk_from nothing_held) (codes "--sectors") refl) (goes (value_step mem_built [] (codes "sectors") 1 sectors s.0) (goes (met mem_built (standing [] (Some (codes "sectors", sectors ∷ [])) idle 1) (codes "--history") (simp s.1)) (goes (value_step mem_built (given (codes "sectors") sectors ∷ []) (codes "history") 1 history n.0) (gone mem_built (standing (given (codes "sectors") sectors ∷ []) (Some (codes "history", history ∷ [])) idle 1))))) in
     let read = read_by (codes "--sectors" ∷ sectors ∷ codes "--history" ∷ history ∷ []) (codes "mem") mem_built (standing (given (codes "sectors") sectors ∷ []) (Some (codes "history", history ∷ [])) idle 1) refl refl refl walked (simp n.1) refl refl in
-    record { rows = _; met = read.0; taken = read.1; holds = (refl, refl, refl) }
-mem_read sectors None s n =
+    record { rows = _; met = read.0; taken = read.1; holds = (refl, refl, refl, refl, refl) }
+mem_read sectors None None s v n =
     let walked = goes (met mem_built (walk_from nothing_held) (codes "--sectors") refl) (goes (value_step mem_built [] (codes "sectors") 1 sectors s.0) (gone mem_built (standing [] (Some (codes "sectors", sectors ∷ [])) idle 1))) in
     let read = read_by (codes "--sectors" ∷ sectors ∷ []) (codes "mem") mem_built (standing [] (Some (codes "sectors", sectors ∷ [])) idle 1) refl refl refl walked (simp s.1) refl refl in
-    record { rows = _; met = read.0; taken = read.1; holds = (refl, refl, refl) }
+    record { rows = _; met = read.0; taken = read.1; holds = (refl, refl, refl, refl, refl) }
 
 fresh_read : (file : Text) (size identity : Option Text) (why : Bool) → IsPlain file → IfSome size IsPlain → IfSome identity IsPlain
     → Read (codes "new" ∷ file ∷ option_words (codes "--size") size ++ option_words (codes "--id") identity ++ flag_words (codes "--why") why) (codes "new")
@@ -652,14 +661,15 @@ read_as_row (upgrade file version identity strict) why words range (h, formats, 
     let meant : IsReadAs (codes "upgrade" ∷ file ∷ option_words (codes "--format") chosen.text ++ option_words (codes "--id") named.text ++ flag_words (codes "--strict") strict ++ flag_words (codes "--why") why) (upgrade file version identity strict) why =
     (((read.rows, read.met, (held.0, chosen.held read.rows held.1 held.2, named.held read.rows held.3, held.4)), (read.rows, read.met, held.5)), read.taken) in
     rw row (rw chosen.is (rw named.is meant))
-read_as_row (mem n history) why words range (histories, given, row, asks) =
+read_as_row (mem n version history) why words range (formats, histories, v, given, row, asks) =
     let sectors = number n MIN_SECTORS MAX_MEMORY_SECTORS (decimal n) range.0.0 range.0.1 (omega arith) refl in
-    let found = history_found history histories range.1 given in
-    let read = mem_read (decimal n) found.text (checked n MIN_SECTORS MAX_MEMORY_SECTORS (decimal n) sectors) found.fits in
+    let chosen = optional (codes "--format") (codes "format") 2 MIN_FORMAT MAX_FORMAT version formats (λ one. range.1.0) range.1.1 (omega arith) v in
+    let found = history_found history histories range.2 given in
+    let read = mem_read (decimal n) chosen.text found.text (checked n MIN_SECTORS MAX_MEMORY_SECTORS (decimal n) sectors) chosen.fits found.fits in
     let held = read.holds in
-    let meant : IsReadAs (codes "mem" ∷ codes "--sectors" ∷ decimal n ∷ option_words (codes "--history") found.text) (mem n history) false =
-    (((read.rows, read.met, ((decimal n, held.0, sectors.spells), found.held read.rows held.1 held.2)), (read.rows, read.met, refl)), read.taken) in
-    rw asks (rw row (rw found.is meant))
+    let meant : IsReadAs (codes "mem" ∷ codes "--sectors" ∷ decimal n ∷ option_words (codes "--format") chosen.text ++ option_words (codes "--history") found.text) (mem n version history) false =
+    (((read.rows, read.met, ((decimal n, held.0, sectors.spells), chosen.held read.rows held.1 held.2, found.held read.rows held.3 held.4)), (read.rows, read.met, refl)), read.taken) in
+    rw asks (rw row (rw chosen.is (rw found.is meant)))
 read_as_row (deep file) why words range row =
     let read = deep_read file why (plain file row.0) in
     let held = read.holds in

@@ -11,7 +11,7 @@ use Rattle.command_line.specs.declared.limits.TheConstants.{MIN_SECTORS, MAX_SEC
 -- A call, with the names of its files as texts. Making a file, with its sectors, its format and its mode, whether its blocks are left to be allocated as
 -- they are written, and its identity if that isn't to be drawn. Making one in format 3, with its sectors and its identity. Serving, with the most changes of one commit, the sectors that a step of a copy writes after a change, of which 0 are none, the bytes of the newest transactions that are kept, of which 0 keep none, and whether a store whose last commit may be lost is
 -- refused, as each call that opens a store has it. Copying a file to a new one, with its sectors, its format if it isn't to be the file's, and its identity. Bringing a file to a format, with an identity.
--- Reading all of a file. Salvaging, the documents or else the frames. Dumping a file that is only read.
+-- Serving a store in memory, with its sectors, its format and the bytes of the newest transactions. Reading all of a file. Salvaging, the documents or else the frames. Dumping a file that is only read.
 pub data Asked : Type 0 where
   format : List ℕ → ℕ → ℕ → ℕ → Bool → Option ℕ → Asked
   fresh : List ℕ → ℕ → Option ℕ → Asked
@@ -20,7 +20,7 @@ pub data Asked : Type 0 where
   repair : List ℕ → Asked
   copy : List ℕ → List ℕ → ℕ → Option ℕ → Option ℕ → Bool → Asked
   upgrade : List ℕ → ℕ → Option ℕ → Bool → Asked
-  mem : ℕ → ℕ → Asked
+  mem : ℕ → ℕ → ℕ → Asked
   deep : List ℕ → Asked
   salvage : List ℕ → Bool → Asked
   dump : List ℕ → Bool → Asked
@@ -33,7 +33,7 @@ asked_of (Check file strict) = check file.now strict
 asked_of (Repair file) = repair file.now
 asked_of (Copy file new sectors version identity strict) = copy file.now new.now sectors version identity strict
 asked_of (Upgrade file version identity strict) = upgrade file.now version identity strict
-asked_of (Mem sectors history) = mem sectors history
+asked_of (Mem sectors version history) = mem sectors version history
 asked_of (Deep file) = deep file.now
 asked_of (Salvage file frames) = salvage file.now frames
 asked_of (Dump file strict) = dump file.now strict
@@ -52,7 +52,7 @@ InRange (check file strict) = Unit {0}
 InRange (repair file) = Unit {0}
 InRange (copy file new sectors version identity strict) = ((MIN_SECTORS ≤ sectors) × (sectors ≤ MAX_SECTORS)) × IfSome version IsFormatNumber
 InRange (upgrade file version identity strict) = IsFormatNumber version
-InRange (mem sectors history) = ((MIN_SECTORS ≤ sectors) × (sectors ≤ MAX_MEMORY_SECTORS)) × (history ≤ MAX_HISTORY)
+InRange (mem sectors version history) = ((MIN_SECTORS ≤ sectors) × (sectors ≤ MAX_MEMORY_SECTORS)) × IsFormatNumber version × (history ≤ MAX_HISTORY)
 InRange (deep file) = Unit {0}
 InRange (salvage file frames) = Unit {0}
 InRange (dump file strict) = Unit {0}
@@ -126,8 +126,9 @@ IsRowOf words (copy file new sectors version identity strict) why =
 IsRowOf words (upgrade file version identity strict) why =
     IsNoOption file × (formats identities : List (List ℕ)) × IsGiven (codes "--format") 3 version formats × IsIdentityGiven identity identities
     × (words ≡ codes "upgrade" ∷ file ∷ formats ++ identities ++ flag_words (codes "--strict") strict ++ flag_words (codes "--why") why)
-IsRowOf words (mem sectors history) why =
-    (histories : List (List ℕ)) × IsHistoryGiven history histories × (words ≡ codes "mem" ∷ codes "--sectors" ∷ decimal sectors ∷ histories) × (why ≡ false)
+IsRowOf words (mem sectors version history) why =
+    (formats histories : List (List ℕ)) × IsGiven (codes "--format") 2 version formats × IsHistoryGiven history histories
+    × (words ≡ codes "mem" ∷ codes "--sectors" ∷ decimal sectors ∷ formats ++ histories) × (why ≡ false)
 IsRowOf words (deep file) why = IsNoOption file × (words ≡ codes "check" ∷ file ∷ codes "--deep" ∷ flag_words (codes "--why") why)
 IsRowOf words (salvage file frames) why =
     IsNoOption file × (words ≡ codes "salvage" ∷ file ∷ flag_words (codes "--frames") frames ++ flag_words (codes "--why") why)

@@ -98,7 +98,7 @@ abbrev pub upgrade_shape : Shape
 upgrade_shape = (with_rule (with_rule (with_rule (with_rule (with_rule (new_app (codes "upgrade")) file_rule) format_rule) identity_rule) strict_rule) why_rule).top
 
 abbrev pub mem_shape : Shape
-mem_shape = (with_rule (with_rule (new_app (codes "mem")) (sectors_up_to MAX_MEMORY_SECTORS)) history_rule).top
+mem_shape = (with_rule (with_rule (with_rule (new_app (codes "mem")) (sectors_up_to MAX_MEMORY_SECTORS)) format_rule) history_rule).top
 
 abbrev pub salvage_shape : Shape
 salvage_shape = (with_rule (with_rule (with_rule (new_app (codes "salvage")) file_rule) (flag_rule (codes "frames"))) why_rule).top
@@ -192,7 +192,7 @@ Holds (copy file new sectors version identity strict) options =
     × HoldsFlag (codes "strict") strict options
 Holds (upgrade file version identity strict) options =
     HoldsFile file options × MayHold (codes "format") 3 version options × HoldsIdentity identity options × HoldsFlag (codes "strict") strict options
-Holds (mem sectors history) options = HoldsNumber (codes "sectors") sectors options × HoldsHistory history options
+Holds (mem sectors version history) options = HoldsNumber (codes "sectors") sectors options × MayHold (codes "format") 2 version options × HoldsHistory history options
 Holds (deep file) options = HoldsFile file options × HoldsFlag (codes "deep") true options
 Holds (salvage file frames) options = HoldsFile file options × HoldsFlag (codes "frames") frames options
 Holds (dump file strict) options = HoldsFile file options × HoldsFlag (codes "read-only") true options × HoldsFlag (codes "strict") strict options
@@ -206,7 +206,7 @@ name_of (check file strict) = codes "check"
 name_of (repair file) = codes "repair"
 name_of (copy file new sectors version identity strict) = codes "copy"
 name_of (upgrade file version identity strict) = codes "upgrade"
-name_of (mem sectors history) = codes "mem"
+name_of (mem sectors version history) = codes "mem"
 name_of (deep file) = codes "check"
 name_of (salvage file frames) = codes "salvage"
 name_of (dump file strict) = codes "dump"
@@ -221,7 +221,7 @@ Means met asked = (options : List Row) × (met ≡ Some (name_of asked, options)
 
 -- the options of a call say whether it asks why a file isn't made or opened; that of a call without a file never does
 abbrev pub HoldsWhy : Asked → Bool → List Row → Type 0
-HoldsWhy (mem sectors history) why options = why ≡ false
+HoldsWhy (mem sectors version history) why options = why ≡ false
 HoldsWhy (format file sectors version mode sparse identity) why options = HoldsFlag (codes "why") why options
 HoldsWhy (fresh file sectors identity) why options = HoldsFlag (codes "why") why options
 HoldsWhy (serve file batch pump history strict) why options = HoldsFlag (codes "why") why options

@@ -74,10 +74,11 @@ pub enum Call<'a> {
         identity: Option<u128>,
         strict: bool,
     },
-    /// Serve lines over a store in memory, on a device of that many sectors. Of the newest transactions up to `history`
-    /// bytes are kept.
+    /// Serve lines over a store in memory, on a device of that many sectors, in that format, 2 or 3. Of the newest
+    /// transactions up to `history` bytes are kept.
     Mem {
         sectors: u64,
+        format: u64,
         history: u64,
     },
     /// Read all of the store in a file, and say what is damaged.
@@ -108,7 +109,7 @@ pub struct Order<'a> {
 /// Reads the words after the program's name.
 ///
 /// The call is what the words mean to `clap`, however they are written: `--sectors=16`, or an option before FILE. If
-/// `--format` is absent, its number is 2 for a new file and 3 for an upgrade, and a copy asks for none; the number of an absent `--batch` is 1, that of `--pump`
+/// `--format` is absent, its number is 2 for a new file or a store in memory and 3 for an upgrade, and a copy asks for none; the number of an absent `--batch` is 1, that of `--pump`
 /// 0, that of `--history` 16,777,216, the mode is 0600, and the size of a file that `new` makes is 16 MiB. Refuses, by `clap`'s own errors, what is no call, an option or a flag that is given twice,
 /// a number out of the range of its option, a mode that is no octal number up to 0777, a size that isn't digits with `K`, `M`, `G` or nothing after them, an identity that isn't 32 hexadecimal digits, a dump that isn't to be only
 /// read, and a request for help; it also fails if memory runs out. Words that are a call's row fail only if memory runs out; in a row no file begins with a
@@ -337,12 +338,17 @@ fn upgrade_in<'a>(options: &ArgMatches<'a>) -> Option<Call<'a>>
 fn mem_in<'a>(options: &ArgMatches<'a>) -> Option<Call<'a>>
     ensures in_range { IfSome result (λ call. InRange (asked_of call)) }
     ensures sound { IfSome result (λ call. IsMet (codes "mem") (rows_of (found_of options.now)) (asked_of call)) }
-    ensures meant { (sectors history : ℕ) → InRange (mem sectors history)
-        → Holds (mem sectors history) (rows_of (found_of options.now)) → option_map asked_of result ≡ Some (mem sectors history) }
+    ensures meant { (sectors version history : ℕ) → InRange (mem sectors version history)
+        → Holds (mem sectors version history) (rows_of (found_of options.now)) → option_map asked_of result ≡ Some (mem sectors version history) }
 {
     let sectors = sectors_in(options, MAX_MEMORY_SECTORS)?;
+    let format = format_number(options, MIN_FORMAT)?;
     let history = history_in(options)?;
-    Some(Call::Mem { sectors, history })
+    Some(Call::Mem {
+        sectors,
+        format,
+        history,
+    })
 }
 
 fn salvage_in<'a>(options: &ArgMatches<'a>) -> Option<Call<'a>>

@@ -381,6 +381,10 @@ fn mem_command<'a>(alloc: Global) -> Result<Command<'a>, Error>
     let mem = Command::new(alloc, "mem")
         .about("Answer command lines over a new store in memory")
         .arg(memory_sectors(alloc))?
+        .arg(format_option(
+            alloc,
+            "Format of the store, 2 or 3; 2 if absent. Format 3 takes 160 sectors at least",
+        ))?
         .arg(history_option(alloc))?;
     Ok(mem)
 }

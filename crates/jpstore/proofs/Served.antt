@@ -59,11 +59,11 @@ dumped held strict (Ok d) before after shown refused unwritten = shown
 dumped held strict (Err unopened) before after shown refused unwritten = (refused, unwritten)
 
 -- the same of what `mem` ensures
-pub in_memory : (sectors limit : ℕ) (r : Result ClosedInMemory Fault) (left left_new before after : Option (List ℕ))
-    → IfOk r (λ closed. closed.ended ≡ Ok tt → IsServedInMemory sectors limit left left_new before after closed.store) → OnErr r (left_new ≡ left) → OnErr r (after ≡ before)
-    → MatchResult r (λ closed. closed.ended ≡ Ok tt → IsServedInMemory sectors limit left left_new before after closed.store) (λ fault. (left_new ≡ left) × (after ≡ before))
-in_memory sectors limit (Ok closed) left left_new before after served unread unwritten = served
-in_memory sectors limit (Err fault) left left_new before after served unread unwritten = (unread, unwritten)
+pub in_memory : (sectors version limit : ℕ) (r : Result ClosedInMemory Fault) (left left_new before after : Option (List ℕ))
+    → IfOk r (λ closed. closed.ended ≡ Ok tt → IsServedInMemory sectors version limit left left_new before after closed.store) → OnErr r (left_new ≡ left) → OnErr r (after ≡ before)
+    → MatchResult r (λ closed. closed.ended ≡ Ok tt → IsServedInMemory sectors version limit left left_new before after closed.store) (λ fault. (left_new ≡ left) × (after ≡ before))
+in_memory sectors version limit (Ok closed) left left_new before after served unread unwritten = served
+in_memory sectors version limit (Err fault) left left_new before after served unread unwritten = (unread, unwritten)
 
 -- what follows where it is an `Err`
 pub on_err : {T E P Q : Type 0} (r : Result T E) → (P → Q) → OnErr r P → OnErr r Q

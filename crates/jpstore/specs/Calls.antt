@@ -103,8 +103,8 @@ Does held (upgrade file version identity strict) (Upgraded upgraded) left left_n
     MatchResult upgraded (λ closed. IsUpgrading held version identity closed before after × IsNoticedIn (strictness_of strict) held closed.store closed.notice)
     (λ unopened. IsRefused (strictness_of strict) held unopened before after)
     × (left_new ≡ left)
-Does held (mem sectors limit) (InMemory memory) left left_new before after =
-    MatchResult memory (λ closed. closed.ended ≡ Ok tt → IsServedInMemory sectors limit left left_new before after closed.store) (λ fault. (left_new ≡ left) × (after ≡ before))
+Does held (mem sectors version limit) (InMemory memory) left left_new before after =
+    MatchResult memory (λ closed. closed.ended ≡ Ok tt → IsServedInMemory sectors version limit left left_new before after closed.store) (λ fault. (left_new ≡ left) × (after ≡ before))
 Does held (deep file) (Examined examined) left left_new before after =
     MatchResult examined (λ e. IsExaminedIn held e before after) (λ unopened. IsUnlookedIn AnyState held unopened × (after ≡ before)) × (left_new ≡ left)
 Does held (salvage file frames) (Salvaged salvaged) left left_new before after =

@@ -1,4 +1,4 @@
-//! `mem --sectors N [--history BYTES]`
+//! `mem --sectors N [--format N] [--history BYTES]`
 
 ghost use Rattle.std.specs.Prelude.{◌≡◌, IfOk, OnErr, Ok};
 ghost use Rattle.jpstore.specs.Memory.{IsServedInMemory, new_account};
@@ -22,21 +22,22 @@ pub struct ClosedInMemory {
     pub ended: Result<(), Fault>,
 }
 
-/// Serves lines over an empty store on a disk in memory, each change by itself, and hands it out as it is at the end. Of its newest
+/// Serves lines over an empty store on a disk in memory, in format 3 or, for any other number, 2, each change by itself, and hands it out as it is at the end. Of its newest
 /// transactions at most `history` bytes are kept.
 pub fn serve_memory<I: Read, O: Write>(
     alloc: Global,
     sectors: u64,
+    format: u64,
     history: u64,
     reader: &mut I,
     writer: &mut O,
 ) -> Result<ClosedInMemory, Fault>
     ensures served { IfOk result (λ closed. closed.ended ≡ Ok tt
-        → IsServedInMemory sectors history (I.remaining reader.old) (I.remaining reader.new) (O.contents writer.old) (O.contents writer.new) closed.store) }
+        → IsServedInMemory sectors format history (I.remaining reader.old) (I.remaining reader.new) (O.contents writer.old) (O.contents writer.new) closed.store) }
     ensures unread { OnErr result (reader.new ≡ reader.old) }
     ensures unwritten { OnErr result (writer.new ≡ writer.old) }
 {
-    let store = new_store(alloc, sectors)?;
+    let store = new_store(alloc, sectors, format == 3)?;
     let mut recorded = RecordedStore::new(alloc, store, history);
     let ended = serve_store(alloc, &mut recorded, reader, writer, &options_of(1, 0));
     Ok(ClosedInMemory {
@@ -45,14 +46,14 @@ pub fn serve_memory<I: Read, O: Write>(
     })
 }
 
-// An empty store on a disk of `sectors` sectors in memory.
-fn new_store(alloc: Global, sectors: u64) -> Result<Store<MemDisk>, Fault>
-    ensures { IfOk result (λ store. store.account ≡ new_account sectors) }
+// An empty store on a disk of `sectors` sectors in memory, in format 3 if small commits ride.
+fn new_store(alloc: Global, sectors: u64, rides: bool) -> Result<Store<MemDisk>, Fault>
+    ensures { IfOk result (λ store. store.account ≡ new_account rides sectors) }
 {
     // A formatted disk carries no bytes: it holds no documents and nothing else.
     images_carry_one();
     one_state_stands();
     let mut disk = MemDisk::new(alloc, sectors)?;
-    store_journal::format(&mut disk)?;
+    store_journal::format_in(&mut disk, rides, 0)?;
     Ok(Store::open(alloc, disk)?)
 }

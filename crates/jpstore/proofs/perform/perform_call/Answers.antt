@@ -32,7 +32,7 @@ returns-in-Mem-clause-does g c =
     let asked = c.in-Mem in
     let e = c.serve_memory.ensures in
     subst (λ (call : Call). Does c.args.held (asked_of call) (InMemory c.serve_memory.result) left left_new before after) (sym asked.is)
-    (in_memory asked.sectors asked.history c.serve_memory.result left left_new before after e.served
+    (in_memory asked.sectors asked.format asked.history c.serve_memory.result left left_new before after e.served
     (on_err c.serve_memory.result (ap g.I.Read.remaining) e.unread) (on_err c.serve_memory.result (ap g.O.Write.contents) e.unwritten))
 
 pub returns-in-Copy-clause-does : goal.returns-in-Copy-clause-does

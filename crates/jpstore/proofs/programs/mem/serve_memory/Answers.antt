@@ -12,6 +12,7 @@ use Rattle.jpstore.proofs.programs.mem.serve_memory.Goals as goal
 pub returns-clause-served : goal.returns-clause-served
 returns-clause-served g c = λ is.
     let sectors = c.args.sectors in
+    let version = c.args.format in
     let limit = c.args.history in
     let first = c.new-recorded in
     let served = c.serve_store-ended in
@@ -22,7 +23,7 @@ returns-clause-served g c = λ is.
     let after = g.O.Write.contents served.new.writer in
     let none : first.result.history ≡ none_from limit 0 = first.ensures.history ∙ ap (λ a. none_from limit a.state.seq) c.in_ok-store.ensures in
     let session = subst (λ (o : Options). Serves mem_disk o first.result (lines_of s.0) before s.3.0 after s.3.1) c.options_of.ensures s.3.2 in
-    let all : IsServedInMemory sectors limit left left_new before after served.new.store.store = record {
+    let all : IsServedInMemory sectors version limit left left_new before after served.new.store.store = record {
       opened = first.result.store;
       is_new = ap (λ v. v.account) first.ensures.store ∙ c.in_ok-store.ensures;
       works = served.ensures.works is;
@@ -34,4 +35,4 @@ returns-clause-served g c = λ is.
       served = subst (λ (h : History). Serves mem_disk (options_of 1 0) (record { store = first.result.store; history = h }) (lines_of s.0) before s.3.0 after s.3.1) none session;
       sealed = s.3.3;
     } in
-    subst (IsServedInMemory sectors limit left left_new before after) (sym c.into_store.ensures) all
+    subst (IsServedInMemory sectors version limit left left_new before after) (sym c.into_store.ensures) all
