@@ -236,17 +236,17 @@ int jpstore_format(const char *path, uint64_t sectors, const jpstore_format_opti
  * Faults: as jpstore_open. */
 int jpstore_check(const char *path, jpstore_state *state, jpstore_cause *cause);
 
-/* Copies the store in the file at path into a new file of so many sectors, in format 2: the documents with their schemas and
- * revisions, and the counts of changes and openings. Nothing may exist at new_path. It counts as an opening of the file at
- * path.
+/* Copies the store in the file at path into a new file of so many sectors, in its format: the documents with their schemas and
+ * revisions, and the counts of changes and openings. In format 3 the copy gets another identity. Nothing may exist at new_path.
+ * It counts as an opening of the file at path.
  *
  * Answers: *state, the copy's.
- * Faults: as jpstore_format; a new file is removed then. JPSTORE_REFUSED with JPSTORE_REFUSAL_NO_ROOM: the documents don't fit;
- *     with JPSTORE_REFUSAL_NEWER_SCHEMA: a schema is none of format 2. */
+ * Faults: as jpstore_format; a new file is removed then. JPSTORE_REFUSED with JPSTORE_REFUSAL_NO_ROOM: the documents don't
+ *     fit. */
 int jpstore_copy(const char *path, const char *new_path, uint64_t sectors, jpstore_state *state, jpstore_cause *cause);
 
-/* The same in this format, 2 or 3; 0 is 2. No schema is refused in format 3, and the copy gets another identity. It adds the
- * fault JPSTORE_IDENTITY. */
+/* The same in this format, 2 or 3; 0 is that of the store. It adds JPSTORE_REFUSAL_NEWER_SCHEMA: a schema is none of format
+ * 2. */
 int jpstore_copy_in(const char *path, const char *new_path, uint64_t sectors, uint64_t format, jpstore_state *state,
                     jpstore_cause *cause);
 

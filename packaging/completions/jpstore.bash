@@ -4,13 +4,14 @@ _jpstore() {
     local cur prev words cword
     _init_completion || return
     if ((cword == 1)); then
-        COMPREPLY=($(compgen -W "format serve check repair salvage dump copy upgrade mem help --help --version" -- "$cur"))
+        COMPREPLY=($(compgen -W "new format serve check repair salvage dump copy upgrade mem help --help --version" -- "$cur"))
         return
     fi
     case $prev in
-    --sectors | --format | --mode | --id | --batch | --pump | --history) return ;;
+    --sectors | --size | --format | --mode | --id | --batch | --pump | --history) return ;;
     esac
     case ${words[1]}$cur in
+    new-*) COMPREPLY=($(compgen -W "--size --id --why --help" -- "$cur")) ;;
     format-*) COMPREPLY=($(compgen -W "--sectors --format --mode --id --sparse --why --help" -- "$cur")) ;;
     serve-*) COMPREPLY=($(compgen -W "--batch --pump --history --strict --why --help" -- "$cur")) ;;
     check-*) COMPREPLY=($(compgen -W "--strict --deep --why --help" -- "$cur")) ;;
@@ -19,9 +20,9 @@ _jpstore() {
     dump-*) COMPREPLY=($(compgen -W "--read-only --strict --why --help" -- "$cur")) ;;
     copy-*) COMPREPLY=($(compgen -W "--sectors --format --id --strict --why --help" -- "$cur")) ;;
     upgrade-*) COMPREPLY=($(compgen -W "--format --id --strict --why --help" -- "$cur")) ;;
-    mem-*) COMPREPLY=($(compgen -W "--sectors --history --help" -- "$cur")) ;;
-    help*) COMPREPLY=($(compgen -W "format serve check repair salvage dump copy upgrade mem" -- "$cur")) ;;
-    format* | serve* | check* | repair* | salvage* | dump* | copy* | upgrade*) _filedir ;;
+    mem-*) COMPREPLY=($(compgen -W "--sectors --format --history --help" -- "$cur")) ;;
+    help*) COMPREPLY=($(compgen -W "new format serve check repair salvage dump copy upgrade mem" -- "$cur")) ;;
+    new* | format* | serve* | check* | repair* | salvage* | dump* | copy* | upgrade*) _filedir ;;
     esac
 }
 complete -F _jpstore jpstore

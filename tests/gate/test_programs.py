@@ -114,7 +114,61 @@ def status_line(documents, opens, seq, used, half=0, sectors=16, version=2, slot
 
 
 def a_store_in_memory_shows_its_status(jpstore):
-    jpstore.shows("mem", *SIXTEEN, given=CREATE + '{"cmd":"status"}\n', output=DONE + status_line(1, 1, 1, 67))
+    lines = CREATE + '{"cmd":"status"}\n'
+    jpstore.shows("mem", *SIXTEEN, given=lines, output=DONE + status_line(1, 1, 1, 67))
+    jpstore.shows("mem", *BOTH, "--format", "2", given=lines, output=DONE + status_line(1, 1, 1, 67, sectors=300))
+
+
+def a_store_in_memory_may_be_of_format_3(jpstore):
+    words = ["mem", *BOTH, "--format=3"]
+    status = status_line(1, 1, 1, 67, sectors=300, version=3, identity="0" * 32)
+    jpstore.shows(*words, given=CREATE + '{"cmd":"status"}\n', output=DONE + status)
+    # It has marks, and a snapshot keeps them.
+    marked = with_mark(CREATE, "a") + '{"cmd":"snapshot"}\n' + MARK_OF_K
+    jpstore.shows(*words, "--history", "0", given=marked, output=DONE + '{"ok":true,"used":130}\n' + mark("a", 1))
+    jpstore.fails("mem", "--sectors", "159", "--format", "3", given=CREATE, errors="jpstore: small (71)\n")
+
+
+def made_in_format_3(sectors):
+    """The slots take 128 sectors. Of the blocks of 8 sectors in half of the others the last 1 in 1,025 are kept free."""
+    blocks = (sectors - 128) // 16
+    return f'{{"capacity":{4096 * (blocks - -(-blocks // 1025))},"ok":true,"sectors":{sectors}}}\n'
+
+
+def a_new_store_is_of_format_3_and_of_the_size_that_is_said(jpstore):
+    sizes = (
+        ([], 32768), (["--size", "16M"], 32768), (["--size=80K"], 160), (["--size", "81920"], 160), (["--size", "81921"], 161),
+        (["--size", "82432"], 161), (["--size", "+0512K"], 1024), (["--size=1M"], 2048),
+    )
+    for words, sectors in sizes:
+        jpstore.shows("new", jpstore.file, *words, output=made_in_format_3(sectors))
+        made = os.stat(jpstore.file)
+        if (made.st_size, stat.S_IMODE(made.st_mode)) != (512 * sectors, 0o600) or made.st_blocks < sectors:
+            raise Wrong(f"{words}: {made}")
+        jpstore.shows("upgrade", jpstore.file, output=upgraded(3, 3))
+        os.unlink(jpstore.file)
+    # The largest has 2^32 sectors, and there is no room for it here.
+    for size in ("2048G", "2199023255552", "2G"):
+        jpstore.fails("new", jpstore.file, "--size", size, most_bytes=4096, errors="jpstore: no-space\n")
+    jpstore.fails("new", jpstore.file, "--size", "79K", errors="jpstore: small (71)\n")
+    if os.path.exists(jpstore.file):
+        raise Wrong("a file without a store was left")
+
+
+def a_new_store_takes_no_other_file_and_has_an_identity(jpstore):
+    jpstore.shows("new", "--id", IDENTITY, jpstore.file, "--size=80K", output=made_in_format_3(160))
+    before = jpstore.contents()
+    jpstore.fails("new", jpstore.file, errors="jpstore: file\n")
+    jpstore.fails("new", jpstore.file, "--size", "1M", "--why", errors="jpstore: file\n" + reason("exists", 17, jpstore.file))
+    if jpstore.contents() != before:
+        raise Wrong("the file that was there was changed")
+    drawn = {identity_of(jpstore, jpstore.file)}
+    for name in ("new", "other"):
+        file = os.path.join(jpstore.folder, name)
+        jpstore.run("new", file, "--size=80K")
+        drawn.add(identity_of(jpstore, file))
+    if IDENTITY not in drawn or len(drawn) != 3 or any(len(identity) != 32 for identity in drawn):
+        raise Wrong(f"the identities are {drawn}")
 
 
 def a_store_in_a_file_is_made_checked_and_served(jpstore):
@@ -342,7 +396,7 @@ def copies_that_are_refused_leave_what_was_there(jpstore):
 
 
 def a_store_is_copied_into_either_format(jpstore):
-    new, third = os.path.join(jpstore.folder, "new"), os.path.join(jpstore.folder, "third")
+    new, third, fourth = (os.path.join(jpstore.folder, name) for name in ("new", "third", "fourth"))
     jpstore.run("format", jpstore.file, *SIXTEEN)
     jpstore.run("serve", jpstore.file, given=CREATE + '{"cmd":"patch","name":"d","ops":[]}\n')
     jpstore.fails("copy", jpstore.file, new, "--sectors", "159", "--format", "3", errors="jpstore: small (71)\n")
@@ -355,6 +409,10 @@ def a_store_is_copied_into_either_format(jpstore):
     # And back, from that of format 3.
     jpstore.shows("copy", new, third, *SIXTEEN, "--format=2", output=status_line(1, 6, 2, 67))
     jpstore.shows("upgrade", third, "--format", "2", output=upgraded(2, 2))
+    # Without the option it is that of the store.
+    jpstore.shows("copy", new, fourth, *BOTH, "--id", OTHER, output=status_line(1, 7, 2, 67, sectors=300, version=3, identity=OTHER))
+    jpstore.shows("upgrade", fourth, output=upgraded(3, 3))
+    jpstore.fails("copy", new, jpstore.file + "5", *SIXTEEN, errors="jpstore: small (71)\n")
 
 
 def identity_of(jpstore, file):
@@ -630,11 +688,11 @@ def stays_in_format_3(jpstore, schema, refusal):
     jpstore.shows("upgrade", jpstore.file, output=upgraded(3, 2))
     jpstore.shows("serve", jpstore.file, given=newer, output=DONE)
     jpstore.fails("upgrade", jpstore.file, "--format", "2", errors="jpstore: newer-schema (76)\n")
-    jpstore.fails("copy", jpstore.file, new, *SIXTEEN, errors="jpstore: newer-schema (76)\n")
+    jpstore.fails("copy", jpstore.file, new, *SIXTEEN, "--format", "2", errors="jpstore: newer-schema (76)\n")
     if os.path.exists(new) or jpstore.contents()[8:12] != bytes([0, 0, 0, 3]):
         raise Wrong("a store that can't be brought back, or copied, was changed")
     # In format 3 it is copied.
-    jpstore.run("copy", jpstore.file, new, *BOTH, "--format", "3")
+    jpstore.run("copy", jpstore.file, new, *BOTH)
     jpstore.shows("serve", new, given='{"cmd":"get-schema","name":"d"}\n', output=f'{{"ok":true,"value":{schema}}}\n')
     os.unlink(new)
     # Without that schema it goes back.
@@ -726,8 +784,8 @@ def a_mark_stays_in_format_3(jpstore):
     if '"switched"' not in ended.stdout:
         raise Wrong(f"no snapshot was copied: {ended.stdout}")
     jpstore.shows("serve", jpstore.file, given=MARK_OF_K, output=mark("b", 2))
-    for version, answer in (("3", mark("b", 2)), ("2", NO_MARK)):
-        jpstore.run("copy", jpstore.file, new, *BOTH, "--format", version)
+    for words, answer in (([], mark("b", 2)), (["--format", "3"], mark("b", 2)), (["--format", "2"], NO_MARK)):
+        jpstore.run("copy", jpstore.file, new, *BOTH, *words)
         jpstore.shows("serve", new, given=MARK_OF_K, output=answer)
         os.unlink(new)
     for version, answer in (("3", mark("b", 2)), ("2", NO_MARK), ("3", NO_MARK)):
@@ -941,7 +999,11 @@ def words_that_are_no_call_end_with_2(jpstore):
         "mem --sectors 16 --batch 2", "mem --sectors 16 --pump 2", "serve -f", "check", "check f g",
         "copy f --sectors 16", "copy f g", "copy f g h --sectors 16", "copy f g --sectors 2", "copy f g --sectors 16 --batch 2",
         "serve f --halt", "serve f --sparse", "upgrade", "upgrade f g", "upgrade f --format 1",
-        "upgrade f --format 4", "upgrade f --format", "upgrade f --sectors 16",
+        "upgrade f --format 4", "upgrade f --format", "upgrade f --sectors 16", "copy f g --sectors 16 --format 1", "copy f g --sectors 16 --format 4",
+        "mem --sectors 16 --format 1", "mem --sectors 160 --format 4", "mem --sectors 160 --format 3 --format 3",
+        "new", "new f g", "new f --size", "new f --size M", "new f --size 16m", "new f --size 16MB", "new f --size 1.5M", "new f --size -16M",
+        "new f --size 1024", "new f --size 2049G", "new f --size 2199023255553", "new f --size 18446744073709551616", "new f --size 18014398509481984K",
+        "new f --size 16M --size 16M", "new f --sectors 160", "new f --format 3", "new f --mode 600", "new f --sparse", "new f --id 0",
         "mem --sectors 16 --why", "check f --why --why", "check f --strict=yes", "check f --strict --strict", "repair", "repair f g", "repair f --strict",
         "salvage f --strict", "mem --sectors 16 --strict", "serve f --why=yes", "check f --mode 600", "copy f g --sectors 16 --mode 600",
         "format f --sectors 16 --mode", "format f --sectors 16 --mode 8", "format f --sectors 16 --mode 600 --mode 600",
@@ -976,7 +1038,8 @@ def options_stand_where_they_like(jpstore):
 
 def help_ends_with_0(jpstore):
     programs = (
-        "Commands:\n  format   Make a file with an empty store in it\n  serve    Answer command lines over the store in a file\n"
+        "Commands:\n  new      Make a file with an empty store of format 3 in it, which its owner alone may read and write\n"
+        "  format   Make a file with an empty store of format 2 in it, or of the format that `--format` says; `new` makes one of format 3\n  serve    Answer command lines over the store in a file\n"
         "  check    Open the store in a file as `serve` does, and show its status, which counts as an opening; or, by `--deep`, read all of it, and tell what is damaged\n"
         "  repair   Open the store in a file, by which its commit slots are written anew, and show its status and what they said; this counts as an opening\n"
         "  copy     Copy the store in a file into a new file of another size; this counts as an opening\n"
@@ -993,6 +1056,8 @@ def help_ends_with_0(jpstore):
         (["help", "serve"], "Usage: jpstore serve [OPTIONS] <FILE>\n"),
         (["serve", "-h"], "Usage: jpstore serve [OPTIONS] <FILE>\n"),
         (["format", "--help"], "<FILE>"),
+        (["new", "--help"], "Usage: jpstore new [OPTIONS] <FILE>\n"),
+        (["new", "--help"], "--size <SIZE>"),
         (["serve", "--help"], "--batch <N>"),
         (["serve", "--help"], "--pump <N>"),
         (["check", "--help"], "Usage: jpstore check [OPTIONS] <FILE>\n"),
@@ -1043,6 +1108,9 @@ def a_version_is_asked_for_alone(jpstore):
 
 TESTS = [
     a_store_in_memory_shows_its_status,
+    a_store_in_memory_may_be_of_format_3,
+    a_new_store_is_of_format_3_and_of_the_size_that_is_said,
+    a_new_store_takes_no_other_file_and_has_an_identity,
     a_store_in_a_file_is_made_checked_and_served,
     an_odd_number_of_sectors_has_the_halves_of_the_even_one_below,
     files_that_cannot_be_made_or_opened,

@@ -154,11 +154,11 @@ static void profiles(const char *file)
     char copy[4096];
     snprintf(copy, sizeof copy, "%s-copy", file);
     CHECK(jpstore_upgrade(file, 2, NULL, &cause) == JPSTORE_REFUSED && cause.refusal == JPSTORE_REFUSAL_NEWER_SCHEMA);
-    CHECK(jpstore_copy(file, copy, 128, NULL, &cause) == JPSTORE_REFUSED && cause.refusal == JPSTORE_REFUSAL_NEWER_SCHEMA);
+    CHECK(jpstore_copy_in(file, copy, 128, 2, NULL, &cause) == JPSTORE_REFUSED && cause.refusal == JPSTORE_REFUSAL_NEWER_SCHEMA);
     CHECK(access(copy, F_OK) != 0);
     jpstore_state status = {0};
-    CHECK(jpstore_copy_in(file, copy, 120, 3, NULL, &cause) == JPSTORE_REFUSED && cause.refusal == JPSTORE_REFUSAL_SMALL);
-    CHECK(jpstore_copy_in(file, copy, 4096, 3, &status, &cause) == JPSTORE_OK && cause.refusal == 0);
+    CHECK(jpstore_copy(file, copy, 120, NULL, &cause) == JPSTORE_REFUSED && cause.refusal == JPSTORE_REFUSAL_SMALL);
+    CHECK(jpstore_copy(file, copy, 4096, &status, &cause) == JPSTORE_OK && cause.refusal == 0);
     CHECK(status.sectors == 4096 && status.documents == 1 && status.capacity == 4096 * 247);
     CHECK(jpstore_copy_in(file, copy, 4096, 4, NULL, &cause) == JPSTORE_ARGUMENTS);
     remove(copy);

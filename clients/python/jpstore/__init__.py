@@ -1,8 +1,8 @@
 """A client of jpstore, the crash-safe store of named JSON documents.
 
-    from jpstore import Store, format_file
+    from jpstore import Store, new_file
 
-    format_file("inventory", 4096)
+    new_file("inventory", "16M")
     with Store("inventory") as store:
         store.create("shelf-1", {"bolts": 40})
 
@@ -27,7 +27,7 @@ from .results import Changes, Transaction
 from .version import __version__
 from .watch import Change, Watch
 from .wire.commands import create, delete, patch, set_schema, transaction
-from .wire.program import check_file, copy_file, format_file, upgrade_file
+from .wire.program import check_file, copy_file, format_file, new_file, upgrade_file
 
 if TYPE_CHECKING:
     from .adapt import Adapted, Schema
@@ -40,7 +40,7 @@ __all__ = [
     "NoMemory", "Node", "NotFound", "Outdated", "Overtaken", "Pumped", "REFUSALS", "Refusal", "Refused", "Scaled",
     "Schema", "Status", "Store", "TimedOut", "TooLarge", "Transaction", "Unsendable", "Watch", "__version__",
     "check_file", "copy_file", "create", "delete", "dump", "explain", "format_file", "grow", "grow_file", "load",
-    "patch", "set_schema", "transaction", "upgrade_file",
+    "new_file", "patch", "set_schema", "transaction", "upgrade_file",
 ]
 
 

@@ -9,7 +9,6 @@ from .results import Status
 from .wire import commands
 from .wire.conversation import Call, Conversation
 from .wire.program import Path
-from .wire.store_file import format_kept
 from .wire.stream import StreamEnded
 
 try:
@@ -84,8 +83,7 @@ def format_embedded(file: Path, sectors: int, version: int = 2, sparse: bool = F
 
 def copy_embedded(file: Path, new: Path, sectors: int, version: Optional[int] = None) -> Status:
     """As `copy_file`, by the library and not by the program."""
-    kept = format_kept(os.fspath(file)) if version is None else version
-    return Status.of(_done(_extension().copy, os.fspath(file), os.fspath(new), sectors, kept))
+    return Status.of(_done(_extension().copy, os.fspath(file), os.fspath(new), sectors, version or 0))
 
 
 def upgrade_embedded(file: Path, version: int = 3) -> int:

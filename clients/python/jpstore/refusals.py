@@ -59,7 +59,7 @@ COMPLAINTS: Dict[str, str] = {
 #: What to do about a complaint, by its word; for `file` by the cause that `--why` tells.
 ADVICE: Dict[str, str] = {
     "exists": "choose another name; the file that has it is left as it is",
-    "missing": "compare the path, whose folder must exist; `jpstore-cli format FILE` makes a store, and "
+    "missing": "compare the path, whose folder must exist; `jpstore-cli new FILE` makes a store, and "
                "`jpstore-cli hub FILE --socket PATH` serves one at a socket",
     "folder": "name a file in it",
     "denied": "a store is read and written by its owner, even to look at it, and made in a folder of theirs: run this "

@@ -26,27 +26,28 @@ pub fn check(path: impl AsRef<Path>) -> Result<Status, Error> {
     Error::check(fault, &cause).map(|()| found.into())
 }
 
-/// Copies the store in a file into a new file of so many sectors, in format 2: the documents with their schemas and
-/// revisions, and the counts of changes and openings. It counts as an opening of the first file.
+/// Copies the store in a file into a new file of so many sectors, in its format: the documents with their schemas and
+/// revisions, and the counts of changes and openings. In format 3 the copy gets another identity. It counts as an opening of
+/// the first file.
 ///
 /// # Errors
 ///
 /// Those of [`Store::open`](crate::Store::open) for the first file and of [`FormatOptions::make`] for the new one, which is
-/// removed then; [`Reason::NoRoom`](crate::Reason::NoRoom) if the documents don't fit.
+/// removed then; [`Reason::NoRoom`](crate::Reason::NoRoom) if the documents don't fit, and
+/// [`Fault::Identity`](crate::Fault::Identity) without random bytes.
 pub fn copy(
     path: impl AsRef<Path>,
     new_path: impl AsRef<Path>,
     sectors: u64,
 ) -> Result<Status, Error> {
-    copy_in(path, new_path, sectors, 2)
+    copy_in(path, new_path, sectors, 0)
 }
 
-/// The same in this format, 2 or 3. No schema is refused in format 3, and the copy gets another identity.
+/// The same in this format, 2 or 3; 0 is that of the store. Format 2 refuses what only format 3 reads.
 ///
 /// # Errors
 ///
-/// Those of [`copy`], [`Fault::Arguments`](crate::Fault::Arguments) for another format, and
-/// [`Fault::Identity`](crate::Fault::Identity) without random bytes.
+/// Those of [`copy`], and [`Fault::Arguments`](crate::Fault::Arguments) for another format.
 pub fn copy_in(
     path: impl AsRef<Path>,
     new_path: impl AsRef<Path>,

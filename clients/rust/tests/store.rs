@@ -386,7 +386,7 @@ fn a_store_in_format_3_has_an_identity() {
         .unwrap();
     assert_eq!(check(&file.0).unwrap().identity, Some(7 << 64));
     let copied = File::none("identity-copied");
-    let status = copy_in(&file.0, &copied.0, 512, 3).unwrap();
+    let status = copy(&file.0, &copied.0, 512).unwrap();
     assert!(status.identity.is_some() && status.identity != Some(7 << 64));
     upgrade(&copied.0, 2).unwrap();
     assert_eq!(check(&copied.0).unwrap().identity, None);

@@ -19,6 +19,8 @@ SIGINT. STORE may also be the socket of a running server, which is then served o
   --socket PATH        serves lines at this Unix socket
   --token-file FILE    who asks over HTTP needs the token in this file
   --origin ORIGIN      lets in the pages of this origin, such as https://example.org; may be given several times
+  --new                makes the store first if there is no such file: in format 3, for its owner alone
+  --size SIZE          with --new: its size, such as 512K, 16M or 2G (16M)
   --program PATH       the program jpstore (the one on PATH)
   --wait SECONDS       how long to wait for a file, a port or a socket that is in use, or for a hub (5)
   --pump SECTORS       copies this many sectors of a snapshot after each group of changes, while a half fills
@@ -48,6 +50,10 @@ pub struct Options {
     pub token_file: Option<PathBuf>,
     /// The origins that are let in.
     pub origins: Vec<String>,
+    /// Whether a store that isn't there is made.
+    pub new: bool,
+    /// The size of one that is made.
+    pub size: Option<String>,
     /// The program.
     pub program: Option<PathBuf>,
     /// How long to wait for a file, a port or a socket that is in use, or for a hub.
@@ -79,6 +85,8 @@ impl Options {
             socket: None,
             token_file: None,
             origins: Vec::new(),
+            new: false,
+            size: None,
             program: None,
             wait: Duration::from_secs(5),
             pump: 0,
@@ -114,6 +122,7 @@ impl Options {
         let wrong = || wrong(option, value);
         match option {
             "--listen" => self.listen = Some(value.to_owned()),
+            "--size" => self.size = Some(value.to_owned()),
             "--origin" => self.origins.push(origin_of(value).ok_or_else(|| no_origin(value))?),
             "--wait" => self.wait = seconds(value).ok_or_else(wrong)?,
             "--patience" => self.patience = seconds(value).filter(|most| *most >= LEAST_PATIENCE).ok_or_else(wrong)?,
@@ -172,6 +181,7 @@ pub fn read(words: impl IntoIterator<Item = OsString>) -> Result<Asked, Error> {
             b"--help" | b"-h" if !plain => return Ok(Asked::Show(HELP.to_owned())),
             b"--version" if !plain => return Ok(Asked::Show(format!("jpstored {}\n", env!("CARGO_PKG_VERSION")))),
             b"--no-cache" if !plain => options.cache = 0,
+            b"--new" if !plain => options.new = true,
             b"--" if !plain => plain = true,
             option if !plain && option.starts_with(b"--") => {
                 let (name, value) = parts_of(option);
@@ -187,6 +197,9 @@ pub fn read(words: impl IntoIterator<Item = OsString>) -> Result<Asked, Error> {
     }
     let store = store.filter(|store| !store.as_os_str().is_empty());
     options.store = store.ok_or_else(|| Error::new("which store? See `jpstored --help`"))?;
+    if options.size.is_some() && !options.new {
+        return Err(Error::new("--size is the size of a new store, which --new makes: see `jpstored --help`"));
+    }
     if options.listen.is_none() && options.socket.is_none() {
         options.listen = Some("127.0.0.1:8080".to_owned());
     }
@@ -228,6 +241,9 @@ mod tests {
         );
         assert_eq!(options(&["store"]).unwrap().listen.as_deref(), Some("127.0.0.1:8080"));
         assert_eq!(options(&["--", "--store"]).unwrap().store, PathBuf::from("--store"));
+        let made = options(&["--size", "1G", "store", "--new"]).unwrap();
+        assert_eq!((made.new, made.size.as_deref()), (true, Some("1G")));
+        assert!(!options(&["store"]).unwrap().new);
     }
 
     #[test]
@@ -250,6 +266,8 @@ mod tests {
             &["a", "--program="],
             &["a", "--socket", &long],
             &["a", "--origin", "evil"],
+            &["a", "--size", "16M"],
+            &["a", "--new", "--size="],
         ] {
             assert!(options(words).is_err(), "{words:?}");
         }

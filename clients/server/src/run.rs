@@ -65,6 +65,14 @@ async fn serve(options: Options, workers: Workers) -> Result<(), Error> {
         web = web(&options, &workers) => web?,
         _ = signals.changed() => return Ok(()),
     };
+    if options.new {
+        let path = program::find(options.program.as_deref())?;
+        tokio::select! {
+            made = program::make(&path, &options.store, options.size.as_deref()) => made?,
+            // A file that is half made is no store.
+            _ = signals.changed() => return Ok(()),
+        }
+    }
     let is_other = tokio::select! {
         is_other = is_other(&options) => is_other?,
         _ = signals.changed() => return Ok(()),
@@ -122,7 +130,7 @@ async fn is_other(options: &Options) -> Result<bool, Error> {
 /// The error of a path at which nothing is: a store, or the socket of a hub, may be meant.
 fn nothing_there(path: &Path, error: std::io::Error) -> Error {
     let to_do =
-        "what to do: compare the path; if it is a file, `jpstore-cli format FILE` makes a store; if it is the socket \
+        "what to do: compare the path; if it is a file, `jpstore-cli new FILE` makes a store; if it is the socket \
                  of a hub, start that, or wait longer by `--wait SECONDS`";
     Error::new(format!("{}\n  {}", Error::of_path(path, error), program::as_called(to_do)))
 }

@@ -22,7 +22,7 @@ from .adapting import ADAPT
 from .commands import COMMANDS, OTHER_NAMES, VARIANTS, show_completion
 from .completion import places
 from .display import printable, shown_error
-from .file_commands import SIZE_WORDS
+from .file_commands import NEW_STORE, SIZE_WORDS
 from .nearest import no_command
 from .opening import Row, opened
 
@@ -61,6 +61,10 @@ _A_STORE = "a file, or the socket of a hub"
 _A_FILE = "the file of a store"
 _STORES = {"format": "the new file", "check": _A_FILE, "copy": _A_FILE, "upgrade": _A_FILE, "hub": _A_FILE,
            "watch": "the socket of a hub", "follow": "the socket of a hub"}
+
+# The form of `new` that makes a store.
+_NEW_STORE = "new store"
+_STORES[_NEW_STORE] = "the new file"
 
 # A command of two words, whose FILE is no store.
 _ADAPT = "schema adapt"
@@ -142,6 +146,7 @@ def _parser() -> argparse.ArgumentParser:
         for (name, word), row in VARIANTS.items():
             _add(commands, shared, parser.prog, f"{name} {word}", row)
         _add(commands, shared, parser.prog, _ADAPT, ADAPT)
+        _add(commands, shared, parser.prog, _NEW_STORE, NEW_STORE)
     add_replica(commands, shared, parser.prog)
     completion = commands.add_parser("completion", help="prints what completes the words in bash", parents=[shared],
                                      formatter_class=raw, epilog='example:\n  eval "$(jpstore-cli completion)"')
@@ -152,9 +157,10 @@ def _parser() -> argparse.ArgumentParser:
 def _add(commands: Any, shared: argparse.ArgumentParser, prog: str, name: str, row: Row, **how_listed: Any) -> None:
     """Adds a sub-command with its words."""
     do, told, example, arguments = row
-    command = commands.add_parser(name, description=f"{name}: {told}", parents=[shared], **how_listed,
+    shown = "new" if name == _NEW_STORE else name
+    command = commands.add_parser(name, prog=f"{prog} {shown}", description=f"{shown}: {told}", parents=[shared],
                                   formatter_class=argparse.RawDescriptionHelpFormatter,
-                                  epilog=f"example:\n  {prog} {example}")
+                                  epilog=f"example:\n  {prog} {example}", **how_listed)
     metavar = "FILE" if name == _ADAPT else "STORE"
     command.add_argument("store", metavar=metavar, help=_STORES.get(name, _A_STORE))
     has_size = any(word in SIZE_WORDS for word, _ in arguments)
@@ -191,6 +197,8 @@ def _with_command(parser: argparse.ArgumentParser, words: Sequence[str]) -> List
         return [*before, *rest[1:], "--help"]
     if " ".join(rest[:2]) == _ADAPT:
         return [*before, _ADAPT, *rest[2:]]
+    if rest[0] == "new" and _makes_store(rest[1:]):
+        return [*before, _NEW_STORE, *rest[1:]]
     variant = next((f"{name} {word}" for name, word in VARIANTS if name == rest[0] and _has(rest, word)), None)
     if variant is not None:
         return [*before, variant, *rest[1:]]
@@ -198,6 +206,24 @@ def _with_command(parser: argparse.ArgumentParser, words: Sequence[str]) -> List
         return [*before, *rest]
     _check_store(parser, rest[0], rest[1:])
     return [*before, "shell", *rest]
+
+
+# The options of `new` that have a value, of which the last ones make a store.
+_OF_STORE = (*SIZE_WORDS, "--id")
+_VALUED = ("--program", "--timeout", "--wait", "--schema", *_OF_STORE)
+
+
+def _makes_store(words: Sequence[str]) -> bool:
+    """Whether the words after `new` name a store and no document."""
+    plain, left = 0, iter(words)
+    for word in left:
+        if word.split("=")[0] in _OF_STORE:
+            return True
+        if word in _VALUED:
+            next(left, None)
+        elif not word.startswith("--"):
+            plain += 1
+    return plain == 1 and not {"-h", "--help"} & set(words)
 
 
 def _first_plain(words: Sequence[str]) -> int:
@@ -221,7 +247,7 @@ def _check_store(parser: argparse.ArgumentParser, first: str, others: Sequence[s
     elif second:
         parser.error(no_command(first, _ALL_COMMANDS, "`--help`"))
     elif os.sep not in first:
-        parser.error(f"{no_command(first, _ALL_COMMANDS, '`--help`')}, and no store (`{parser.prog} format {first}` "
+        parser.error(f"{no_command(first, _ALL_COMMANDS, '`--help`')}, and no store (`{parser.prog} new {first}` "
                      "makes one)")
 
 

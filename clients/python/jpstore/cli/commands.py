@@ -225,9 +225,10 @@ COMMANDS: Dict[str, Row] = {
         _NAME, ("pointer", {"metavar": "POINTER", "help": "a JSON Pointer; /list/- is the place after a list's last"}),
         ("value", {"metavar": "VALUE", "help": "a JSON value, or `-` for standard input"}),
         ("--whole", {"action": "store_true", "help": "POINTER may be empty: it is the whole document then"})]),
-    "new": (_new, "makes a document", "new inventory shelf-1 '{\"bolts\": 40}' --schema counts.json", [
-        _NAME, ("doc", {"metavar": "DOC", "help": "a JSON value, or `-` for standard input"}),
-        ("--schema", {"metavar": "FILE", "help": "a file with the JSON Schema of the document"})]),
+    "new": (_new, "makes a document, or with STORE alone the file of a new store",
+            "new inventory shelf-1 '{\"bolts\": 40}' --schema counts.json", [
+                _NAME, ("doc", {"metavar": "DOC", "help": "a JSON value, or `-` for standard input"}),
+                ("--schema", {"metavar": "FILE", "help": "a file with the JSON Schema of the document"})]),
     "put": (_put, "makes a document, or replaces the whole of it", "put inventory shelf-1 '{\"bolts\": 40}'", [
         _NAME, ("doc", {"metavar": "DOC", "help": "a JSON value, or `-` for standard input"}),
         ("--schema", {"metavar": "FILE", "help": "a file with the JSON Schema; else it keeps its own"}), _IF_REV]),

@@ -7,13 +7,13 @@ from typing import Dict, List, Tuple
 from ..errors import JpstoreError, accessing_store
 from ..larger import grow, grow_file
 from ..sizes import sectors_of_size
-from ..wire.program import check_file, copy_file, format_file, upgrade_file
+from ..wire.program import check_file, copy_file, format_file, new_file, upgrade_file
 from ..wire.store_file import SECTOR
 from .display import members_of, shown_status
 from .opening import Row, Word, is_socket, opened, program_of
 from .printing import said
 
-__all__ = ["FILE_COMMANDS", "SIZE_WORDS"]
+__all__ = ["FILE_COMMANDS", "NEW_STORE", "SIZE_WORDS"]
 
 #: The size of a new file if none is given: half of it, 8 MiB, holds the documents.
 _SECTORS = (16 << 20) // SECTOR
@@ -30,10 +30,18 @@ def _sectors_in(file: str) -> int:
         return os.stat(file).st_size // SECTOR
 
 
+def _new(words: argparse.Namespace) -> None:
+    sectors = words.sectors or _SECTORS
+    _said_new(words, sectors, new_file(words.store, sectors * SECTOR, program_of(words), identity=words.id))
+
+
 def _format(words: argparse.Namespace) -> None:
     sectors = words.sectors or _SECTORS
-    capacity = format_file(words.store, sectors, program_of(words), words.mode, version=words.format,
-                           sparse=words.sparse, identity=words.id)
+    _said_new(words, sectors, format_file(words.store, sectors, program_of(words), words.mode, version=words.format,
+                                          sparse=words.sparse, identity=words.id))
+
+
+def _said_new(words: argparse.Namespace, sectors: int, capacity: int) -> None:
     said(words, {"capacity": capacity, "sectors": sectors},
          f"{words.store} is an empty store of {sectors * SECTOR:,} bytes, {capacity:,} of them for the "
          "documents")
@@ -95,9 +103,13 @@ _IDENTITY: Word = ("--id", {"metavar": "HEX",
 #: The words of which one is given at most.
 SIZE_WORDS: Tuple[str, ...] = ("--size", "--sectors")
 
+#: `new`, if STORE alone is named: a file that is made.
+NEW_STORE: Row = (_new, "makes a file with an empty store of format 3", "new inventory --size 16M",
+                  [*_sizes("16M"), _IDENTITY])
+
 #: Each command, as in `commands.COMMANDS`; STORE is a file.
 FILE_COMMANDS: Dict[str, Row] = {
-    "format": (_format, "makes a file with an empty store", "format inventory --size 16M", [
+    "format": (_format, "makes a file with an empty store of either format", "format inventory --size 16M --format 3", [
         *_sizes("16M"),
         ("--format", {"metavar": "V", "type": int, "choices": (2, 3), "help": "the format of the file, 2 or 3 (2)"}),
         ("--mode", {"metavar": "MODE", "type": _mode, "help": "its permission bits in octal (600)"}),

@@ -9,12 +9,11 @@ from typing import Any, Dict, List, Optional, Sequence, Union
 from ..errors import Ended, JpstoreError, JpstoreWarning, TimedOut, accessing
 from ..results import Status
 from .forks import Descriptor, in_each_child, while_none_forks
-from .store_file import format_kept
 from .stream import PIECE, Lines, StreamEnded, StreamSilent
 
 __all__ = [
     "BATCH", "Path", "Program", "SAID_BY_SLOTS", "Started", "check_file", "copy_file", "ended_program", "find_program",
-    "format_file", "path_word", "serve_words", "upgrade_file", "version_of",
+    "format_file", "new_file", "path_word", "serve_words", "upgrade_file", "version_of",
 ]
 
 _HOW_TO_GET = ("it is in the Debian package jpstore, and `./build` of a clone puts it into `crates/jpstore/out`; "
@@ -173,13 +172,25 @@ def _shown_of_opened(words: List[str]) -> Dict[str, Any]:
     return shown
 
 
+def new_file(file: Path, size: Union[int, str] = "16M", program: Optional[Path] = None, *,
+             identity: Optional[str] = None) -> int:
+    """Makes `file`, which must not exist, with an empty store of format 3; returns the capacity of a half.
+
+    `size` is in bytes, or a text such as "512K", "16M" or "2G", in powers of 1,024. Its owner alone reads and writes
+    it. The store gets `identity`, 32 hexadecimal digits that no other store has, or random ones.
+    """
+    words = [find_program(program), "new", path_word(file), *_options(size=size, id=identity)]
+    capacity: int = _shown(words)["capacity"]
+    return capacity
+
+
 def format_file(file: Path, sectors: int, program: Optional[Path] = None, mode: Optional[int] = None, *,
                 version: Optional[int] = None, sparse: bool = False, identity: Optional[str] = None) -> int:
     """Makes `file`, which must not exist, with an empty store of this size; returns the capacity of a half.
 
     Its owner alone reads and writes it, unless `mode` has other permission bits, such as 0o640. With `version` it is in
-    format 2 or 3; with `sparse` its blocks are allocated as they are written. In format 3 the store gets `identity`, 32
-    hexadecimal digits that no other store has, or random ones.
+    format 2 or 3, and without it in format 2; with `sparse` its blocks are allocated as they are written. In format 3
+    the store gets `identity`, 32 hexadecimal digits that no other store has, or random ones.
     """
     options = _options(sectors=sectors, mode=None if mode is None else f"{mode:04o}", format=version, id=identity)
     words = [find_program(program), "format", path_word(file), *options, *(["--sparse"] if sparse else [])]
@@ -201,9 +212,7 @@ def copy_file(file: Path, new: Path, sectors: int, program: Optional[Path] = Non
     After a stop `new` holds no store, or all of this; if the program fails it removes `new`. It counts as an opening of
     `file`. If the slots of `file` aren't whole, `slots` of the status says so, and a `JpstoreWarning`.
     """
-    kept = format_kept(os.fspath(file)) if version is None else version
-    # Each program makes format 2 without this word, also one that doesn't know it.
-    options = _options(sectors=sectors, format=None if kept == 2 else kept, id=identity)
+    options = _options(sectors=sectors, format=version, id=identity)
     return Status.of(_shown_of_opened([find_program(program), "copy", path_word(file), path_word(new), *options]))
 
 

@@ -5,7 +5,7 @@ from typing import BinaryIO, Iterator, NamedTuple
 from ..errors import JpstoreError, accessing_store
 from .store_slots import SLOTS, begin_of, counting
 
-__all__ = ["SECTOR", "Committed", "committed_in", "format_kept", "format_of"]
+__all__ = ["SECTOR", "Committed", "committed_in", "format_of"]
 
 #: The length of a sector.
 SECTOR = 512
@@ -56,14 +56,6 @@ def format_of(path: str) -> int:
     """The format of the store in a file."""
     with accessing_store(path), open(path, "rb") as opened:
         return committed_in(opened).version
-
-
-def format_kept(path: str) -> int:
-    """The format that a copy of the store in a file keeps: 2 also for one of format 1, and for no store."""
-    try:
-        return format_of(path)
-    except JpstoreError:
-        return 2
 
 
 def committed_in(file: BinaryIO) -> Committed:

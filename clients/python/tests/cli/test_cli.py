@@ -268,6 +268,28 @@ def test_the_files_of_stores_are_made_judged_and_copied(place):
     assert told(place, "get", "larger", "d") == "1"
 
 
+def test_a_new_store_is_made_by_its_name_alone(place):
+    # Of the blocks of 8 sectors in half of what is behind the 128 of the slots, the last 1 in 1,025 are kept free.
+    shown = told(place, "new", "store", "--size", "2M")
+    assert shown == "store is an empty store of 2,097,152 bytes, 1,011,712 of them for the documents"
+    assert (os.stat(place.file).st_size, os.stat(place.file).st_mode & 0o777) == (2 << 20, 0o600)
+    told(place, "new", "store", "d", "1")
+    assert json.loads(told(place, "upgrade", "store", "--json")) == {"format": 3, "from": 3}
+    identity = "00112233445566778899aabbccddeeff"
+    assert json.loads(told(place, "--json", "new", "other", "--sectors", "300", "--id", identity)) == {
+        "capacity": 36864, "sectors": 300}
+    assert json.loads(told(place, "check", "other", "--json"))["id"] == identity
+    assert json.loads(told(place, "new", "larger", "--json")) == {"capacity": 2038 * 4096, "sectors": 32768}
+    # It takes no file that is there, and a document needs its value.
+    assert "store: File exists" in errors(place, "new", "store", status=15)
+    assert "is no size" in errors(place, "new", "another", "--size", "2X", status=2)
+    assert "DOC" in errors(place, "new", "store", "e", status=2)
+    assert not os.path.exists(place.path("another"))
+    # A copy keeps the format, unless another is asked for.
+    assert json.loads(told(place, "copy", "store", "kept", "--json"))["id"]
+    assert "id" not in json.loads(told(place, "copy", "store", "older", "--format", "2", "--json"))
+
+
 def test_sizes_that_are_none_are_told(place):
     for text in ("2X", "0", "-1", "1.5M", "M", ""):
         shown = errors(place, "format", "store", f"--size={text}", status=2)

@@ -36,15 +36,15 @@ def test_a_file_that_cannot_be_made_or_opened(place):
     rows = [
         (["format", "store"], 15, "store: File exists", "choose another name"),
         (["get", "nowhere", "d"], 14, "nowhere: No such file or directory",
-         "`python3 -m jpstore format FILE` makes a store"),
+         "`python3 -m jpstore new FILE` makes a store"),
         (["format", "nowhere/store"], 14, "nowhere/store: No such file or directory", "whose folder must exist"),
         (["check", "folder"], 1, "folder: Is a directory", "name a file in it"),
         (["follow", "nowhere", "d"], 14, "nowhere: No such file or directory", "no hub serves here"),
         (["follow", "store", "d"], 1, "store: this is not the socket of a hub", "name the PATH that the hub"),
-        *((words, 14, "nowhere: No such file or directory", "format FILE` makes a store") for words in (
+        *((words, 14, "nowhere: No such file or directory", "new FILE` makes a store") for words in (
             ["copy", "nowhere", "new"], ["grow", "nowhere"], ["grow", "nowhere", "new"], ["upgrade", "nowhere"])),
         # These go on as the server.
-        *((words, 1, "nowhere: No such file or directory", "format FILE` makes a store") for words in (
+        *((words, 1, "nowhere: No such file or directory", "new FILE` makes a store") for words in (
             ["hub", "nowhere", "--socket", "socket"], ["http", "nowhere", "--listen", "127.0.0.1:0"])),
         (["hub", "folder", "--socket", "socket"], 1, "folder: Is a directory", "name a file in it"),
     ]
@@ -309,7 +309,7 @@ def test_advice_has_the_form_in_which_the_command_line_was_called(place):
     code = "import sys; sys.argv[0] = '/usr/bin/jpstore-cli'; import jpstore.cli; sys.exit(jpstore.cli.main())"
     ended = subprocess.run([sys.executable, "-c", code, "get", "none", "d", "--program", place.program],
                            cwd=place.folder, env=place.environment(), stderr=subprocess.PIPE, check=False)
-    assert b"`jpstore-cli format FILE` makes a store, and `jpstore-cli hub FILE --socket PATH`" in ended.stderr
+    assert b"`jpstore-cli new FILE` makes a store, and `jpstore-cli hub FILE --socket PATH`" in ended.stderr
 
 
 def heeds_interrupts():

@@ -12,7 +12,8 @@ import warnings
 import pytest
 from jpstore import (
     AccessError, Conflict, Ended, Full, Invalid, JpstoreError, Malformed, Node, NotFound, Outdated, Pumped, Refused,
-    Status, Store, TimedOut, TooLarge, Unsendable, check_file, create, delete, format_file, patch, set_schema,
+    Status, Store, TimedOut, TooLarge, Unsendable, check_file, copy_file, create, delete, format_file,
+    new_file, patch, set_schema,
 )
 from jpstore.wire.values import WHOLE
 from support import GROUPING, SILENCE, Place, raised
@@ -38,6 +39,21 @@ def test_each_call_answers(place):
         assert store.status() == Status(False, 3584, 1, 1, 1, 16, 5, used)
         assert store.texts("shelf") == (b'{"bolts":40,"nuts":11}', b"true")
     assert check_file(place.file, place.program).opens == 2
+
+
+def test_a_new_file_has_a_size_as_people_write_it(place):
+    # In format 3 a half has one block of 4,096 bytes less than fits behind the slots.
+    for size, capacity in (("80K", 4096), (81920, 4096), ("2M", 1011712)):
+        assert new_file(place.file, size, place.program) == capacity
+        assert check_file(place.file, place.program).id
+        os.unlink(place.file)
+    identity = "00112233445566778899aabbccddeeff"
+    new_file(place.file, "1M", place.program, identity=identity)
+    assert check_file(place.file, place.program).id == identity
+    assert copy_file(place.file, place.path("copy"), 2048, place.program).id not in (None, identity)
+    assert copy_file(place.file, place.path("older"), 2048, place.program, version=2).id is None
+    assert "File exists" in str(raised(Ended, new_file, place.file, "1M", place.program))
+    assert raised(Ended, new_file, place.path("other"), "16MB", place.program).status == 2
 
 
 def operation(op, path, *value):

@@ -10,6 +10,7 @@ import time
 import pytest
 from gateways import Events, Gateway, Server
 from hubs import Hub
+from jpstore import check_file
 from support import PATIENCE, until
 
 
@@ -200,6 +201,30 @@ def test_both_doors_lead_to_one_store(place):
         server.process.terminate()
         assert server.process.wait(PATIENCE) == 0
     assert not os.path.exists(place.path("socket"))
+
+
+def test_a_store_that_is_not_there_is_made_if_that_is_asked(place):
+    with Server(place, "--new", "--size=1M") as server:
+        assert server.put("/documents/d", 1).status == 201
+    # One that is there is served as it is.
+    with Server(place, "--size", "2M", "--new") as server:
+        assert server.get("/documents/d").json() == 1
+    assert os.stat(place.file).st_size == 1 << 20
+    # In format 3, since it has an identity.
+    assert check_file(place.file, place.program).id
+
+
+def test_a_store_that_cannot_be_made_is_told(place, server):
+    for store, options, told in (
+            ("folder/store", ["--new"], b"No such file or directory"),
+            ("store", ["--new", "--size", "79K"], b"small (71)"),
+            ("store", ["--new", "--size", "16MB"], b"the value of '--size'"),
+            ("store", ["--size", "16M"], b"--size is the size of a new store"),
+            ("store", [], b"No such file or directory")):
+        words = place.server_words(place.path(store), "--listen", "127.0.0.1:0", "--wait", "0", *options)
+        ended = subprocess.run(words, stdout=subprocess.PIPE, stderr=subprocess.PIPE, timeout=PATIENCE, check=False)
+        assert ended.returncode and told in ended.stderr and not ended.stdout, ended
+        assert not os.path.exists(place.file)
 
 
 def test_wrong_words_are_told(place, server):

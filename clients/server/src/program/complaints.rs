@@ -7,7 +7,7 @@ use std::io;
 /// What to do, by the cause that `--why` tells after `jpstore: file`, or by the complaint. The texts are those of the
 /// Python client; a test compares them.
 const ADVICE: &[(&str, &str)] = &[
-    ("missing", "compare the path, whose folder must exist; `jpstore-cli format FILE` makes a store, and `jpstore-cli hub FILE --socket PATH` serves one at a socket"),
+    ("missing", "compare the path, whose folder must exist; `jpstore-cli new FILE` makes a store, and `jpstore-cli hub FILE --socket PATH` serves one at a socket"),
     ("folder", "name a file in it"),
     ("denied", "a store is read and written by its owner, even to look at it, and made in a folder of theirs: run this as that user, or change the rights of the file and its folder (`chmod`, `chown`); `jpstore dump FILE --read-only` needs no right to write"),
     ("read-only", "copy the file to a file system that can be written"),

@@ -23,4 +23,4 @@ pub use handle::Handle;
 pub use job::{Job, Reply};
 pub use larger::remove_leftovers;
 pub use spool::Spool;
-pub use start::{find, start};
+pub use start::{find, make, start};

@@ -6,6 +6,7 @@ use crate::error::{system_words, Error};
 use crate::lines::replies::Status;
 use crate::lines::STATUS;
 use crate::refusals::{by_number, Refusal};
+use std::io;
 use std::os::unix::ffi::OsStrExt;
 use std::os::unix::process::ExitStatusExt;
 use std::path::{Path, PathBuf};
@@ -90,10 +91,42 @@ fn no_status(program: &Path, told: &[u8]) -> Error {
     Error::new(format!("{} answered to `status`: {}", program.display(), String::from_utf8_lossy(told).trim_end()))
 }
 
+/// Has the program make the file of a store, of that size, unless something has its name already.
+pub async fn make(program: &Path, store: &Path, size: Option<&str>) -> Result<(), Error> {
+    if store.symlink_metadata().is_ok() {
+        return Ok(());
+    }
+    let file = word_of(store);
+    let mut command = Command::new(program);
+    command.arg("new").arg(&file).args(size.map_or(vec!["--why"], |size| vec!["--size", size, "--why"]));
+    command.stdin(Stdio::null()).kill_on_drop(true);
+    set_apart(&mut command);
+    let done = command.output().await.map_err(|error| cannot_begin(program, &error))?;
+    let words = format!("{} new {}", program.display(), file.display());
+    let ended = Ended { words, status: Some(done.status), said: String::from_utf8_lossy(&done.stderr).into_owned() };
+    // Another process may have been faster.
+    if ended.is_well() || cause_in(&ended.said).map_or(false, |cause| cause.word == "exists") {
+        return Ok(());
+    }
+    Err(Error::new(ended.to_string()))
+}
+
+/// The path of a file as a word: one that begins with a hyphen isn't taken for an option.
+fn word_of(file: &Path) -> PathBuf {
+    let is_option = file.as_os_str().as_bytes().starts_with(b"-");
+    if is_option {
+        Path::new(".").join(file)
+    } else {
+        file.to_owned()
+    }
+}
+
+fn cannot_begin(program: &Path, error: &io::Error) -> Error {
+    Error::new(format!("{}: {}", program.display(), system_words(error)))
+}
+
 fn spawn(program: &Path, store: &Path, pump: u64) -> Result<Program, Error> {
-    // A path that begins with a hyphen isn't taken for an option.
-    let is_option = store.as_os_str().as_bytes().starts_with(b"-");
-    let file = if is_option { Path::new(".").join(store) } else { store.to_owned() };
+    let file = word_of(store);
     let mut command = Command::new(program);
     command.arg("serve").arg(&file).args(["--batch", GROUP, "--why"]);
     if pump > 0 {
@@ -102,8 +135,7 @@ fn spawn(program: &Path, store: &Path, pump: u64) -> Result<Program, Error> {
     command.stdin(Stdio::piped()).stdout(Stdio::piped()).stderr(Stdio::piped()).kill_on_drop(true);
     set_apart(&mut command);
     let told = format!("{} serve {} --batch {GROUP} --why", program.display(), file.display());
-    let mut child =
-        command.spawn().map_err(|error| Error::new(format!("{}: {}", program.display(), system_words(&error))))?;
+    let mut child = command.spawn().map_err(|error| cannot_begin(program, &error))?;
     let (input, output, errors) = match (child.stdin.take(), child.stdout.take(), child.stderr.take()) {
         (Some(input), Some(output), Some(errors)) => (input, output, errors),
         _ => return Err(Error::new(format!("{told} has no pipes"))),
