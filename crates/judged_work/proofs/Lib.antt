@@ -1,0 +1,4 @@
+pub mod Lengths
+pub mod Nothing
+pub mod Skipping
+pub mod Steps
