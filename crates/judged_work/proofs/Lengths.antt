@@ -1,5 +1,5 @@
 -- How many elements and members there are.
-use Rattle.std.proofs.Common.{◌≡◌, ℕ, suc, ◌+◌, List, [], ◌∷◌, length, refl, ap, ◌∙◌, String, Vec, Global}
+use Rattle.std.proofs.Common.{◌≡◌, suc, ◌+◌, List, [], ◌∷◌, length, refl, ap, ◌∙◌, String, Vec, Global}
 use Rattle.doc_tree.specs.Lists.{elements_list, names_list}
 use Rattle.doc_tree.specs.TreeView.{view, elements_view, members_view}
 use Rattle.doc_tree.specs.declared.tree.Tree.{Tree}

@@ -3,7 +3,6 @@ use Rattle.std.proofs.Common.{◌≡◌, ℕ, zero, suc, ◌+◌, List, [], ◌�
 use Rattle.std.proofs.lemmas.List.{length-replicate}
 use Rattle.doc_tree.specs.Doc.{Doc, null, boolean, int, text, list, object, Elements, no_elements, element, Members, no_members, member}
 use Rattle.schema_levels.specs.Below.{collect, collect_rules}
-use Rattle.schema_levels.specs.Bits.{bit}
 use Rattle.schema_levels.specs.Closure.{close, mark_rules, rules_at}
 use Rattle.schema_levels.specs.PlaceInValue.{PlaceInValue, name, index, member_name}
 use Rattle.schema_levels.specs.declared.node.Node.{Node}

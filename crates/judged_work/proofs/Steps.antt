@@ -1,6 +1,6 @@
 -- What the next rule, element or member adds.
-use Rattle.std.proofs.Common.{◌≡◌, ℕ, zero, suc, ◌+◌, ◌<◌, ◌≤◌, List, [], ◌∷◌, length, drop, drop-cons, get_or, refl, sym, ap, ap₂, ◌∙◌, arith, String, Global, string_bytes}
-use Rattle.doc_tree.specs.Doc.{Doc, text, Elements, element}
+use Rattle.std.proofs.Common.{◌≡◌, ℕ, suc, ◌+◌, ◌<◌, ◌≤◌, List, ◌∷◌, length, drop, drop-cons, get_or, sym, ap, ◌∙◌, arith, String, Global, string_bytes}
+use Rattle.doc_tree.specs.Doc.{Doc, text}
 use Rattle.doc_tree.specs.TreeView.{view, elements_view, members_view}
 use Rattle.doc_tree.specs.declared.tree.Tree.{Tree}
 use Rattle.schema_levels.specs.PlaceInValue.{name, index, member_name}

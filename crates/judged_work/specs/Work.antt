@@ -1,5 +1,5 @@
 -- The work of judging a value by numbered nodes: of each value in it, and of each name of a member, the nodes that are asked of it, each once, by their weights. What is asked doesn't depend on the answers.
-use Rattle.std.specs.Prelude.{ℕ, zero, suc, ◌+◌, ◌*◌, ◌/◌, List, [], ◌∷◌, length, replicate, true, Option, Some, None, if◌then◌else◌, nat_lt}
+use Rattle.std.specs.Prelude.{ℕ, suc, ◌+◌, ◌/◌, List, [], ◌∷◌, length, replicate, true, Option, Some, None, if◌then◌else◌, nat_lt}
 use Rattle.doc_tree.specs.Doc.{Doc, text, list, object, Elements, no_elements, element, Members, no_members, member}
 use Rattle.doc_tree.specs.TreeView.{view}
 use Rattle.schema_rules.specs.declared.assertion.Assertion.{Assertion}
@@ -42,7 +42,7 @@ rules_weight (r ∷ rs) t = rule_weight r t + rules_weight rs t
 
 -- a node is found in sets of that many words, once for each child, and its rules are gone through
 abbrev pub node_weight : ℕ → Node → Doc → ℕ
-node_weight words x t = words / 64 + own_size t + rules_weight x.rules.items t
+node_weight words x t = words / 16 + own_size t + rules_weight x.rules.items t
 
 -- of those nodes that are in the set; the first one of these has the number i
 abbrev pub weight_from : List ℕ → ℕ → List Node → Doc → ℕ

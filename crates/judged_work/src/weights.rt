@@ -63,7 +63,7 @@ fn weigh_node(
     ensures rest { IfOk result (λ rest. rest + node_weight words node.now (seen instance.entry) ≡ before) }
     ensures more { IfErr result (λ e. e ≡ Limit → before < node_weight words node.now (seen instance.entry)) }
 {
-    let searched = spend(words / 64, before)?;
+    let searched = spend(words / 16, before)?;
     let left = spend(size, searched)?;
     weigh_rules(&node.rules, instance, size, left)
 }

@@ -1,7 +1,7 @@
-use Rattle.std.proofs.Common.{◌≡◌, ◌≤◌, ◌<◌, ◌+◌, ◌∙◌, List, ℕ, refl, ap, subst, arith, length, replicate, drop}
+use Rattle.std.proofs.Common.{◌≡◌, ◌<◌, ◌+◌, ◌∙◌, List, ℕ, refl, ap, subst, arith, length, replicate}
 use Rattle.std.proofs.lemmas.List.{length-replicate}
 use Rattle.std.specs.Prelude.{IfOk, IfErr}
-use Rattle.doc_tree.specs.TreeView.{view, elements_view, members_view}
+use Rattle.doc_tree.specs.TreeView.{view}
 use Rattle.schema_levels.specs.Below.{seen}
 use Rattle.schema_levels.proofs.Searching.{still}
 use Rattle.judged_work.specs.Work.{work}
