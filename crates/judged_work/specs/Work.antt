@@ -30,7 +30,7 @@ beyond (Stated DependentRequired v) t = whole_size (view v)
 beyond (Stated keyword v) t = 0
 beyond (Among choices) t = whole_size t
 
--- each rule looks at the value by itself: it asks of each child, searches a text for its pattern, or finds required members; a pattern for names is searched for in each name too
+-- each rule is gone through once for the value and once for each child, or looks at all of a text; no more members are found for `required` than there are; a pattern for names is searched for in each name too
 abbrev pub rule_weight : Rule → Doc → ℕ
 rule_weight (Asserts a) t = own_size t + beyond a t
 rule_weight (Matching pattern j) t = own_size t + size_of_names t
@@ -40,7 +40,7 @@ abbrev pub rules_weight : List Rule → Doc → ℕ
 rules_weight [] t = 0
 rules_weight (r ∷ rs) t = rule_weight r t + rules_weight rs t
 
--- a node is found in sets of that many words, once for each child, and its rules are gone through
+-- a node is found in sets of that many words, which are cleared and searched for the value, and its rules are gone through; the nodes that rules ask of the value itself have weights of their own
 abbrev pub node_weight : ℕ → Node → Doc → ℕ
 node_weight words x t = words / 16 + own_size t + rules_weight x.rules.items t
 

@@ -1,8 +1,8 @@
-//! How much work the judgement of a document is, counted before it is judged, up to a limit.
+//! The work of judging a document, counted before it is judged, up to a limit.
 //!
 //! Which nodes are asked of which values doesn't depend on the answers, so a walk of its own finds them, by the same
-//! `close` and `collect` as the judgement. What each of them weighs is written down in `specs/Work.antt`: the time of a
-//! judgement is at most some 200 nanoseconds for each unit, and the walk stops where the limit is passed.
+//! `close` and `collect` as the judgement. `specs/Work.antt` has what each of them weighs, in units that bound the time of
+//! a judgement. The walk stops as soon as the limit is passed, and takes memory for a set or two of nodes at each level.
 #![tactic(auto)]
 
 mod sizes;

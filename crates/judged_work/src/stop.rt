@@ -1,4 +1,4 @@
-//! What is left of the limit, and what stops the walk.
+//! The limit: spending from it, and the walk's stop at its end.
 ghost use Rattle.std.specs.Prelude.{◌≡◌, ◌+◌, ◌<◌, IfOk, IfErr};
 ghost use Rattle.judged_work.specs.declared.stop.Stop.TheVariants.{Limit};
 

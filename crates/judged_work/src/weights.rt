@@ -1,4 +1,4 @@
-//! What nodes weigh on an instance.
+//! The weights of nodes on an instance.
 ghost use Rattle.std.specs.Prelude.{◌≡◌, ◌+◌, ◌/◌, ◌<◌, ◌^◌, IfOk, IfErr, if◌then◌else◌, length};
 ghost use Rattle.schema_rules.specs.Instances.{seen};
 ghost use Rattle.schema_levels.specs.Bits.{bit};
