@@ -1,4 +1,4 @@
--- One way over the nodes upward: each that is in a set does something.
+-- For the clauses within the crate: one way over the nodes upward: each that is in a set does something.
 use Rattle.std.specs.Prelude.{ℕ, suc, List, [], ◌∷◌, Bool, ◌&&◌, if◌then◌else◌}
 use Rattle.schema_levels.specs.Bits.{bit, put}
 use Rattle.schema_levels.specs.declared.node.Node.{Node}
