@@ -25,7 +25,7 @@ use options::Asked;
 fn main() {
     let status = match options::read(std::env::args_os().skip(1)) {
         Ok(Asked::Show(text)) => say::show(&text).map_or_else(|error| said(&error, 1), |()| 0),
-        Ok(Asked::Serve(options)) => run::run(options).map_or_else(|error| said(&error, 1), |()| 0),
+        Ok(Asked::Serve(options)) => run::run(*options).map_or_else(|error| said(&error, 1), |()| 0),
         Err(error) => said(&error, 2),
     };
     std::process::exit(status);

@@ -72,7 +72,7 @@ pub struct Options {
 #[derive(Debug)]
 pub enum Asked {
     /// To serve.
-    Serve(Options),
+    Serve(Box<Options>),
     /// To show a text and end.
     Show(String),
 }
@@ -203,7 +203,7 @@ pub fn read(words: impl IntoIterator<Item = OsString>) -> Result<Asked, Error> {
     if options.listen.is_none() && options.socket.is_none() {
         options.listen = Some("127.0.0.1:8080".to_owned());
     }
-    Ok(Asked::Serve(options))
+    Ok(Asked::Serve(Box::new(options)))
 }
 
 #[cfg(test)]
@@ -214,7 +214,7 @@ mod tests {
 
     fn options(words: &[&str]) -> Result<Options, String> {
         match read(words.iter().map(|word| word.into())) {
-            Ok(Asked::Serve(options)) => Ok(options),
+            Ok(Asked::Serve(options)) => Ok(*options),
             Ok(Asked::Show(text)) => Err(text),
             Err(error) => Err(error.to_string()),
         }
