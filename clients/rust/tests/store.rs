@@ -226,11 +226,11 @@ fn schemas_of_format_3() {
         Reason::NewerSchema.number()
     );
     assert_eq!(
-        refusal(copy(&file.0, &new.0, 64).unwrap_err()),
+        refusal(copy_in(&file.0, &new.0, 64, 2).unwrap_err()),
         Reason::NewerSchema.number()
     );
     assert!(!new.0.exists());
-    assert_eq!(copy_in(&file.0, &new.0, 512, 3).unwrap().documents, 1);
+    assert_eq!(copy(&file.0, &new.0, 512).unwrap().documents, 1);
     assert_eq!(upgrade(&new.0, 3), Ok(3));
 }
 

@@ -193,7 +193,7 @@ def test_a_device_that_fails_ends_the_hub(place):
         assert (ended.status, ended.name, ended.number) == (1, "device", 61)
     with Hub(place, failing) as hub, hub.connect() as store:
         assert raised(Broken, store.create, "d", 1).number == 61
-        assert "store: device (61)" in hub.ends(1)
+        assert "device (61): " in hub.ends(1)
         raised(Ended, store.names)
 
 

@@ -289,4 +289,4 @@ def test_a_file_of_changes_of_earlier_versions_is_left_as_it_is(place):
 def test_the_reason_is_told_if_the_store_is_no_store(place):
     place.text("store", "no store")
     said = place.run("hub", "store", "--socket", "socket", status=1).stderr.decode()
-    assert "jpstore: no-store" in said or "jpstore: " in said
+    assert "store: not-a-store (72): " in said
