@@ -27,7 +27,7 @@ def without_space_for_many(folder, program):
 
 def filled(nodes):
     """Clients change a document each until all are refused; returns how often that was, when there is space again."""
-    told = [[] for _ in range(WRITERS)]
+    told = [[(standing(nodes, number), "made")] for number in range(WRITERS)]
     threads = [threading.Thread(target=write, args=(nodes, number, each)) for number, each in enumerate(told)]
     for thread in threads:
         thread.start()
@@ -35,19 +35,25 @@ def filled(nodes):
         thread.join()
     states(nodes)
     for number, each in enumerate(told):
-        found, = nodes.ask(NODES[number % 3], get(f"x{number}"), local=False)
         # What was answered last, or what is not known since; what was refused is there in no case.
-        at = max((index for index, (_, reply) in enumerate(each) if reply == "made"), default=0)
+        at = max(index for index, (_, reply) in enumerate(each) if reply == "made")
         may_be = [value for value, reply in each[at:] if reply != "refused"]
-        assert not may_be or found["value"][0] in may_be, (found["value"][0], each[-9:])
+        found = standing(nodes, number)
+        assert found in may_be, (found, each[-9:])
     wait_for_space(nodes)
     return sum(reply == "refused" for each in told for _, reply in each)
+
+
+def standing(nodes, number):
+    """What was written to a document last, or what it was created with."""
+    found, = nodes.ask(NODES[number % 3], get(f"x{number}"), local=False)
+    return found["value"][0] if isinstance(found["value"], list) else found["value"]
 
 
 def write(nodes, number, told):
     """Changes a document until that is refused; tells each value, and whether it is made, refused or unknown."""
     end = time.monotonic() + PATIENCE
-    while not told or told[-1][1] != "refused":
+    while told[-1][1] != "refused":
         assert time.monotonic() < end, "etcd has space for all"
         value = time.monotonic_ns()
         try:
