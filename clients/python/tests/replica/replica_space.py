@@ -70,7 +70,8 @@ def wait_for_space(nodes):
     end = time.monotonic() + PATIENCE
     for node in NODES:
         while not accepted(nodes, node):
-            assert time.monotonic() < end, "changes are still refused"
+            ended = {name: process.poll() for name, process in nodes.processes.items()}
+            assert time.monotonic() < end, f"changes are still refused at node {node}; nodes that ended: {ended}"
             nodes.run("trim")
             asyncio.run(made_room(nodes.members))
             time.sleep(0.5)
